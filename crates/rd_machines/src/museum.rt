@@ -1,6 +1,6 @@
 //! A machine with one store, which stays between runs.
 
-ghost use Rattle.std.specs.Prelude.{◌≡◌, IfOk, IfSome, None, Option, Some, true, ℤ};
+ghost use Rattle.std.specs.Prelude.{◌≡◌, IfOk, IfSome, None, Ok, Option, Some, true, ℤ};
 
 use rd_http::{MemoryDoor, TimeLimits};
 use rd_program::{Files, Machine, MachineFault, Place};
@@ -15,7 +15,7 @@ pub const NEW_STORE: &str = "new.sqlite";
 
 /// What a museum gives beside its store and its door.
 pub trait Supply {
-    /// The moment that its clock shows next, if it shows it.
+    /// The moment that its clock shows next, if it shows it; then the clock does not fail.
     ghost clock: { Self → Option ℤ };
 
     /// The bytes of the file of an image.
@@ -39,8 +39,11 @@ pub trait Supply {
     }
 
     /// The moment, in seconds since 1970-01-01T00:00:00 UTC.
+    ///
+    /// It fails when the clock fails, which then shows no moment.
     fn now(&mut self) -> Result<i64, MachineFault>
-        ensures { IfOk result (λ seconds. IfSome (clock self.old) (λ moment. seconds ≡ moment)) };
+        ensures shown { IfOk result (λ seconds. IfSome (clock self.old) (λ moment. seconds ≡ moment)) }
+        ensures sure { IfSome (clock self.old) (λ moment. result ≡ Ok moment) };
 }
 
 /// A machine with one store, with a door, and with what is supplied. The store is in memory unless a type says

@@ -16,3 +16,4 @@ pub mod Named
 pub mod StaffKeyLemmas
 pub mod CopyLemmas
 pub mod OnTimeLemmas
+pub mod BehindLemmas

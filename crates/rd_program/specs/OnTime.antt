@@ -4,18 +4,21 @@ use Rattle.std.specs.Prelude.{◌≡◌, ◌⊎◌, ⊤, ℕ, ℤ, ◌+ℤ◌, p
 use Rattle.sqlite.specs.Held.{Held, state}
 use Rattle.sqlite.specs.Store.{Ghosts}
 use Rattle.rd_holdings.specs.State.{Desk}
+use Rattle.rd_policy.specs.Days.{HasDay}
 use Rattle.rd_policy.specs.Zones.{IsZoneOf, day_number}
 use Rattle.rd_policy.specs.declared.zone.Zone.{Zone}
-use Rattle.rd_store.specs.Held.{IsOpen}
+use Rattle.rd_store.specs.Held.{IsOpen, desk}
 use Rattle.rd_store.specs.Latest.{HasCheckAfter, HasNoCheckAfter}
 use Rattle.rd_store.specs.Migrated.{SpellsDesk}
-use Rattle.rd_commands.specs.Commands.{AsksCheck, AsksExport, AsksImport}
+use Rattle.rd_commands.specs.Commands.{AsksCheck, AsksExport, AsksImport, Trusts}
 use Rattle.rd_commands.specs.declared.done.Done.{Done}
 use Rattle.rd_commands.specs.declared.refusal.Refusal.{Refusal}
+use Rattle.rd_commands.specs.declared.refusal.Refusal.TheVariants.{Clock}
 use Rattle.rd_commands.specs.declared.words.Ask.{Ask}
 use Rattle.rd_commands.specs.declared.words.Ask.TheVariants.{Import, OneQuestion}
 use Rattle.rd_commands.specs.declared.words.Question.{Question}
 use Rattle.rd_commands.specs.declared.words.Question.TheVariants as question
+use Rattle.rd_program.specs.Leaves.{moment_of}
 use Rattle.rd_program.specs.Showing.{EndsWith}
 
 -- the desk has recorded no check of a later day than the one after this day: clocks of two places may show days that
@@ -47,6 +50,21 @@ WasOnTime g clock zone stood left = IfSome clock (λ seconds. EndsWith stood lef
 abbrev pub WasOnTimeBy : {S : Type 0} → Ghosts S → Option ℤ → List ℕ → Option (Held S) → Option (Held S) → Type 0
 WasOnTimeBy g clock rule stood left = (zone : Zone) × IsZoneOf rule zone × WasOnTime g clock zone stood left
 
+-- While the connection is open, the desk that the tables spelled had recorded a check that makes the clock wrong.
+abbrev pub StoodBehind : {S : Type 0} → Ghosts S → ℤ → Held S → Held S → Type 0
+StoodBehind g day before last = IsOpen g last → (found : Desk) × SpellsDesk (state g before).now found × IsBehind day found
+
+-- the same on the day of a moment by the clocks of the rule
+abbrev pub WasBehindBy : {S : Type 0} → Ghosts S → ℤ → List ℕ → Option (Held S) → Option (Held S) → Type 0
+WasBehindBy g seconds rule stood left = (zone : Zone) × IsZoneOf rule zone × EndsWith stood left (StoodBehind g (day_number seconds zone))
+
+-- At a moment that is known and has a day, `clock` comes only if the words have the command go by the clock and do not
+-- trust it, and the desk that stood was behind.
+abbrev pub IsBehindDue : {S : Type 0} → Ghosts S → List (List ℕ) → List ℕ → List ℕ → Option ℤ → Option (Held S) → Option (Held S) → Refusal → Type 0
+IsBehindDue g words store rule moment stood left Clock =
+    IfSome moment (λ seconds. HasDay seconds → GoesByClock words store rule × ¬ Trusts words true × WasBehindBy g seconds rule stood left)
+IsBehindDue g words store rule moment stood left refusal = ⊤
+
 -- ---- inside
 
 -- the answer to a question depends on the day
@@ -67,3 +85,24 @@ IsOnTimeBy g clock stands left (Import ask) result =
 IsOnTimeBy g clock stands left (OneQuestion ask) result =
     is_dated ask.question ≡ true → IsTrue (must_be_on_time ask.when.seconds ask.when.is_trusting) → OnOk result (WasOnTime g clock ask.when.zone (stands ask.store.now) left)
 IsOnTimeBy g clock stands left ask result = ⊤
+
+-- Over an open desk `clock` comes at a moment that is known and has a day only if what is asked depends on the day, the
+-- day has to be on time, and the desk is behind.
+abbrev pub IsBehindOn : {S : Type 0} → Ghosts S → Bool → Bool → Option ℤ → Zone → Held S → Held S → Refusal → Type 0
+IsBehindOn g dated must moment zone opened last Clock =
+    IfSome moment (λ seconds. HasDay seconds → (dated ≡ true) × IsTrue must × (IsOpen g last → IsBehind (day_number seconds zone) (desk g opened)))
+IsBehindOn g dated must moment zone opened last refusal = ⊤
+
+-- the same of the desk that stood
+abbrev pub IsBehindIn : {S : Type 0} → Ghosts S → Bool → Bool → Option ℤ → Zone → Option (Held S) → Option (Held S) → Refusal → Type 0
+IsBehindIn g dated must moment zone stood left Clock =
+    IfSome moment (λ seconds. HasDay seconds → (dated ≡ true) × IsTrue must × EndsWith stood left (StoodBehind g (day_number seconds zone)))
+IsBehindIn g dated must moment zone stood left refusal = ⊤
+
+-- by what is asked for
+abbrev pub IsBehindBy : {S : Type 0} → Ghosts S → Option ℤ → (List ℕ → Option (Held S)) → Option (Held S) → Ask → Refusal → Type 0
+IsBehindBy g clock stands left (Import ask) refusal =
+    IsBehindIn g true (must_be_on_time ask.when.seconds ask.when.is_trusting) (moment_of ask.when.seconds clock) ask.when.zone (stands ask.store.now) left refusal
+IsBehindBy g clock stands left (OneQuestion ask) refusal =
+    IsBehindIn g (is_dated ask.question) (must_be_on_time ask.when.seconds ask.when.is_trusting) (moment_of ask.when.seconds clock) ask.when.zone (stands ask.store.now) left refusal
+IsBehindBy g clock stands left ask refusal = ⊤

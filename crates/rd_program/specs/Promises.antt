@@ -37,7 +37,7 @@ use Rattle.rd_program.specs.Doors.{AsksNoOther}
 use Rattle.rd_program.specs.Importing.{GainsLines, IsDoneLine, IsRowLine, RefusesImport}
 use Rattle.rd_program.specs.Inits.{LeavesInit, MakesDesk, RefusesInit, done_line}
 use Rattle.rd_program.specs.Leaves.{Checks, GivesBack, HasBoth, IsSame, Leaves, LeavesServe, LeavesStore, NamesOpening, TakesIn, moment_of}
-use Rattle.rd_program.specs.OnTime.{GoesByClock, WasOnTimeBy}
+use Rattle.rd_program.specs.OnTime.{GoesByClock, IsBehindDue, WasOnTimeBy}
 use Rattle.rd_program.specs.Rows.{IsBadSheetDue, TakesSheetIn}
 use Rattle.rd_program.specs.Serving.{GivesLimits, IsUnaskedRefusal, RefusesServe, WritesOnceLent, serve_text}
 use Rattle.rd_program.specs.Showing.{EndsWith, FindsStore, IsDueIn, RefusesShow, ShowsStore, request_of}
@@ -104,7 +104,8 @@ pub record KeepsMachine {S M : Type 0} (words : List (List ℕ)) (result : ℕ) 
 -- one back; it is asked for no connection but one to that store; and an `import`, an `export`, a `check` and a `show` at
 -- a moment without a day ask the desk nothing: their refusal is that of the opening or of the moment. At 0 an `import`,
 -- an `export` or a `check` that goes by the clock of the machine, and does not trust it, has found no check recorded of a
--- later day than the one after that of the clock.
+-- later day than the one after that of the clock. At 3 each of the four, at a moment that is known and has a day, names
+-- `clock` only if it is one of these and has found such a check.
 pub record UsesOneStore {S : Type 0} (g : Ghosts S) (words : List (List ℕ)) (result : ℕ) (shows : Bool) (clock : Option ℤ) (paths later : Option (List (List ℕ)))
     (stands : List ℕ → Option (Held S)) (left : Option (Held S)) (errors told : Option (List ℕ)) : Type 0 where
   pub there : result ≤ 1 → (store : List ℕ) → NamesStore words store → HasBoth shows (stands store) left
@@ -113,6 +114,8 @@ pub record UsesOneStore {S : Type 0} (g : Ghosts S) (words : List (List ℕ)) (r
       → IfSome (moment_of moment clock) (λ seconds. ¬ HasDay seconds → Tells IsUnaskedRefusal result errors told)
   pub on_time : result ≡ 0 → (store : List ℕ) (rule : List ℕ) → GoesByClock words store rule → Trusts words false
       → WasOnTimeBy g clock rule (stands store) left
+  pub late : result ≡ 3 → (store : List ℕ) (moment : Option ℤ) (rule : List ℕ) → AsksAt words store moment rule
+      → Tells (IsBehindDue g words store rule (moment_of moment clock) (stands store) left) result errors told
 
 -- Help, if the first word asks for it: at 0 exactly the help of the program is written, and otherwise the errors say why
 -- not. The version, if the first word asks for it: at 0 exactly its line is written, and otherwise the errors say why not.

@@ -16,7 +16,7 @@ ghost use Rattle.rd_commands.specs.Listed.{Lists, RefusesList};
 ghost use Rattle.rd_commands.specs.Refusals.{status_of};
 ghost use Rattle.rd_program.specs.Rows.{ImportsBy, RefusesSheetBy};
 ghost use Rattle.rd_program.specs.Asked.{AsksBy, IsClockDueBy, IsUnaskedBy, SumsBy};
-ghost use Rattle.rd_program.specs.OnTime.{IsOnTimeBy};
+ghost use Rattle.rd_program.specs.OnTime.{IsBehindBy, IsOnTimeBy};
 ghost use Rattle.rd_program.specs.Serving.{LimitsVisitors, RefusesServe, WritesOnceLentBy, serve_text};
 ghost use Rattle.rd_commands.specs.Serving.{GivesTimeouts, Place};
 ghost use Rattle.rd_program.specs.Doors.{AsksNoOtherSums};
@@ -111,6 +111,7 @@ fn perform<R: Read, W: Write, M: Machine>(
     ensures copies { CopiesBy M.Disk.Store (M.shows machine.old) (M.stands machine.old) (M.left machine.new) (M.made machine.old) (M.fresh machine.old)
         (M.made machine.new) (M.new_stores machine.old) (M.new_stores machine.new) (W.contents output.old) (W.contents output.new) ask.entry result }
     ensures clock { IfErr result (IsClockDueBy M.Disk.Store (M.stands machine.old) (M.left machine.new) ask.entry) }
+    ensures late { IfErr result (IsBehindBy M.Disk.Store (M.clock machine.old) (M.stands machine.old) (M.left machine.new) ask.entry) }
     ensures bad_sheet { IfErr result (RefusesSheetBy (M.sheet_bytes machine.old) ask.entry) }
     ensures leaves { LeavesBy M.Disk.Store (M.clock machine.old) (M.left machine.old) (M.stands machine.old) (M.left machine.new) ask.entry }
     ensures leaves_refused { IfErr result (LeavesRefused M.Disk.Store (M.left machine.old) (M.stands machine.old) (M.left machine.new)

@@ -15,7 +15,7 @@ ghost use Rattle.rd_commands.specs.Asks.{IsAskable, IsCheck, IsCheckOf};
 ghost use Rattle.rd_program.specs.Importing.{accession_line};
 ghost use Rattle.rd_protocol.specs.declared.request.What.{What};
 ghost use Rattle.rd_program.specs.Leaves.{Checks, GivesBack, HasBoth, IsDayAt, IsOfOpenDesk, Leaves, LeavesDesk, LeavesStore, NamesOpening, OnEnded, StepsOf, moment_of};
-ghost use Rattle.rd_program.specs.OnTime.{IsOnTime, WasOnTime, is_dated, must_be_on_time};
+ghost use Rattle.rd_program.specs.OnTime.{IsBehindIn, IsBehindOn, IsOnTime, WasOnTime, is_dated, must_be_on_time};
 ghost use Rattle.rd_program.specs.Serving.{IsClockRefusal, IsDayless, IsUnasked};
 ghost use Rattle.rd_program.specs.Showing.{AnswersOneQuestion, Finds, IsDueOn, OfDesk, RefusesShow, Shows, asked_of, found_by, request_of, what_to_show};
 
@@ -100,6 +100,8 @@ fn question_day<S: Alter, M: Machine>(
     ensures in_range { IfOk result IsDay }
     ensures dayless { IsDayless (moment_of ask.now.when.seconds (M.clock machine.old)) result }
     ensures clock { IfErr result (IsClockOn S.Store (is_dated ask.now.question) ask.now.when.seconds desk.old.store desk.new.store) }
+    ensures late { IfErr result (IsBehindOn S.Store (is_dated ask.now.question) (must_be_on_time ask.now.when.seconds ask.now.when.is_trusting)
+        (moment_of ask.now.when.seconds (M.clock machine.old)) desk.old.zone desk.old.store desk.new.store) }
     ensures untouched { must_be_on_time ask.now.when.seconds ask.now.when.is_trusting ≡ false → desk.new.store ≡ desk.old.store }
     ensures undated { is_dated ask.now.question ≡ false → desk.new.store ≡ desk.old.store }
     ensures refused { IfErr result (λ refusal. IsClockRefusal refusal ⊎ (refusal ≡ Refusal.Store)) }
@@ -128,6 +130,8 @@ fn tell_asked<S: Alter + Drop, W: Write, M: Machine>(
     ensures refused { IfErr result (RefusesOneQuestion (W.contents output.old) (W.contents output.new)) }
     ensures dayless { IsDayless (moment_of ask.now.when.seconds (M.clock machine.old)) result }
     ensures clock { IfErr result (IsClockOn S.Store (is_dated ask.now.question) ask.now.when.seconds desk.old.store desk.new.store) }
+    ensures late { IfErr result (IsBehindOn S.Store (is_dated ask.now.question) (must_be_on_time ask.now.when.seconds ask.now.when.is_trusting)
+        (moment_of ask.now.when.seconds (M.clock machine.old)) desk.old.zone desk.old.store desk.new.store) }
     ensures on_time { is_dated ask.now.question ≡ true → IsTrue (must_be_on_time ask.now.when.seconds ask.now.when.is_trusting)
         → OnOk result (IfSome (M.clock machine.old) (λ seconds. IsOpen S.Store desk.new.store
         → IsOnTime (day_number seconds desk.old.zone) (desk_in S.Store desk.old.store))) }
@@ -183,6 +187,8 @@ pub(crate) fn ask_once<W: Write, M: Machine>(
     ensures there { OnEnded result (HasBoth (M.shows machine.old) (M.stands machine.old ask.entry.store.now) (M.left machine.new)) }
     ensures asked { AsksPath (M.paths machine.old) ask.entry.store.now (M.paths machine.new) }
     ensures clock { IfErr result (IsClockDue M.Disk.Store (is_dated ask.entry.question) ask.entry.when.seconds (M.stands machine.old ask.entry.store.now) (M.left machine.new)) }
+    ensures late { IfErr result (IsBehindIn M.Disk.Store (is_dated ask.entry.question) (must_be_on_time ask.entry.when.seconds ask.entry.when.is_trusting)
+        (moment_of ask.entry.when.seconds (M.clock machine.old)) ask.entry.when.zone (M.stands machine.old ask.entry.store.now) (M.left machine.new)) }
     ensures opens { IfErr result (NamesOpening M.Disk.Store (M.stands machine.old ask.entry.store.now) (M.left machine.new)) }
     ensures on_time { is_dated ask.entry.question ≡ true → IsTrue (must_be_on_time ask.entry.when.seconds ask.entry.when.is_trusting)
         → OnOk result (WasOnTime M.Disk.Store (M.clock machine.old) ask.entry.when.zone (M.stands machine.old ask.entry.store.now) (M.left machine.new)) }

@@ -11,7 +11,7 @@ ghost use Rattle.rd_desk.specs.Served.{Responds};
 ghost use Rattle.rd_program.specs.Doors.{AsksPath};
 ghost use Rattle.rd_program.specs.Importing as spec;
 ghost use Rattle.rd_program.specs.Asked.{IsClockDue, IsClockOn};
-ghost use Rattle.rd_program.specs.OnTime.{IsOnTime, WasOnTime, must_be_on_time};
+ghost use Rattle.rd_program.specs.OnTime.{IsBehindIn, IsBehindOn, IsOnTime, WasOnTime, must_be_on_time};
 ghost use Rattle.rd_program.specs.Rows.{GivesLine, IsBadSheetDue, IsRowTaken, TakesImage, TakesSheet, TakesSheetIn, TakesSheetOn};
 ghost use Rattle.rd_program.specs.Serving.{IsDayless, IsUnasked};
 ghost use Rattle.rd_program.specs.Showing.{EndsWith};
@@ -261,6 +261,8 @@ fn import_sheet<W: Write, M: Machine>(
     ensures refused { IfErr result (RefusesImport (W.contents output.old) (W.contents output.new)) }
     ensures dayless { IsDayless (moment_of ask.entry.when.seconds (M.clock machine.old)) result }
     ensures clock { IfErr result (IsClockOn M.Disk.Store true ask.entry.when.seconds desk.old.store desk.new.store) }
+    ensures late { IfErr result (IsBehindOn M.Disk.Store true (must_be_on_time ask.entry.when.seconds ask.entry.when.is_trusting)
+        (moment_of ask.entry.when.seconds (M.clock machine.old)) desk.old.zone desk.old.store desk.new.store) }
     ensures bad_sheet { IfErr result (λ refusal. IfSome (M.sheet_bytes machine.old ask.entry.sheet.now) (λ bytes. IsBadSheetDue bytes refusal)) }
     ensures on_time { IsTrue (must_be_on_time ask.entry.when.seconds ask.entry.when.is_trusting)
         → OnOk result (IfSome (M.clock machine.old) (λ seconds. IsOpen M.Disk.Store desk.new.store
@@ -312,6 +314,8 @@ pub(crate) fn import<W: Write, M: Machine>(
     ensures there { OnEnded result (HasBoth (M.shows machine.old) (M.stands machine.old ask.entry.store.now) (M.left machine.new)) }
     ensures asked { AsksPath (M.paths machine.old) ask.entry.store.now (M.paths machine.new) }
     ensures clock { IfErr result (IsClockDue M.Disk.Store true ask.entry.when.seconds (M.stands machine.old ask.entry.store.now) (M.left machine.new)) }
+    ensures late { IfErr result (IsBehindIn M.Disk.Store true (must_be_on_time ask.entry.when.seconds ask.entry.when.is_trusting)
+        (moment_of ask.entry.when.seconds (M.clock machine.old)) ask.entry.when.zone (M.stands machine.old ask.entry.store.now) (M.left machine.new)) }
     ensures bad_sheet { IfErr result (λ refusal. IfSome (M.sheet_bytes machine.old ask.entry.sheet.now) (λ bytes. IsBadSheetDue bytes refusal)) }
     ensures opens { IfErr result (NamesOpening M.Disk.Store (M.stands machine.old ask.entry.store.now) (M.left machine.new)) }
 {

@@ -1,4 +1,4 @@
-ghost use Rattle.std.specs.Prelude.{◌↔◌, ◌≡◌, Bool, IfErr, IfNone, IfOk, IfSome, IsTrue, List, None, Option, Some, false, ℕ, ℤ};
+ghost use Rattle.std.specs.Prelude.{◌↔◌, ◌≡◌, Bool, IfErr, IfNone, IfOk, IfSome, IsTrue, List, None, Ok, Option, Some, false, ℕ, ℤ};
 ghost use Rattle.sqlite.specs.Held.{Held};
 ghost use Rattle.sqlite.specs.declared.error.Error.TheVariants.{SqliteFailure};
 ghost use Rattle.sqlite.specs.declared.error.ErrorCode.TheVariants as code;
@@ -36,7 +36,8 @@ pub trait Machine: Files {
     /// Whether it shows its connections.
     ghost shows: { Self → Bool };
 
-    /// The moment that its clock shows next, in seconds since 1970-01-01T00:00:00 UTC, if the machine shows it.
+    /// The moment that its clock shows next, in seconds since 1970-01-01T00:00:00 UTC, if the machine shows it; then the
+    /// clock does not fail.
     ghost clock: { Self → Option ℤ };
 
     /// The door at a place, if the machine shows it.
@@ -139,9 +140,10 @@ pub trait Machine: Files {
 
     /// The seconds since 1970-01-01T00:00:00 UTC.
     ///
-    /// It fails when the clock fails.
+    /// It fails when the clock fails: then the machine has shown no moment.
     fn now(&mut self) -> Result<i64, MachineFault>
         ensures shown { IfOk result (λ seconds. IfSome (clock self.old) (λ moment. seconds ≡ moment)) }
+        ensures sure { IfSome (clock self.old) (λ moment. result ≡ Ok moment) }
         ensures files { KeepsFiles Self.file_bytes Self.sheet_bytes self.old self.new }
         ensures asked { paths self.new ≡ paths self.old }
         ensures sums { sums self.new ≡ sums self.old }

@@ -4,7 +4,7 @@ ghost use Rattle.std.specs.Prelude.{◌≡◌, ◌⊎◌, Err, IfErr, IfOk, IfSo
 ghost use Rattle.rd_program.specs.Doors.{AsksPath};
 ghost use Rattle.rd_program.specs.Asked.{IsClockOn, IsStillOrRead};
 ghost use Rattle.rd_program.specs.Leaves.{GivesBack, IsDayAt, LeavesUnopened, moment_of};
-ghost use Rattle.rd_program.specs.OnTime.{IsBehind, IsOnTime, must_be_on_time};
+ghost use Rattle.rd_program.specs.OnTime.{IsBehind, IsBehindOn, IsOnTime, must_be_on_time};
 ghost use Rattle.rd_program.specs.Rows.{KeepsFiles};
 ghost use Rattle.rd_program.specs.Serving.{IsClockRefusal, IsDayless, IsOpenRefusal};
 ghost use Rattle.rd_store.specs.Held.{IsOpen, Keeps, desk as desk_in};
@@ -90,6 +90,7 @@ pub(crate) fn open_desk<M: Machine>(
 /// It fails with `Clock`, and with `NoMemory`.
 fn clock_seconds<M: Machine>(machine: &mut M) -> Result<i64, Refusal>
     ensures shown { IfOk result (λ seconds. IfSome (M.clock machine.old) (λ moment. seconds ≡ moment)) }
+    ensures sure { IfSome (M.clock machine.old) (λ moment. result ≡ Ok moment) }
     ensures files { KeepsFiles M.file_bytes M.sheet_bytes machine.old machine.new }
     ensures shows { M.shows machine.new ≡ M.shows machine.old }
     ensures asked { M.paths machine.new ≡ M.paths machine.old }
@@ -107,6 +108,7 @@ fn clock_seconds<M: Machine>(machine: &mut M) -> Result<i64, Refusal>
 fn seconds_of<M: Machine>(named: Option<i64>, machine: &mut M) -> Result<i64, Refusal>
     ensures asked { IfOk result (λ seconds. IfSome (moment_of named (M.clock machine.old)) (λ moment. seconds ≡ moment)) }
     ensures named { IfSome named (λ seconds. result ≡ Ok seconds) }
+    ensures sure { IfSome (moment_of named (M.clock machine.old)) (λ seconds. result ≡ Ok seconds) }
     ensures files { KeepsFiles M.file_bytes M.sheet_bytes machine.old machine.new }
     ensures shows { M.shows machine.new ≡ M.shows machine.old }
     ensures paths { M.paths machine.new ≡ M.paths machine.old }
@@ -135,6 +137,7 @@ pub(crate) fn visit_day<S: Alter, M: Machine>(
     ensures named { IfSome named (λ seconds.
         (HasDay seconds → result ≡ Ok (day_number seconds desk.now.zone)) × (¬ HasDay seconds → result ≡ Err Refusal.Clock)) }
     ensures dayless { IsDayless (moment_of named (M.clock machine.old)) result }
+    ensures sure { IfSome (moment_of named (M.clock machine.old)) (λ seconds. HasDay seconds → result ≡ Ok (day_number seconds desk.now.zone)) }
     ensures refused { IfErr result IsClockRefusal }
 {
     let seconds = seconds_of(named, machine)?;
@@ -182,6 +185,8 @@ pub(crate) fn day_on_time<S: Alter, M: Machine>(
     ensures in_range { IfOk result IsDay }
     ensures dayless { IsDayless (moment_of when.seconds (M.clock machine.old)) result }
     ensures clock { IfErr result (IsClockOn S.Store true when.seconds desk.old.store desk.new.store) }
+    ensures late { IfErr result (IsBehindOn S.Store true (must_be_on_time when.seconds when.is_trusting) (moment_of when.seconds (M.clock machine.old))
+        desk.old.zone desk.old.store desk.new.store) }
     ensures untouched { must_be_on_time when.seconds when.is_trusting ≡ false → desk.new.store ≡ desk.old.store }
     ensures refused { IfErr result (λ refusal. IsClockRefusal refusal ⊎ (refusal ≡ Refusal.Store)) }
 {

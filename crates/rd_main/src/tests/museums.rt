@@ -63,7 +63,10 @@ impl Supply for Given {
 
     fn now(&mut self) -> Result<i64, MachineFault> {
         self.is_clock_read = true;
-        self.moment
+        match self.moment {
+            Ok(seconds) => Ok(seconds),
+            Err(fault) => Err(fault),
+        }
     }
 }
 

@@ -1,5 +1,7 @@
 //! A machine in memory.
 
+ghost use Rattle.std.specs.Result.{result_ok};
+
 use crate::image::build_with;
 use anyhow::Result;
 use rd_fakes::desk::new_connection;
@@ -45,8 +47,8 @@ pub(crate) struct Given {
     alloc: Global,
     files: Vec<File>,
     lacks: Vec<Lack>,
-    /// What the clock shows; `None` if it shows nothing.
-    pub(crate) clock: Option<i64>,
+    /// What the clock shows, or why it shows nothing.
+    clock: Result<i64, MachineFault>,
     /// The last place that the program asked for, and how long a visitor may take there if that is not as usual, as the
     /// report of a run has them.
     pub(crate) place: Option<String>,
@@ -89,7 +91,7 @@ pub(crate) fn new_museum(alloc: Global) -> Result<Museum, NoMemory> {
         alloc,
         files: Vec::new(alloc),
         lacks: Vec::new(alloc),
-        clock: None,
+        clock: Err(MachineFault::Failed),
         place: None,
     };
     Ok(Museum {
@@ -124,6 +126,15 @@ impl Given {
         Ok(self.lacks.push(Lack { what, fault })?)
     }
 
+    /// Sets what the clock shows from now on; `None` if it shows nothing. It shows nothing either if the machine does not give
+    /// it.
+    pub(crate) fn set_clock(&mut self, shown: Option<i64>) {
+        self.clock = match self.given("clock") {
+            Ok(()) => shown.ok_or(MachineFault::Failed),
+            Err(fault) => Err(fault),
+        };
+    }
+
     /// It fails when the machine does not give something.
     fn given(&self, what: &str) -> Result<(), MachineFault> {
         match self.lacks.iter().find(|lack| lack.what.as_str() == what) {
@@ -150,7 +161,7 @@ fn copied(alloc: Global, bytes: &[u8]) -> Result<Vec<u8>, MachineFault> {
 }
 
 impl Supply for Given {
-    ghost clock = { λ given. given.clock };
+    ghost clock = { λ given. result_ok given.clock };
 
     fn image(&self, alloc: Global, path: &str) -> Result<Vec<u8>, MachineFault> {
         copied(alloc, front_of(self.bytes_at(path)?))
@@ -186,7 +197,9 @@ impl Supply for Given {
     }
 
     fn now(&mut self) -> Result<i64, MachineFault> {
-        self.given("clock")?;
-        self.clock.ok_or(MachineFault::Failed)
+        match self.clock {
+            Ok(seconds) => Ok(seconds),
+            Err(fault) => Err(fault),
+        }
     }
 }

@@ -167,7 +167,7 @@ impl<'a> Run<'a> {
         for lack in &self.lacks {
             museum.supply.lack(rt.alloc(), lack.what, lack.fault)?;
         }
-        museum.supply.clock = self.clock;
+        museum.supply.set_clock(self.clock);
         museum.door = door_of(rt, self.visitors.as_slice())?;
         museum.supply.place = None;
         Ok(())

@@ -22,7 +22,7 @@ use Rattle.rd_program.specs.DiskFiles.{GivesFile, IsOfImage}
 use Rattle.rd_program.specs.Showing.{AnswersBy}
 use Rattle.rd_program.specs.Asked.{AsksBy, IsClockDueBy, IsUnaskedBy, SumsBy}
 use Rattle.rd_program.specs.Rows.{ImportsBy, RefusesSheetBy}
-use Rattle.rd_program.specs.OnTime.{IsOnTimeBy}
+use Rattle.rd_program.specs.OnTime.{IsBehindBy, IsOnTimeBy}
 use Rattle.rd_program.specs.Visiting.{ServesBy}
 use Rattle.rd_commands.specs.declared.done.Done.TheVariants.{InPart}
 use Rattle.rd_program.proofs.dispatch.perform.Goals as goal
@@ -1001,3 +1001,45 @@ pub returns-in-Copy-clause-lent : goal.returns-in-Copy-clause-lent
 returns-in-Copy-clause-lent g c =
     subst (λ ask. WritesOnceLentBy (g.M.Machine.shows c.args.machine.now) (g.M.Machine.door_limits c.copy.new.machine)
     (g.W.Write.contents c.args.output.now) (g.W.Write.contents c.copy.new.output) ask) (sym c.in-Copy.is) tt
+
+-- ---- the clock that is behind
+
+pub returns-in-File-clause-late : goal.returns-in-File-clause-late
+returns-in-File-clause-late g c =
+    subst (λ ask. IfErr c.whole.result (IsBehindBy g.M.Disk.Store (g.M.Machine.clock c.args.machine.now) (g.M.Machine.stands c.args.machine.now) (g.M.Machine.left c.cat.new.machine) ask))
+    (sym c.in-File.is) (no_refusal c.whole.result)
+
+pub returns-in-Files-clause-late : goal.returns-in-Files-clause-late
+returns-in-Files-clause-late g c =
+    subst (λ ask. IfErr c.whole-in-Files.result (IsBehindBy g.M.Disk.Store (g.M.Machine.clock c.args.machine.now) (g.M.Machine.stands c.args.machine.now) (g.M.Machine.left c.list.new.machine) ask))
+    (sym c.in-Files.is) (no_refusal c.whole-in-Files.result)
+
+pub returns-in-Init-clause-late : goal.returns-in-Init-clause-late
+returns-in-Init-clause-late g c =
+    subst (λ ask. IfErr c.whole-in-Init.result (IsBehindBy g.M.Disk.Store (g.M.Machine.clock c.args.machine.now) (g.M.Machine.stands c.args.machine.now) (g.M.Machine.left c.init.new.machine) ask))
+    (sym c.in-Init.is) (no_refusal c.whole-in-Init.result)
+
+pub returns-in-Serve-clause-late : goal.returns-in-Serve-clause-late
+returns-in-Serve-clause-late g c =
+    subst (λ ask. IfErr c.whole-in-Serve.result (IsBehindBy g.M.Disk.Store (g.M.Machine.clock c.args.machine.now) (g.M.Machine.stands c.args.machine.now) (g.M.Machine.left c.serve.new.machine) ask))
+    (sym c.in-Serve.is) (no_refusal c.whole-in-Serve.result)
+
+pub returns-in-Import-clause-late : goal.returns-in-Import-clause-late
+returns-in-Import-clause-late g c =
+    subst (λ ask. IfErr c.import.result (IsBehindBy g.M.Disk.Store (g.M.Machine.clock c.args.machine.now) (g.M.Machine.stands c.args.machine.now) (g.M.Machine.left c.import.new.machine) ask))
+    (sym c.in-Import.is) c.import.ensures.late
+
+pub returns-in-OneQuestion-clause-late : goal.returns-in-OneQuestion-clause-late
+returns-in-OneQuestion-clause-late g c =
+    subst (λ ask. IfErr c.ask_once.result (IsBehindBy g.M.Disk.Store (g.M.Machine.clock c.args.machine.now) (g.M.Machine.stands c.args.machine.now) (g.M.Machine.left c.ask_once.new.machine) ask))
+    (sym c.in-OneQuestion.is) c.ask_once.ensures.late
+
+pub returns-in-StaffKey-clause-late : goal.returns-in-StaffKey-clause-late
+returns-in-StaffKey-clause-late g c =
+    subst (λ ask. IfErr c.whole-in-StaffKey.result (IsBehindBy g.M.Disk.Store (g.M.Machine.clock c.args.machine.now) (g.M.Machine.stands c.args.machine.now) (g.M.Machine.left c.staff_key.new.machine) ask))
+    (sym c.in-StaffKey.is) (no_refusal c.whole-in-StaffKey.result)
+
+pub returns-in-Copy-clause-late : goal.returns-in-Copy-clause-late
+returns-in-Copy-clause-late g c =
+    subst (λ ask. IfErr c.whole-in-Copy.result (IsBehindBy g.M.Disk.Store (g.M.Machine.clock c.args.machine.now) (g.M.Machine.stands c.args.machine.now) (g.M.Machine.left c.copy.new.machine) ask))
+    (sym c.in-Copy.is) (no_refusal c.whole-in-Copy.result)

@@ -1,4 +1,4 @@
-use Rattle.std.proofs.Common.{◌≡◌, ◌∙◌, ◌≤◌, Err, IfSome, None, Ok, Some, false, arith, codes, inl, inr, refl, subst, sym}
+use Rattle.std.proofs.Common.{◌≡◌, ◌∙◌, ◌≤◌, Err, IfSome, None, Ok, Some, false, arith, codes, inl, inr, refl, subst, sym, true}
 use Rattle.std.specs.Prelude.{⊤}
 use Rattle.rd_program.specs.Asking.{TellsCheck}
 use Rattle.rd_commands.specs.Input.{ReadsUpTo}
@@ -18,6 +18,7 @@ use Rattle.rd_program.specs.Rows.{IsBadSheetDue, TakesSheetIn}
 use Rattle.rd_program.proofs.RowLemmas.{import_at_1, imports_by, no_memory_sheet, sheet_of_words}
 use Rattle.rd_program.specs.Serving.{IsUnaskedRefusal}
 use Rattle.rd_program.proofs.DaylessMoments.{always, command_at, import_clock, once_clock, unasked_by}
+use Rattle.rd_program.proofs.BehindLemmas.{behind_by}
 use Rattle.rd_program.proofs.OnTimeLemmas.{goes_at, on_time_by}
 use Rattle.rd_program.proofs.VisitLemmas.{lent_by, limits_by, serves_by}
 use Rattle.rd_program.proofs.FileLemmas.{files_done, files_refused, help_refused, of_image, one_file_done, one_file_refused}
@@ -227,6 +228,7 @@ returns-in-Ok-perform-clause-one_store g c = record {
   on_time = λ zero store rule goes trusts.
       on_time_by g.M.Disk.Store (g.M.Machine.clock c.args.machine.now) (g.M.Machine.stands c.args.machine.now) (g.M.Machine.left c.perform.new.machine) c.in-Ok-perform.done store rule _ c.in-Ok.ask
       c.in-Ok.ensures.read goes (c.in-Ok.ensures.trust false trusts) c.in-Ok-perform.ensures.on_time;
+  late = λ three. absurd (omega (arith, c.status.ensures.most, three));
 }
 
 pub returns-in-Err-perform-clause-one_store : goal.returns-in-Err-perform-clause-one_store
@@ -241,6 +243,11 @@ returns-in-Err-perform-clause-one_store g c = record {
       unasked_by _ _ (g.M.Machine.clock c.args.machine.now) c.in-Ok.ask (Err c.in-Err-perform.refused) store moment rule c.in-Ok.ensures.read asks c.in-Err-perform.ensures.unasked
       (λ is. tells IsUnaskedRefusal c.in-Err-perform.refused _ _ _ is c.tell_refusal.ensures.status c.tell_refusal.ensures.written);
   on_time = λ zero. absurd (not_done c.in-Err-perform.refused (sym c.tell_refusal.ensures.status ∙ zero));
+  late = λ three store moment rule asks.
+      tells _ c.in-Err-perform.refused _ _ _
+      (behind_by g.M.Disk.Store (g.M.Machine.clock c.args.machine.now) (g.M.Machine.stands c.args.machine.now) (g.M.Machine.left c.perform.new.machine) _ store moment rule
+      c.in-Ok.ask c.in-Err-perform.refused c.in-Ok.ensures.read asks (c.in-Ok.ensures.trust true) c.in-Err-perform.ensures.late)
+      c.tell_refusal.ensures.status c.tell_refusal.ensures.written;
 }
 
 pub returns-in-Err-clause-one_store : goal.returns-in-Err-clause-one_store
@@ -255,6 +262,9 @@ returns-in-Err-clause-one_store g c = record {
   on_time = λ zero store rule goes trusts.
       let memory = c.tell_unread.ensures.memory (c.in-Err.ensures.unread (command_at _ store None rule (goes_at _ store rule goes))) in
       let three : c.tell_unread.result ≡ 3 = memory.0 in absurd (omega arith);
+  late = λ three store moment rule asks.
+      let none = c.in-Err.ensures.unread (command_at _ store moment rule asks) in
+      tells _ NoMemory _ _ _ tt (c.tell_unread.ensures.memory none).0 (c.tell_unread.ensures.no_memory none);
 }
 
 -- ---- help and the version

@@ -8,7 +8,8 @@ use Rattle.rd_program.specs.OnTime.{IsOnTime}
 use Rattle.rd_program.proofs.OnTimeLemmas.{stood_on_time}
 use Rattle.rd_program.proofs.Named.{asked_then}
 use Rattle.rd_program.proofs.LeftStores.{desk_left, gives_back, has_both, on_ended_always, opening_fails, unopened_left}
-use Rattle.rd_program.specs.OnTime.{is_dated}
+use Rattle.rd_program.specs.OnTime.{is_dated, must_be_on_time}
+use Rattle.rd_program.proofs.BehindLemmas.{behind_ended, opening_no_behind}
 use Rattle.rd_program.proofs.DaylessMoments.{clock_ended, opening_no_clock, unasked}
 use Rattle.rd_program.proofs.export_check.ask_once.Goals as goal
 
@@ -96,3 +97,20 @@ returns-clause-on_time g c = λ dated held.
     (subst (λ z. OnOk c.tell_asked-ended.result (IfSome clock (λ seconds. IsOpen g.M.Disk.Store last → IsOnTime (day_number seconds z) (desk g.M.Disk.Store opened)))) c.in_ok-desk.ensures.zone
     (subst (λ m. OnOk c.tell_asked-ended.result (IfSome m (λ seconds. IsOpen g.M.Disk.Store last → IsOnTime (day_number seconds c.in_ok-desk.desk.zone) (desk g.M.Disk.Store opened)))) c.in_ok-desk.ensures.clock
     (c.tell_asked-ended.ensures.on_time dated held)))
+
+-- ---- the clock that is behind
+
+pub returns-clause-late : goal.returns-clause-late
+returns-clause-late g c =
+    behind_ended g.M.Disk.Store (is_dated c.args.ask.question) (must_be_on_time c.args.ask.when.seconds c.args.ask.when.is_trusting) (g.M.Machine.stands c.args.machine.now c.args.ask.store.now)
+    (g.M.Machine.left c.release.new.self) c.in_ok-desk.desk.store c.tell_asked-ended.new.desk.store c.into_connection.result
+    c.in_ok-desk.ensures.opened c.tell_asked-ended.ensures.steps.lasts (c.into_connection.ensures.same ∙ c.into_store.ensures) c.release.ensures.left
+    c.tell_asked-ended.result c.args.ask.when.seconds (g.M.Machine.clock c.args.machine.now) (g.M.Machine.clock c.open_desk.new.machine) c.in_ok-desk.desk.zone c.args.ask.when.zone
+    c.in_ok-desk.ensures.clock c.in_ok-desk.ensures.zone c.tell_asked-ended.ensures.late
+
+pub returns-in_err-desk-clause-late : goal.returns-in_err-desk-clause-late
+returns-in_err-desk-clause-late g c =
+    passed_on c.from_residual.result c.in_err-desk.field-0.0 _ c.from_residual.ensures.1
+    (opening_no_behind g.M.Disk.Store (is_dated c.args.ask.question) (must_be_on_time c.args.ask.when.seconds c.args.ask.when.is_trusting)
+    (moment_of c.args.ask.when.seconds (g.M.Machine.clock c.args.machine.now)) c.args.ask.when.zone (g.M.Machine.stands c.args.machine.now c.args.ask.store.now)
+    (g.M.Machine.left c.open_desk.new.machine) c.in_err-desk.field-0.0 c.in_err-desk.ensures.refused)

@@ -9,7 +9,8 @@ use Rattle.rd_protocol.specs.declared.request.What.TheVariants as request
 use Rattle.rd_program.specs.Leaves.{IsDayAt, StepsOf, moment_of}
 use Rattle.rd_program.specs.Showing.{Finds, Shows, asked_of, found_by, request_of, what_of, what_to_show}
 use Rattle.rd_program.proofs.ShowLemmas.{badge_there, due_asked, finds_asked, key_of_check, key_of_show, no_check, passed_on, shows_asked}
-use Rattle.rd_program.specs.OnTime.{is_dated}
+use Rattle.rd_program.specs.OnTime.{is_dated, must_be_on_time}
+use Rattle.rd_program.proofs.BehindLemmas.{no_behind_on}
 use Rattle.rd_program.proofs.DaylessMoments.{no_clock_on}
 use Rattle.rd_program.proofs.LeftStores.{still_same}
 use Rattle.rd_program.proofs.OnTimeLemmas.{check_from, day_asks, day_due, day_no_accession, due_from, if_ok_from, ok_from, on_time_from, same_from, show_undated, still_steps}
@@ -191,3 +192,24 @@ returns-in-Check-clause-steps g c =
     c.in-Check.acc c.args.ask.now.question
     (subst (IsDayAt (moment_of c.args.ask.now.when.seconds (g.M.Machine.clock c.args.machine.now)) c.args.desk.now.zone) (sym (to_z-of_z w32 c.in_ok-day.day fits)) c.in_ok-day.ensures.day)
     c.badge_of-badge.ensures c.in-Check.is c.check.ensures.checks
+
+-- ---- the clock that is behind
+
+pub returns-in_err-day-clause-late : goal.returns-in_err-day-clause-late
+returns-in_err-day-clause-late g c =
+    passed_on c.from_residual.result c.in_err-day.field-0.0 _ c.from_residual.ensures.1 c.in_err-day.ensures.late
+
+pub returns-in-Catalogue-clause-late : goal.returns-in-Catalogue-clause-late
+returns-in-Catalogue-clause-late g c =
+    IfErr-weaker c.show.result _ _ (no_behind_on g.S.Store (is_dated c.args.ask.now.question) (must_be_on_time c.args.ask.now.when.seconds c.args.ask.now.when.is_trusting)
+    (moment_of c.args.ask.now.when.seconds (g.M.Machine.clock c.args.machine.now)) c.args.desk.now.zone c.args.desk.now.store c.show.new.desk.store) c.show.ensures.dated
+
+pub returns-in-Check-clause-late : goal.returns-in-Check-clause-late
+returns-in-Check-clause-late g c =
+    IfErr-weaker c.check.result _ _ (no_behind_on g.S.Store (is_dated c.args.ask.now.question) (must_be_on_time c.args.ask.now.when.seconds c.args.ask.now.when.is_trusting)
+    (moment_of c.args.ask.now.when.seconds (g.M.Machine.clock c.args.machine.now)) c.args.desk.now.zone c.args.desk.now.store c.check.new.desk.store) c.check.ensures.dated
+
+pub returns-in-Show-clause-late : goal.returns-in-Show-clause-late
+returns-in-Show-clause-late g c =
+    IfErr-weaker c.show-in-Show.result _ _ (no_behind_on g.S.Store (is_dated c.args.ask.now.question) (must_be_on_time c.args.ask.now.when.seconds c.args.ask.now.when.is_trusting)
+    (moment_of c.args.ask.now.when.seconds (g.M.Machine.clock c.args.machine.now)) c.args.desk.now.zone c.args.desk.now.store c.show-in-Show.new.desk.store) c.show-in-Show.ensures.dated

@@ -32,3 +32,6 @@ returns-clause-on_time g c = λ held.
 
 pub returns-in_err-day-clause-clock : goal.returns-in_err-day-clause-clock
 returns-in_err-day-clause-clock g c = passed_on c.from_residual.result c.in_err-day.field-0.0 _ c.from_residual.ensures.1 c.in_err-day.ensures.clock
+
+pub returns-in_err-day-clause-late : goal.returns-in_err-day-clause-late
+returns-in_err-day-clause-late g c = passed_on c.from_residual.result c.in_err-day.field-0.0 _ c.from_residual.ensures.1 c.in_err-day.ensures.late
