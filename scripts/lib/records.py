@@ -165,7 +165,7 @@ def changed_faults(record):
 
 
 def constants(path, name):
-    return re.findall(rf"(?m)^.*\b(?:const|static) {re.escape(name)}\b.*$", rattle.text_of(path) or "")
+    return re.findall(rf"(?ms)^[^\n]*\b(?:const|static) {re.escape(name)}\b.*?;$", rattle.text_of(path) or "")
 
 
 def is_coded(path, name):

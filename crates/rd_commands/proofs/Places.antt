@@ -208,3 +208,9 @@ module _ (app : App) (words : List Text) (m : ArgMatches) (desk : IsDeskApp app)
         | inr memory ↦ inr (subst IsForMemory (sym memory) tt)
       ]
     ]
+
+-- a mistake that is none of what `show` shows and none of a place is one of a rule
+pub no_other_mistake : (nothing nowhere : Type 0) (fault : Unread) → IsMistake fault → (fault ≡ Day → nothing) → (fault ≡ NoPlace → nowhere) → ¬ nothing → ¬ nowhere → fault ≡ Usage
+no_other_mistake nothing nowhere fault (inl usage) day placeless named placed = usage
+no_other_mistake nothing nowhere fault (inr (inl is)) day placeless named placed = absurd (named (day is))
+no_other_mistake nothing nowhere fault (inr (inr is)) day placeless named placed = absurd (placed (placeless is))

@@ -18,3 +18,4 @@ pub mod RefusalLines
 pub mod Sheets
 pub mod Versions
 pub mod Helps
+pub mod Mistakes

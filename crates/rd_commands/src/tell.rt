@@ -9,6 +9,7 @@ ghost use Rattle.clap.specs.declared.error.kind.ErrorKind.TheVariants.{DisplayHe
 ghost use Rattle.rd_volume.specs.Words.{words_left};
 ghost use Rattle.rd_commands.specs.Asks.{IsForMemory, IsHelp, IsMistake, IsVersion};
 ghost use Rattle.rd_commands.specs.Helps.{help_for};
+ghost use Rattle.rd_commands.specs.Mistakes.{day_mistake, place_mistake, zone_mistake};
 ghost use Rattle.rd_commands.specs.Output.{AppendsPart};
 ghost use Rattle.rd_commands.specs.Printed.{blanked, refusal_line, words_after};
 ghost use Rattle.rd_commands.specs.Refusals.{status_of};
@@ -142,9 +143,9 @@ pub fn tell_unread<W: Write, E: Write>(
         → kind_of error ≢ DisplayVersion → kind_of error ≢ OutOfMemory → result ≡ 2 }
     ensures mistaken { IsMistake unread → result ≡ 2 }
     ensures one_of { (result ≡ 2) ⊎ (IsHelp unread ⊎ (IsVersion unread ⊎ IsForMemory unread)) }
-    ensures place_mistake { unread ≡ Unread.Place → AppendsPart (E.contents errors.old) (E.contents errors.new) PLACE_MISTAKE.now }
-    ensures mistake_written { unread ≡ Unread.Usage → AppendsPart (E.contents errors.old) (E.contents errors.new) ZONE_MISTAKE.now }
-    ensures day_mistake { unread ≡ Unread.Day → AppendsPart (E.contents errors.old) (E.contents errors.new) DAY_MISTAKE.now }
+    ensures place_mistake { unread ≡ Unread.Place → AppendsPart (E.contents errors.old) (E.contents errors.new) place_mistake }
+    ensures mistake_written { unread ≡ Unread.Usage → AppendsPart (E.contents errors.old) (E.contents errors.new) zone_mistake }
+    ensures day_mistake { unread ≡ Unread.Day → AppendsPart (E.contents errors.old) (E.contents errors.new) day_mistake }
     ensures memory { IsForMemory unread
         → (result ≡ 3) × Keeps (W.contents output.old) (W.contents output.new) }
     ensures no_memory { IsForMemory unread

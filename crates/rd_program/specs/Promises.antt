@@ -18,10 +18,12 @@ use Rattle.rd_protocol.specs.declared.request.What.{What}
 use Rattle.rd_protocol.specs.declared.request.What.TheVariants as request
 use Rattle.rd_commands.specs.Cat.{HasNoSoundFile, IsCut, Refuses, Serves}
 use Rattle.rd_commands.specs.CommandLine.{AsksForHelp, AsksForVersion, IsTaken, IsTakenTelling}
-use Rattle.rd_commands.specs.Commands.{AsksOfStore, IsCommand, NamesAPlace, NamesWhatItShows, TellsARule, Trusts}
+use Rattle.rd_commands.specs.Commands.{AsksOfStore, IsCommand, IsTakenServingNowhere, IsTakenShowingNothing, NamesAPlace, NamesWhatItShows, TellsARule, Trusts}
 use Rattle.rd_commands.specs.Input.{ReadsUpTo}
 use Rattle.rd_commands.specs.Helps.{RefusesHelp, help_for}
 use Rattle.rd_commands.specs.Listed.{Lists, RefusesList}
+use Rattle.rd_commands.specs.Mistakes.{day_mistake, place_mistake, zone_mistake}
+use Rattle.rd_commands.specs.Output.{AppendsPart}
 use Rattle.rd_commands.specs.RefusalLines.{Tells}
 use Rattle.rd_commands.specs.Serving.{Place}
 use Rattle.rd_commands.specs.Versions.{RefusesVersion, version_line}
@@ -54,22 +56,28 @@ texts words = map (λ word. word.now) words
 abbrev pub EndsAsMistake : ℕ → Option (List ℕ) → Option (List ℕ) → Type 0
 EndsAsMistake result errors told = (result ≡ 2) ⊎ Tells (λ refusal. refusal ≡ NoMemory) result errors told
 
+-- the words are a mistake, of which the errors get no more than this text; or memory ran out
+abbrev pub EndsSaying : List ℕ → ℕ → Option (List ℕ) → Option (List ℕ) → Type 0
+EndsSaying text result errors told = ((result ≡ 2) × AppendsPart errors told text) ⊎ Tells (λ refusal. refusal ≡ NoMemory) result errors told
+
 -- At 0 and 1 the words are a command. At 0 they may also ask for help, or for the version, and then exactly the help that
 -- they ask for is written, or the line of the version. At 0 and 1, a command that has clocks has a rule as the text of
 -- `--zone`, or none; `show` names what it shows, and a date where that needs one; and `serve` names a port or a Unix
 -- socket, and one of them alone. If they do not, the words are a mistake, or memory ran out; and so it is with words that
 -- are no command, unless they ask for help or the version. At 2 they are no plain form of `cat` or `list`, and no form of
--- another command.
+-- another command. Of words of `show` that name nothing, of words of `serve` that name no place or two, and of others
+-- without a rule the errors get no more than the text that says so.
 pub record EndsByWords (words : List (List ℕ)) (result : ℕ) (out written errors told : Option (List ℕ)) : Type 0 where
   pub command : result ≡ 0 → IsTaken words ⊎ (
       (AsksForHelp words × Appends out written (help_for words)) ⊎ (AsksForVersion words × Appends out written version_line))
   pub refused_command : result ≡ 1 → IsTaken words
   pub zone : result ≤ 1 → TellsARule words
   pub no_rule : ¬ TellsARule words → EndsAsMistake result errors told
+  pub no_rule_told : ¬ TellsARule words → ¬ IsTakenShowingNothing words → ¬ IsTakenServingNowhere words → EndsSaying zone_mistake result errors told
   pub named : result ≤ 1 → NamesWhatItShows words
-  pub none_named : ¬ NamesWhatItShows words → EndsAsMistake result errors told
+  pub none_named : ¬ NamesWhatItShows words → EndsSaying day_mistake result errors told
   pub place : result ≤ 1 → NamesAPlace words
-  pub no_place : ¬ NamesAPlace words → EndsAsMistake result errors told
+  pub no_place : ¬ NamesAPlace words → EndsSaying place_mistake result errors told
   pub mistake : ¬ IsTaken words
       → (result ≡ 2) ⊎ (AsksForHelp words ⊎ (AsksForVersion words ⊎ Tells (λ refusal. refusal ≡ NoMemory) result errors told))
   pub usage : result ≡ 2 → ¬ IsCommand words

@@ -14,6 +14,7 @@ use Rattle.rd_protocol.specs.declared.request.What.TheVariants as request
 use Rattle.rd_program.specs.Leaves.{IsDayBy, moment_of}
 use Rattle.rd_program.specs.Showing.{EndsWith, FindsStore, found_by, what_of}
 use Rattle.rd_commands.proofs.HelpLine.{help_not_taken, help_of_desk}
+use Rattle.rd_commands.proofs.Places.{no_other_mistake}
 use Rattle.rd_program.specs.Rows.{IsBadSheetDue, TakesSheetIn}
 use Rattle.rd_program.proofs.RowLemmas.{import_at_1, imports_by, no_memory_sheet, sheet_of_words}
 use Rattle.rd_program.specs.Serving.{IsUnaskedRefusal}
@@ -46,6 +47,7 @@ returns-in-Ok-perform-clause-by_words g c = record {
   refused_command = λ one. c.in-Ok.ensures.taken;
   zone = λ well. c.in-Ok.ensures.zone;
   no_rule = λ none. absurd (none c.in-Ok.ensures.zone);
+  no_rule_told = λ none named placed. absurd (none c.in-Ok.ensures.zone);
   named = λ well. c.in-Ok.ensures.shown;
   none_named = λ none. absurd (none c.in-Ok.ensures.shown);
   place = λ well. c.in-Ok.ensures.place;
@@ -60,6 +62,7 @@ returns-in-Err-perform-clause-by_words g c = record {
   refused_command = λ one. c.in-Ok.ensures.taken;
   zone = λ well. c.in-Ok.ensures.zone;
   no_rule = λ none. absurd (none c.in-Ok.ensures.zone);
+  no_rule_told = λ none named placed. absurd (none c.in-Ok.ensures.zone);
   named = λ well. c.in-Ok.ensures.shown;
   none_named = λ none. absurd (none c.in-Ok.ensures.shown);
   place = λ well. c.in-Ok.ensures.place;
@@ -85,6 +88,12 @@ returns-in-Err-clause-by_words g c = record {
     | inl usage ↦ inl (c.tell_unread.ensures.mistaken usage)
     | inr memory ↦ inr (tells (λ refusal. refusal ≡ NoMemory) NoMemory _ _ _ refl (c.tell_unread.ensures.memory memory).0 (c.tell_unread.ensures.no_memory memory))
   ];
+  no_rule_told = λ none named placed. elim (c.in-Err.ensures.no_rule none) [
+    | inl mistake ↦
+        let usage = no_other_mistake _ _ c.in-Err.unread mistake c.in-Err.ensures.day c.in-Err.ensures.placeless named placed in
+        inl (c.tell_unread.ensures.mistaken (inl usage), c.tell_unread.ensures.mistake_written usage)
+    | inr memory ↦ inr (tells (λ refusal. refusal ≡ NoMemory) NoMemory _ _ _ refl (c.tell_unread.ensures.memory memory).0 (c.tell_unread.ensures.no_memory memory))
+  ];
   named = λ well rows enters.
       let zero : c.tell_unread.result ≡ 0 = omega (arith, c.tell_unread.ensures.not_refused, well) in
       absurd (elim (c.tell_unread.ensures.shown zero) as (λ _. ⊥) [
@@ -92,7 +101,7 @@ returns-in-Err-clause-by_words g c = record {
         | inr version ↦ no_fault_in _ (codes "show") rows _ enters (version_asked _ c.in-Err.unread version.0 c.in-Err.ensures.mistake_in)
       ]);
   none_named = λ none. elim (c.in-Err.ensures.none_shown none) [
-    | inl day ↦ inl (c.tell_unread.ensures.mistaken (inr (inl day)))
+    | inl day ↦ inl (c.tell_unread.ensures.mistaken (inr (inl day)), c.tell_unread.ensures.day_mistake day)
     | inr memory ↦ inr (tells (λ refusal. refusal ≡ NoMemory) NoMemory _ _ _ refl (c.tell_unread.ensures.memory memory).0 (c.tell_unread.ensures.no_memory memory))
   ];
   place = λ well rows enters.
@@ -102,7 +111,7 @@ returns-in-Err-clause-by_words g c = record {
         | inr version ↦ no_fault_in _ (codes "serve") rows _ enters (version_asked _ c.in-Err.unread version.0 c.in-Err.ensures.mistake_in)
       ]);
   no_place = λ none. elim (c.in-Err.ensures.no_place none) [
-    | inl place ↦ inl (c.tell_unread.ensures.mistaken (inr (inr place)))
+    | inl place ↦ inl (c.tell_unread.ensures.mistaken (inr (inr place)), c.tell_unread.ensures.place_mistake place)
     | inr memory ↦ inr (tells (λ refusal. refusal ≡ NoMemory) NoMemory _ _ _ refl (c.tell_unread.ensures.memory memory).0 (c.tell_unread.ensures.no_memory memory))
   ];
   mistake = λ none. elim c.tell_unread.ensures.one_of [

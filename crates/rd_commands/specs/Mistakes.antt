@@ -1,0 +1,19 @@
+-- What the program says about words that are no command although `clap` finds no fault in them.
+use Rattle.std.specs.Prelude.{ℕ, List, ◌++◌, codes}
+use Rattle.rd_commands.specs.Printed.{line_feed}
+
+-- the end of each of them: an empty line, and a line that points to the help
+abbrev pub help_hint : List ℕ
+help_hint = line_feed ++ (line_feed ++ (codes "For more information, try '--help'." ++ line_feed))
+
+-- the text of `--zone` is no rule for clocks
+abbrev pub zone_mistake : List ℕ
+zone_mistake = codes "error: --zone takes a rule as POSIX writes it, as in UTC0 or CET-1CEST,M3.5.0,M10.5.0/3" ++ help_hint
+
+-- the day does not go with what `show` shows
+abbrev pub day_mistake : List ℕ
+day_mistake = codes "error: --on takes a date, as in 2030-01-01; 'show verdicts' needs it, and nothing else takes it" ++ help_hint
+
+-- the words of `serve` name no place, or two
+abbrev pub place_mistake : List ℕ
+place_mistake = codes "error: 'serve' needs --port or --socket, and takes only one of them" ++ help_hint
