@@ -1,4 +1,4 @@
-ghost use Rattle.std.specs.Prelude.{◌≡◌, ◌≢◌, ◌+◌, IfErr, IfSome, OnOk, codes};
+ghost use Rattle.std.specs.Prelude.{◌≡◌, ◌≢◌, ◌+◌, IfErr, IfSome, IsTrue, OnOk, codes};
 ghost use Rattle.std.specs.Io.KnownBytes.{Keeps};
 ghost use Rattle.rd_commands.specs.Cat.{Refuses, Serves};
 ghost use Rattle.rd_geometry.specs.Kinds.{size_of};
@@ -18,7 +18,7 @@ use std::io::{Read, Write};
 ///
 /// It fails with `WrongSize`, `NoFile`, `ListedOnly` and `Faulty`, in this order, with `NoMemory`,
 /// and with `Device` when a write or the flush fails.
-fn cat_image<W: Write>(
+fn cat_image<M: Files, W: Write>(
     alloc: Global,
     kind: Kind,
     slot: u16,
@@ -27,6 +27,7 @@ fn cat_image<W: Write>(
 ) -> Result<(), Refusal>
     ensures done { OnOk result
         (Serves kind slot bytes.now (W.contents output.old) (W.contents output.new)) }
+    ensures flushed { OnOk result (IsTrue (M.flushed (W.contents output.new))) }
     ensures refused { IfErr result (λ refusal.
         Refuses refusal kind slot bytes.now (W.contents output.old) (W.contents output.new)) }
 {
@@ -40,7 +41,7 @@ fn cat_image<W: Write>(
     if file.faults != 0 {
         return Err(Refusal::Faulty(kind, file.faults));
     }
-    write_pieces(output, pieces(&image, &file))
+    write_pieces::<M, W>(output, pieces(&image, &file))
 }
 
 /// Writes the bytes of the file that the command names. It reads standard input no further than
@@ -69,10 +70,11 @@ pub fn cat<R: Read, W: Write, M: Files>(
     ensures refused_file { ask.entry.image.now ≢ codes "-"
         → IfErr result (λ refusal. IfSome (M.file_bytes machine.old ask.entry.image.now) (λ image. Refuses refusal
         ask.entry.kind ask.entry.slot image (W.contents output.old) (W.contents output.new))) }
+    ensures flushed { OnOk result (IsTrue (M.flushed (W.contents output.new))) }
     ensures same { machine.new ≡ machine.old }
     ensures limit { ReadsUpTo (size_of ask.entry.kind + 1)
         (R.remaining input.old) (R.remaining input.new) }
 {
     let bytes = read_image(alloc, ask.kind, ask.image, input, machine)?;
-    cat_image(alloc, ask.kind, ask.slot, bytes.as_slice(), output)
+    cat_image::<M, W>(alloc, ask.kind, ask.slot, bytes.as_slice(), output)
 }

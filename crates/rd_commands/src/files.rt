@@ -1,6 +1,7 @@
 //! The files of a machine, and why it does not give one.
 
-ghost use Rattle.std.specs.Prelude.{◌↔◌, ◌≡◌, IfOk, IfSome, List, Option, ℕ};
+ghost use Rattle.std.specs.Io.KnownBytes.{Keeps};
+ghost use Rattle.std.specs.Prelude.{◌↔◌, ◌≡◌, Bool, IfOk, IfSome, IsTrue, List, OnOk, Option, true, ℕ};
 ghost use Rattle.std.specs.IoError.{error_kind};
 ghost use Rattle.std.specs.declared.io.ErrorKind.TheVariants.{OutOfMemory};
 ghost use Rattle.rd_commands.specs.Refusals.{refusal_for};
@@ -9,7 +10,7 @@ ghost use Rattle.rd_commands.specs.declared.refusal.Refusal.TheVariants as refus
 
 use crate::refusal::Refusal;
 use std::alloc::Global;
-use std::io::{self, ErrorKind};
+use std::io::{self, ErrorKind, Write};
 
 /// Why the machine does not give what the program asks it for.
 #[derive(Clone, Copy, Debug, PartialEq, Eq)]
@@ -64,6 +65,16 @@ pub trait Files {
 
     /// The bytes that it gives of the sheet at a path, if the machine shows them.
     ghost sheet_bytes: { Self → List ℕ → Option (List ℕ) };
+
+    /// Whether all that an output with these bytes has taken was flushed, as far as the machine shows it.
+    ghost flushed: { Option (List ℕ) → Bool } = { λ _. true };
+
+    /// Flushes an output, and changes nothing of its bytes.
+    ///
+    /// It fails when the flush fails.
+    fn flush<W: Write>(output: &mut W) -> Result<(), MachineFault>
+        ensures bytes { Keeps (W.contents output.old) (W.contents output.new) }
+        ensures flushed { OnOk result (IsTrue (flushed (W.contents output.new))) };
 
     /// The bytes of the file at a path. For a file that is larger than any image, the front is
     /// enough: one byte more than the largest image has. It leaves the machine as it was.

@@ -3,12 +3,13 @@
 //! They are those that `clap` makes of the command line; no contract of `clap` says which text it writes, so they stand
 //! here, and the program writes these.
 
-ghost use Rattle.std.specs.Prelude.{◌≡◌, IfErr, OnErr, OnOk, map};
+ghost use Rattle.std.specs.Prelude.{◌≡◌, IfErr, IsTrue, OnErr, OnOk, map};
 ghost use Rattle.std.specs.Io.KnownBytes.{Appends};
 ghost use Rattle.rd_commands.specs.Helps as spec;
 ghost use Rattle.rd_commands.specs.Helps.{help_for, help_named};
 ghost use Rattle.rd_commands.specs.Output.{AppendsPart};
 
+use crate::files::Files;
 use crate::output::write_whole;
 use crate::refusal::Refusal;
 use std::io::Write;
@@ -291,12 +292,13 @@ fn help_asked(words: &[&str]) -> &'static str
 /// Writes the help that words ask for, and flushes the output.
 ///
 /// It fails with `Device` when a write or the flush fails: then a front part was written.
-pub(crate) fn tell_help<W: Write>(words: &[&str], output: &mut W) -> Result<(), Refusal>
+pub(crate) fn tell_help<F: Files, W: Write>(words: &[&str], output: &mut W) -> Result<(), Refusal>
     ensures done { OnOk result (Appends (W.contents output.old) (W.contents output.new)
         (help_for (map (λ word. word.now) words.now))) }
     ensures cut { OnErr result (AppendsPart (W.contents output.old) (W.contents output.new)
         (help_for (map (λ word. word.now) words.now))) }
+    ensures flushed { OnOk result (IsTrue (F.flushed (W.contents output.new))) }
     ensures device { IfErr result (λ refused. refused ≡ Refusal.Device) }
 {
-    write_whole(output, help_asked(words).as_bytes())
+    write_whole::<F, W>(output, help_asked(words).as_bytes())
 }

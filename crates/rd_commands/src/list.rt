@@ -1,4 +1,4 @@
-ghost use Rattle.std.specs.Prelude.{◌≡◌, ◌≢◌, ◌+◌, IfErr, IfOk, IfSome, OnOk, codes, string_bytes};
+ghost use Rattle.std.specs.Prelude.{◌≡◌, ◌≢◌, ◌+◌, IfErr, IfOk, IfSome, IsTrue, OnOk, codes, string_bytes};
 ghost use Rattle.std.specs.Io.KnownBytes.{Keeps};
 ghost use Rattle.rd_geometry.specs.Kinds.{size_of};
 ghost use Rattle.rd_commands.specs.Input.{ReadsUpTo};
@@ -34,7 +34,7 @@ fn list_text(alloc: Global, kind: Kind, files: &[Found], end: End) -> Result<Str
 /// Writes the list of the files of the image of a kind with these bytes, and flushes the output.
 ///
 /// It fails with `WrongSize`, with `NoMemory`, and with `Device` when a write or the flush fails.
-fn list_image<W: Write>(
+fn list_image<M: Files, W: Write>(
     alloc: Global,
     kind: Kind,
     bytes: &[u8],
@@ -42,6 +42,7 @@ fn list_image<W: Write>(
 ) -> Result<(), Refusal>
     ensures done { OnOk result
         (Lists kind bytes.now (W.contents output.old) (W.contents output.new)) }
+    ensures flushed { OnOk result (IsTrue (M.flushed (W.contents output.new))) }
     ensures refused { IfErr result (λ refusal.
         RefusesList refusal kind bytes.now (W.contents output.old) (W.contents output.new)) }
 {
@@ -49,7 +50,7 @@ fn list_image<W: Write>(
     let files = survey(alloc, &image)?;
     let end = directory_end(alloc, &image)?;
     let text = list_text(alloc, kind, files.as_slice(), end)?;
-    write_whole(output, text.as_bytes())
+    write_whole::<M, W>(output, text.as_bytes())
 }
 
 /// Writes the list of the files of the image that the command names. It reads standard input no
@@ -80,10 +81,11 @@ pub fn list<R: Read, W: Write, M: Files>(
     ensures refused_file { ask.entry.image.now ≢ codes "-"
         → IfErr result (λ refusal. IfSome (M.file_bytes machine.old ask.entry.image.now) (λ image. RefusesList refusal
         ask.entry.kind image (W.contents output.old) (W.contents output.new))) }
+    ensures flushed { OnOk result (IsTrue (M.flushed (W.contents output.new))) }
     ensures same { machine.new ≡ machine.old }
     ensures limit { ReadsUpTo (size_of ask.entry.kind + 1)
         (R.remaining input.old) (R.remaining input.new) }
 {
     let bytes = read_image(alloc, ask.kind, ask.image, input, machine)?;
-    list_image(alloc, ask.kind, bytes.as_slice(), output)
+    list_image::<M, W>(alloc, ask.kind, bytes.as_slice(), output)
 }

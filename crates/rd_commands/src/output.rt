@@ -1,10 +1,11 @@
-ghost use Rattle.std.specs.Prelude.{◌≡◌, ◌<◌, IfErr, IfOk, OnErr, OnOk};
+ghost use Rattle.std.specs.Prelude.{◌≡◌, ◌<◌, IfErr, IfOk, IsTrue, OnErr, OnOk};
 ghost use Rattle.std.specs.Io.{WritesAtMost};
 ghost use Rattle.std.specs.Io.KnownBytes.{Appends, Keeps, WriteAppends};
 ghost use Rattle.std.specs.List.{concat};
 ghost use Rattle.rd_volume.specs.PiecesLeft.{pieces_left};
 ghost use Rattle.rd_commands.specs.Output.{AppendsPart};
 
+use crate::files::Files;
 use crate::refusal::Refusal;
 use rd_volume::Pieces;
 use std::io::{ErrorKind, Write};
@@ -65,42 +66,48 @@ fn write_each<W: Write>(output: &mut W, pieces: Pieces<'_>) -> Result<(), Refusa
     Ok(())
 }
 
-/// Flushes an output. It fails with `Device` when the flush fails.
-fn flush<W: Write>(output: &mut W) -> Result<(), Refusal>
+/// Has a machine flush an output. It fails with `Device` when the flush fails.
+fn flush<F: Files, W: Write>(output: &mut W) -> Result<(), Refusal>
     ensures bytes { Keeps (W.contents output.old) (W.contents output.new) }
+    ensures flushed { OnOk result (IsTrue (F.flushed (W.contents output.new))) }
     ensures device { IfErr result (λ refusal. refusal ≡ Refusal.Device) }
 {
-    match output.flush() {
+    match F::flush(output) {
         Ok(()) => Ok(()),
         Err(_) => Err(Refusal::Device),
     }
 }
 
-/// Writes bytes and flushes the output.
+/// Writes bytes, and has a machine flush the output.
 ///
 /// It fails with `Device` when a write fails or takes no byte, or the flush fails: then a front
 /// part was written.
-pub fn write_whole<W: Write>(output: &mut W, bytes: &[u8]) -> Result<(), Refusal>
+pub fn write_whole<F: Files, W: Write>(output: &mut W, bytes: &[u8]) -> Result<(), Refusal>
     ensures done { OnOk result (Appends (W.contents output.old) (W.contents output.new) bytes.now) }
     ensures cut { OnErr result
         (AppendsPart (W.contents output.old) (W.contents output.new) bytes.now) }
+    ensures flushed { OnOk result (IsTrue (F.flushed (W.contents output.new))) }
     ensures device { IfErr result (λ refusal. refusal ≡ Refusal.Device) }
 {
     write_bytes(output, bytes)?;
-    flush(output)
+    flush::<F, W>(output)
 }
 
-/// Writes the pieces of a file, one after another, and flushes the output.
+/// Writes the pieces of a file, one after another, and has a machine flush the output.
 ///
 /// It fails with `Device` when a write fails or takes no byte, or the flush fails: then a front
 /// part was written.
-pub(crate) fn write_pieces<W: Write>(output: &mut W, pieces: Pieces<'_>) -> Result<(), Refusal>
+pub(crate) fn write_pieces<F: Files, W: Write>(
+    output: &mut W,
+    pieces: Pieces<'_>,
+) -> Result<(), Refusal>
     ensures done { OnOk result (Appends (W.contents output.old) (W.contents output.new)
         (concat (pieces_left pieces.entry))) }
     ensures cut { OnErr result (AppendsPart (W.contents output.old) (W.contents output.new)
         (concat (pieces_left pieces.entry))) }
+    ensures flushed { OnOk result (IsTrue (F.flushed (W.contents output.new))) }
     ensures device { IfErr result (λ refusal. refusal ≡ Refusal.Device) }
 {
     write_each(output, pieces)?;
-    flush(output)
+    flush::<F, W>(output)
 }

@@ -1,6 +1,6 @@
 //! What goes to standard error: the line of a refusal, or what is wrong with the words.
 
-ghost use Rattle.std.specs.Prelude.{◌≡◌, ◌≢◌, ◌≤◌, ◌⊎◌, ◌++◌, ⊤, IfErr, IfOk, OnErr, OnOk, codes, map};
+ghost use Rattle.std.specs.Prelude.{◌≡◌, ◌≢◌, ◌≤◌, ◌⊎◌, ◌++◌, ⊤, IfErr, IfOk, IsTrue, OnErr, OnOk, codes, map};
 ghost use Rattle.std.specs.Io.KnownBytes.{Appends, Keeps};
 ghost use Rattle.std.specs.Process.{exit_status};
 ghost use Rattle.clap.specs.Values.{kind_of};
@@ -18,6 +18,7 @@ ghost use Rattle.rd_commands.specs.Versions.{RefusesVersion, version_line};
 ghost use Rattle.rd_commands.specs.declared.refusal.Refusal.TheVariants.{Device, NoMemory};
 ghost use Rattle.rd_commands.specs.declared.words.Unread.TheVariants as Unread;
 
+use crate::files::Files;
 use crate::help::tell_help;
 use crate::output::write_bytes;
 use crate::refusal::Refusal;
@@ -125,8 +126,8 @@ pub fn exit_code<E: Write>(ran: Result<u8, Refusal>, errors: &mut E) -> ExitCode
 }
 
 /// Writes the help that the words ask for, the version, what is wrong with the words, or that memory ran out, and gives
-/// the status: 0 if the words ask for help or the version and it is written, 2 if the words are no command, otherwise 3.
-pub fn tell_unread<W: Write, E: Write>(
+/// the status: 0 if the words ask for help or the version and it is written and flushed, 2 if the words are no command, otherwise 3.
+pub fn tell_unread<F: Files, W: Write, E: Write>(
     words: &[&str],
     unread: Unread,
     output: &mut W,
@@ -137,6 +138,7 @@ pub fn tell_unread<W: Write, E: Write>(
     ensures shown { result ≡ 0 → (IsHelp unread
         × Appends (W.contents output.old) (W.contents output.new) (help_for (map (λ word. word.now) words.now)))
         ⊎ (IsVersion unread × Appends (W.contents output.old) (W.contents output.new) version_line) }
+    ensures flushed { result ≡ 0 → IsTrue (F.flushed (W.contents output.new)) }
     ensures silent { result ≡ 0 → Keeps (E.contents errors.old) (E.contents errors.new) }
     ensures usage { result ≡ 2 → Keeps (W.contents output.old) (W.contents output.new) }
     ensures mistake { (error : Error) → unread ≡ Unread.Clap error → kind_of error ≢ DisplayHelp
@@ -176,8 +178,8 @@ pub fn tell_unread<W: Write, E: Write>(
         }
         Unread::Clap(error) => {
             let written = match error.kind() {
-                ErrorKind::DisplayHelp => tell_help(words, output),
-                ErrorKind::DisplayVersion => tell_version(output),
+                ErrorKind::DisplayHelp => tell_help::<F, W>(words, output),
+                ErrorKind::DisplayVersion => tell_version::<F, W>(output),
                 ErrorKind::OutOfMemory => return tell_refusal(Refusal::NoMemory, errors),
                 _ => {
                     let _ = write!(errors, "{error}");

@@ -1,4 +1,5 @@
-ghost use Rattle.std.specs.Prelude.{◌≡◌, IfOk, None, false};
+ghost use Rattle.std.specs.Io.KnownBytes.{Keeps};
+ghost use Rattle.std.specs.Prelude.{◌≡◌, IfOk, IsTrue, None, OnOk, false, true};
 ghost use Rattle.rd_messages.specs.Streams.{limits_of};
 
 use crate::places::{HostListener, at_port, at_socket};
@@ -12,7 +13,7 @@ use sqlite_std_file::OpenError;
 use std::alloc::{AllocError, Global};
 use std::fs::OpenOptions;
 use std::hash::{BuildHasher, RandomState};
-use std::io::{BufWriter, ErrorKind, Read};
+use std::io::{BufWriter, ErrorKind, Read, Write};
 use std::os::unix::fs::OpenOptionsExt;
 use std::process::ExitCode;
 use std::time::{Instant, SystemTime, UNIX_EPOCH};
@@ -164,6 +165,16 @@ impl<D: Door + Drop, P: Places<D> + Drop> Files for Host<'_, D, P> {
     ghost file_bytes = { λ _ _. None };
 
     ghost sheet_bytes = { λ _ _. None };
+
+    fn flush<W: Write>(output: &mut W) -> Result<(), MachineFault>
+        ensures bytes { Keeps (W.contents output.old) (W.contents output.new) }
+        ensures flushed { OnOk result (IsTrue true) }
+    {
+        match output.flush() {
+            Ok(()) => Ok(()),
+            Err(_) => Err(MachineFault::Failed),
+        }
+    }
 
     /// Reads at most one byte more than the largest image has, so that a huge file or a device that
     /// never ends does no harm.

@@ -6,6 +6,7 @@ use rd_http::{MemoryDoor, TimeLimits};
 use rd_program::{Files, Machine, MachineFault, Place};
 use sqlite::{Connection, MemStore};
 use std::alloc::Global;
+use std::io::Write;
 
 /// A machine with no file, no store, no clock and no door.
 #[derive(Drop)]
@@ -15,6 +16,13 @@ impl Files for Bare {
     ghost file_bytes = { λ _ _. None };
 
     ghost sheet_bytes = { λ _ _. None };
+
+    fn flush<W: Write>(output: &mut W) -> Result<(), MachineFault> {
+        match output.flush() {
+            Ok(()) => Ok(()),
+            Err(_) => Err(MachineFault::Failed),
+        }
+    }
 
     fn read_file(&mut self, _alloc: Global, _path: &str) -> Result<Vec<u8>, MachineFault> {
         Err(MachineFault::Failed)

@@ -6,6 +6,7 @@ use rd_http::{MemoryDoor, TimeLimits};
 use rd_program::{Files, Machine, MachineFault, Place};
 use sqlite::{Alter, Connection, MemStore};
 use std::alloc::Global;
+use std::io::Write;
 
 /// The path of the store of a museum.
 pub const STORE: &str = "museum.sqlite";
@@ -64,6 +65,13 @@ impl<P: Supply + Drop, S: Alter + Drop> Files for Museum<P, S> {
     ghost file_bytes = { λ _ _. None };
 
     ghost sheet_bytes = { λ _ _. None };
+
+    fn flush<W: Write>(output: &mut W) -> Result<(), MachineFault> {
+        match output.flush() {
+            Ok(()) => Ok(()),
+            Err(_) => Err(MachineFault::Failed),
+        }
+    }
 
     fn read_file(&mut self, alloc: Global, path: &str) -> Result<Vec<u8>, MachineFault> {
         self.supply.image(alloc, path)

@@ -1,5 +1,5 @@
 -- What is given of a file of the machine, by the words.
-use Rattle.std.proofs.Common.{◌≡◌, ◌≢◌, ℕ, List, Err, Ok, OnOk, Option, Result, IfSome, codes, inl, inr, subst, sym, ◌∙◌}
+use Rattle.std.proofs.Common.{◌≡◌, ◌≢◌, Bool, ℕ, List, Err, IsTrue, Ok, OnOk, Option, Result, IfSome, codes, inl, inr, subst, sym, ◌∙◌}
 use Rattle.std.specs.Prelude.{⊤}
 use Rattle.rd_geometry.specs.declared.kind.Kind.{Kind}
 use Rattle.rd_commands.specs.Asks.{IsFileAsk, IsFilesAsk}
@@ -9,7 +9,7 @@ use Rattle.rd_commands.specs.Helps.{RefusesHelp}
 use Rattle.rd_commands.specs.Listed.{Lists, RefusesList}
 use Rattle.rd_commands.specs.declared.refusal.Refusal.{Refusal}
 use Rattle.rd_commands.specs.declared.refusal.Refusal.TheVariants.{Device}
-use Rattle.rd_commands.specs.Output.{AppendsPart}
+use Rattle.rd_commands.specs.Output.{AppendsPart, IsFlushed}
 use Rattle.rd_commands.specs.RefusalLines.{Tells}
 use Rattle.rd_commands.specs.Words.{AsksOfKind}
 use Rattle.rd_commands.specs.declared.done.Done.{Done}
@@ -86,3 +86,9 @@ stands_nowhere (Err error) = tt
 pub on_ok_always : {T E : Type 0} (r : Result T E) (P : Type 0) → P → OnOk r P
 on_ok_always (Ok value) P holds = holds
 on_ok_always (Err error) P holds = tt
+
+-- what was flushed at the end was flushed
+pub flushed_once : {T E : Type 0} (flushed : Option (List ℕ) → Bool) (out written : Option (List ℕ)) (r : Result T E) → OnOk r (IsTrue (flushed written))
+    → OnOk r (IsFlushed flushed out written)
+flushed_once flushed out written (Ok value) is = inr is
+flushed_once flushed out written (Err error) is = tt

@@ -23,7 +23,7 @@ use Rattle.rd_commands.specs.Input.{ReadsUpTo}
 use Rattle.rd_commands.specs.Helps.{RefusesHelp, help_for}
 use Rattle.rd_commands.specs.Listed.{Lists, RefusesList}
 use Rattle.rd_commands.specs.Mistakes.{day_mistake, place_mistake, zone_mistake}
-use Rattle.rd_commands.specs.Output.{AppendsPart}
+use Rattle.rd_commands.specs.Output.{AppendsPart, IsFlushed}
 use Rattle.rd_commands.specs.RefusalLines.{Tells}
 use Rattle.rd_commands.specs.Serving.{Place}
 use Rattle.rd_commands.specs.Versions.{RefusesVersion, version_line}
@@ -84,11 +84,13 @@ pub record EndsByWords (words : List (List ℕ)) (result : ℕ) (out written err
 
 -- At 0 the errors get nothing. At 1 and 3 they get at most the line of a refusal with this status, and nothing at 1 if
 -- the output says which rows an `import` refused, or that a `check` found an image changed. At 1 only such a command has
--- written anything, and at 2 the output gets nothing.
-pub record WritesByStatus (words : List (List ℕ)) (result : ℕ) (out written errors told : Option (List ℕ)) : Type 0 where
+-- written anything, and at 2 the output gets nothing. At 0, and where the errors get nothing at 1, all that was written
+-- was flushed by the machine.
+pub record WritesByStatus (words : List (List ℕ)) (result : ℕ) (flushed : Option (List ℕ) → Bool) (out written errors told : Option (List ℕ)) : Type 0 where
   pub silent : result ≡ 0 → Keeps errors told
   pub names_failure : result ≡ 3 → Tells (λ _. ⊤) result errors told
-  pub names_refusal : result ≡ 1 → Tells (λ _. ⊤) result errors told ⊎ (Keeps errors told × IsTakenTelling words)
+  pub names_refusal : result ≡ 1 → Tells (λ _. ⊤) result errors told ⊎ (Keeps errors told × IsTakenTelling words × IsFlushed flushed out written)
+  pub is_flushed : result ≡ 0 → IsFlushed flushed out written
   pub refused : result ≡ 1 → Keeps out written ⊎ IsTakenTelling words
   pub usage_keeps : result ≡ 2 → Keeps out written
 

@@ -1,6 +1,6 @@
 //! Copies the desk in the file of a store to a new file.
 
-ghost use Rattle.std.specs.Prelude.{◌≡◌, IfErr, OnOk, false};
+ghost use Rattle.std.specs.Prelude.{◌≡◌, IfErr, IsTrue, OnOk, false};
 ghost use Rattle.std.specs.Io.KnownBytes.{Appends};
 ghost use Rattle.rd_store.specs.Copied.{IsCopied};
 ghost use Rattle.rd_program.specs.Copying.{AsksNew, AsksNoOtherNew, CopiesTo, IfAll, IsCopyRefusal, LeavesCopy, LeavesTarget, MakesCopy, NotCopied, RefusesCopy};
@@ -105,6 +105,7 @@ pub(crate) fn copy<W: Write, M: Machine>(
     machine: &mut M,
 ) -> Result<(), Refusal>
     ensures done { OnOk result (Appends (W.contents output.old) (W.contents output.new) done_line) }
+    ensures flushed { OnOk result (IsTrue (M.flushed (W.contents output.new))) }
     ensures refused { IfErr result (λ refusal. RefusesCopy refusal (W.contents output.old) (W.contents output.new)) }
     ensures copied { OnOk result (HasBoth (M.shows machine.old) (M.fresh machine.old ask.entry.target.now) (M.made machine.new)
         × IfAll (M.stands machine.old ask.entry.store.now) (M.left machine.new) (M.fresh machine.old ask.entry.target.now) (M.made machine.new) (MakesCopy M.Disk.Store)) }
@@ -119,5 +120,5 @@ pub(crate) fn copy<W: Write, M: Machine>(
     ensures asked_new { AsksNoOtherNew (M.new_stores machine.old) ask.entry.target.now ask.entry.has_sums (M.new_stores machine.new) }
 {
     copy_store(alloc, ask, machine)?;
-    write_whole(output, b"done\n")
+    write_whole::<M, W>(output, b"done\n")
 }

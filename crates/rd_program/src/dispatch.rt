@@ -13,6 +13,7 @@ ghost use Rattle.rd_program.specs.Inits.{LeavesInit, MakesDesk, RefusesInit, don
 ghost use Rattle.rd_commands.specs.Input.{ReadsUpTo};
 ghost use Rattle.rd_program.specs.Leaves.{GivesBack, IsDayBy, LeavesBy, LeavesRefused, NamesOpening, OnEnded, StandsThere, moment_of};
 ghost use Rattle.rd_commands.specs.Listed.{Lists, RefusesList};
+ghost use Rattle.rd_commands.specs.Output.{IsFlushed};
 ghost use Rattle.rd_commands.specs.Refusals.{status_of};
 ghost use Rattle.rd_program.specs.Rows.{ImportsBy, RefusesSheetBy};
 ghost use Rattle.rd_program.specs.Asked.{AsksBy, IsClockDueBy, IsUnaskedBy, SumsBy};
@@ -55,6 +56,7 @@ fn perform<R: Read, W: Write, M: Machine>(
     ensures kept { IfErr result (λ refusal. status_of refusal ≡ 1
         → Keeps (W.contents output.old) (W.contents output.new) ⊎ TellsInRows ask.entry) }
     ensures in_part { IfOk result (λ done. done ≡ Done.InPart → TellsOnOutput ask.entry) }
+    ensures flushed { OnOk result (IsFlushed M.flushed (W.contents output.old) (W.contents output.new)) }
     ensures done { (kind : Kind) (slot : ℕ) → IsFileAsk kind (codes "-") slot ask.entry
         → OnOk result (IfSome (R.remaining input.old) (λ image.
         Serves kind slot image (W.contents output.old) (W.contents output.new))) }
@@ -150,7 +152,7 @@ pub fn run<R: Read, W: Write, E: Write, M: Machine>(
     ensures status { result ≤ 3 }
     ensures by_words { EndsByWords (texts words.entry.now) result
         (W.contents output.old) (W.contents output.new) (E.contents errors.old) (E.contents errors.new) }
-    ensures by_status { WritesByStatus (texts words.entry.now) result
+    ensures by_status { WritesByStatus (texts words.entry.now) result M.flushed
         (W.contents output.old) (W.contents output.new) (E.contents errors.old) (E.contents errors.new) }
     ensures reads { ReadsInput (texts words.entry.now) (R.remaining input.old) (R.remaining input.new) }
     ensures keeps { KeepsMachine (texts words.entry.now) result (M.shows machine.old) (M.left machine.old) (M.left machine.new)
@@ -219,6 +221,6 @@ pub fn run<R: Read, W: Write, E: Write, M: Machine>(
             Ok(done) => done.status(),
             Err(refused) => tell_refusal(refused, errors),
         },
-        Err(unread) => tell_unread(words, unread, output, errors),
+        Err(unread) => tell_unread::<M, W, E>(words, unread, output, errors),
     }
 }

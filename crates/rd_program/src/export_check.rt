@@ -46,7 +46,7 @@ fn outcome_line(alloc: Global, acc: u32, found: Outcome) -> Result<String, Refus
 ///
 /// It fails with the refusal of the reply, with `Store` when the desk is unavailable, with
 /// `NoMemory`, and with `Device` when a write or the flush fails.
-fn check<S: Alter + Drop, W: Write>(
+fn check<S: Alter + Drop, M: Machine, W: Write>(
     alloc: Global,
     acc: u32,
     asker: Asker,
@@ -57,6 +57,7 @@ fn check<S: Alter + Drop, W: Write>(
     requires within { IsScope acc }
     ensures written { IfOk result (TellsCheck acc (W.contents output.old) (W.contents output.new)) }
     ensures refused { IfErr result (RefusesOneQuestion (W.contents output.old) (W.contents output.new)) }
+    ensures flushed { OnOk result (IsTrue (M.flushed (W.contents output.new))) }
     ensures opened { IfErr result IsOfOpenDesk }
     ensures dated { IfErr result (λ refusal. refusal ≢ Refusal.Clock) }
     ensures checks { LeavesDesk S.Store (Checks asker.badge acc (λ day. day ≡ asker.day))
@@ -72,11 +73,11 @@ fn check<S: Alter + Drop, W: Write>(
     let found = outcome_of(&answered)?;
     match found {
         Outcome::Sound => {
-            write_whole(output, sound.as_bytes())?;
+            write_whole::<M, W>(output, sound.as_bytes())?;
             Ok(Done::Whole)
         }
         Outcome::Changed => {
-            write_whole(output, changed.as_bytes())?;
+            write_whole::<M, W>(output, changed.as_bytes())?;
             Ok(Done::InPart)
         }
     }
@@ -135,6 +136,7 @@ fn tell_asked<S: Alter + Drop, W: Write, M: Machine>(
     ensures on_time { is_dated ask.now.question ≡ true → IsTrue (must_be_on_time ask.now.when.seconds ask.now.when.is_trusting)
         → OnOk result (IfSome (M.clock machine.old) (λ seconds. IsOpen S.Store desk.new.store
         → IsOnTime (day_number seconds desk.old.zone) (desk_in S.Store desk.old.store))) }
+    ensures flushed { OnOk result (IsTrue (M.flushed (W.contents output.new))) }
     ensures opened { IfErr result IsOfOpenDesk }
     ensures steps { LeavesDesk S.Store (StepsOf (option_map sha256 (option_map (λ key. key.now) ask.now.key))
         (IsDayAt (moment_of ask.now.when.seconds (M.clock machine.old)) desk.old.zone) ask.now.question) desk.old.store desk.new.store }
@@ -157,9 +159,9 @@ fn tell_asked<S: Alter + Drop, W: Write, M: Machine>(
     let badge = badge_of(ask.key);
     let asker = Asker { badge, day };
     match ask.question {
-        Question::Catalogue => show(alloc, What::Catalogue, asker, desk, output),
-        Question::Check(acc) => check(alloc, acc, asker, desk, output),
-        Question::Show(shown) => show(alloc, what_of(shown), asker, desk, output),
+        Question::Catalogue => show::<S, M, W>(alloc, What::Catalogue, asker, desk, output),
+        Question::Check(acc) => check::<S, M, W>(alloc, acc, asker, desk, output),
+        Question::Show(shown) => show::<S, M, W>(alloc, what_of(shown), asker, desk, output),
     }
 }
 
@@ -182,6 +184,7 @@ pub(crate) fn ask_once<W: Write, M: Machine>(
     ensures steps { Leaves (M.left machine.old) (M.stands machine.old ask.entry.store.now) (M.left machine.new)
         (LeavesStore M.Disk.Store (StepsOf (option_map sha256 (option_map (λ key. key.now) ask.entry.key))
         (IsDayAt (moment_of ask.entry.when.seconds (M.clock machine.old)) ask.entry.when.zone) ask.entry.question)) }
+    ensures flushed { OnOk result (IsTrue (M.flushed (W.contents output.new))) }
     ensures unasked { IsUnasked (moment_of ask.entry.when.seconds (M.clock machine.old)) result }
     ensures back { GivesBack (M.shows machine.old) (M.left machine.old) (M.left machine.new) }
     ensures there { OnEnded result (HasBoth (M.shows machine.old) (M.stands machine.old ask.entry.store.now) (M.left machine.new)) }

@@ -17,7 +17,7 @@ ghost use Rattle.rd_program.specs.Serving.{IsDayless, IsUnasked};
 ghost use Rattle.rd_program.specs.Showing.{EndsWith};
 ghost use Rattle.rd_program.specs.Importing.{RefusesImport, RefusesRow, RefusesRows, TellsAnswer, TellsRow, TellsRows, bad_row_line, accession_line};
 ghost use Rattle.rd_program.specs.Leaves.{GivesBack, HasBoth, IsDayAt, IsOfOpenDesk, Leaves, LeavesDesk, LeavesStore, NamesOpening, OnEnded, TakesFields, TakesIn, TakesRow, moment_of};
-ghost use Rattle.rd_commands.specs.Output.{AppendsPart};
+ghost use Rattle.rd_commands.specs.Output.{AppendsPart, IsFlushed};
 ghost use Rattle.rd_commands.specs.Refusals.{IsDeviceOrMemory};
 ghost use Rattle.rd_commands.specs.Sheets.{IsWithin};
 
@@ -70,7 +70,7 @@ fn put_image<S: Alter + Drop>(
 /// Writes the line of an accession, which says in a word what became of its row, and flushes the output.
 ///
 /// It fails with `NoMemory`, and with `Device` when a write or the flush fails.
-fn tell_accession<W: Write>(
+fn tell_accession<M: Machine, W: Write>(
     alloc: Global,
     acc: u32,
     word: &str,
@@ -78,24 +78,30 @@ fn tell_accession<W: Write>(
 ) -> Result<(), Refusal>
     ensures done { OnOk result (Appends (W.contents output.old) (W.contents output.new) (accession_line acc word.now)) }
     ensures cut { OnErr result (AppendsPart (W.contents output.old) (W.contents output.new) (accession_line acc word.now)) }
+    ensures flushed { OnOk result (IsTrue (M.flushed (W.contents output.new))) }
     ensures refused { IfErr result IsDeviceOrMemory }
 {
     let mut line = String::new(alloc);
     write!(line, "{acc} {word}\n")?;
-    write_whole(output, line.as_bytes())
+    write_whole::<M, W>(output, line.as_bytes())
 }
 
 /// Writes a line that says that a row is bad, and flushes the output. Rows are counted from 1.
 ///
 /// It fails with `NoMemory`, and with `Device` when a write or the flush fails.
-fn tell_bad_row<W: Write>(alloc: Global, number: u64, output: &mut W) -> Result<(), Refusal>
+fn tell_bad_row<M: Machine, W: Write>(
+    alloc: Global,
+    number: u64,
+    output: &mut W,
+) -> Result<(), Refusal>
     ensures done { OnOk result (Appends (W.contents output.old) (W.contents output.new) (bad_row_line number)) }
     ensures cut { OnErr result (AppendsPart (W.contents output.old) (W.contents output.new) (bad_row_line number)) }
+    ensures flushed { OnOk result (IsTrue (M.flushed (W.contents output.new))) }
     ensures refused { IfErr result IsDeviceOrMemory }
 {
     let mut line = String::new(alloc);
     write!(line, "row {number} bad-row\n")?;
-    write_whole(output, line.as_bytes())
+    write_whole::<M, W>(output, line.as_bytes())
 }
 
 /// What the line of an accession says of a desk's answer: that it is done, or the name of the refusal.
@@ -121,19 +127,20 @@ fn done_by(answer: &Response) -> Done
 /// Writes a line with what a desk answers about an accession.
 ///
 /// It fails with `Store` when there is no answer, with `NoMemory`, and with `Device` when a write or the flush fails.
-fn tell_answer<W: Write>(
+fn tell_answer<M: Machine, W: Write>(
     alloc: Global,
     acc: u32,
     answer: Result<Response, Unavailable>,
     output: &mut W,
 ) -> Result<Done, Refusal>
     ensures written { IfOk result (TellsAnswer acc answer (W.contents output.old) (W.contents output.new)) }
+    ensures flushed { OnOk result (IsTrue (M.flushed (W.contents output.new))) }
     ensures refused { IfErr result (RefusesRow (W.contents output.old) (W.contents output.new)) }
 {
     let Ok(answer) = answer else {
         return Err(Refusal::Store);
     };
-    tell_accession(alloc, acc, word_of(&answer), output)?;
+    tell_accession::<M, W>(alloc, acc, word_of(&answer), output)?;
     Ok(done_by(&answer))
 }
 
@@ -159,6 +166,7 @@ fn import_row<W: Write, M: Machine>(
         (λ line. TakesImage (M.file_bytes machine.old) giver.badge giver.day row.entry line done)
         (W.contents output.old) (W.contents output.new) desk.old.store desk.new.store) }
     ensures written { IfOk result (TellsRow (W.contents output.old) (W.contents output.new)) }
+    ensures flushed { OnOk result (IsTrue (M.flushed (W.contents output.new))) }
     ensures refused { IfErr result (RefusesRow (W.contents output.old) (W.contents output.new)) }
 {
     let bytes = match machine.read_file(alloc, row.file) {
@@ -166,7 +174,7 @@ fn import_row<W: Write, M: Machine>(
         Err(fault) => return Err(fault.or(Refusal::Device)),
     };
     let answer = put_image(alloc, row, bytes, giver, desk);
-    tell_answer(alloc, row.acc, answer, output)
+    tell_answer::<M, W>(alloc, row.acc, answer, output)
 }
 
 /// Takes in the image of the row with these fields, and writes a line that says what became of it,
@@ -191,12 +199,13 @@ fn import_fields<W: Write, M: Machine>(
         (λ line. IsRowTaken (M.file_bytes machine.old) giver.badge giver.day number (fields_of fields.now) line done)
         (W.contents output.old) (W.contents output.new) desk.old.store desk.new.store) }
     ensures written { IfOk result (TellsRow (W.contents output.old) (W.contents output.new)) }
+    ensures flushed { OnOk result (IsTrue (M.flushed (W.contents output.new))) }
     ensures refused { IfErr result (RefusesRow (W.contents output.old) (W.contents output.new)) }
 {
     match row_of(fields) {
         Some(row) => import_row(alloc, row, giver, desk, output, machine),
         None => {
-            tell_bad_row(alloc, number, output)?;
+            tell_bad_row::<M, W>(alloc, number, output)?;
             Ok(Done::InPart)
         }
     }
@@ -217,6 +226,7 @@ fn import_rows<W: Write, M: Machine>(
 ) -> Result<Done, Refusal>
     requires day { IsDay giver.day }
     ensures written { IfOk result (TellsRows (W.contents output.old) (W.contents output.new)) }
+    ensures flushed { OnOk result (IsFlushed M.flushed (W.contents output.old) (W.contents output.new)) }
     ensures refused { IfErr result (RefusesRows (W.contents output.old) (W.contents output.new)) }
     ensures bad_sheet { IfErr result (IsBadSheetDue sheet.now) }
     ensures takes { LeavesDesk M.Disk.Store (TakesIn giver.badge (λ day. day ≡ giver.day))
@@ -258,6 +268,7 @@ fn import_sheet<W: Write, M: Machine>(
     machine: &mut M,
 ) -> Result<Done, Refusal>
     ensures written { IfOk result (TellsRows (W.contents output.old) (W.contents output.new)) }
+    ensures flushed { OnOk result (IsFlushed M.flushed (W.contents output.old) (W.contents output.new)) }
     ensures refused { IfErr result (RefusesImport (W.contents output.old) (W.contents output.new)) }
     ensures dayless { IsDayless (moment_of ask.entry.when.seconds (M.clock machine.old)) result }
     ensures clock { IfErr result (IsClockOn M.Disk.Store true ask.entry.when.seconds desk.old.store desk.new.store) }
@@ -299,6 +310,7 @@ pub(crate) fn import<W: Write, M: Machine>(
     machine: &mut M,
 ) -> Result<Done, Refusal>
     ensures written { IfOk result (TellsRows (W.contents output.old) (W.contents output.new)) }
+    ensures flushed { OnOk result (IsFlushed M.flushed (W.contents output.old) (W.contents output.new)) }
     ensures refused { IfErr result (RefusesImport (W.contents output.old) (W.contents output.new)) }
     ensures takes { Leaves (M.left machine.old) (M.stands machine.old ask.entry.store.now) (M.left machine.new)
         (LeavesStore M.Disk.Store (TakesIn (sha256 ask.entry.key.now)

@@ -1,4 +1,4 @@
-ghost use Rattle.std.specs.Prelude.{◌≡◌, IfErr, OnOk, false};
+ghost use Rattle.std.specs.Prelude.{◌≡◌, IfErr, IsTrue, OnOk, false};
 ghost use Rattle.std.specs.Io.KnownBytes.{Appends};
 ghost use Rattle.sha2.specs.Sha256.{sha256};
 ghost use Rattle.rd_store.specs.Created.{IsCreated};
@@ -62,6 +62,7 @@ pub(crate) fn init<W: Write, M: Machine>(
     machine: &mut M,
 ) -> Result<(), Refusal>
     ensures done { OnOk result (Appends (W.contents output.old) (W.contents output.new) done_line) }
+    ensures flushed { OnOk result (IsTrue (M.flushed (W.contents output.new))) }
     ensures refused { IfErr result (λ refusal.
         RefusesInit refusal (W.contents output.old) (W.contents output.new)) }
     ensures made { OnOk result
@@ -74,5 +75,5 @@ pub(crate) fn init<W: Write, M: Machine>(
     ensures sums { AsksSums (M.sums machine.old) ask.entry.has_sums (M.sums machine.new) }
 {
     make_desk(ask, machine)?;
-    write_whole(output, b"done\n")
+    write_whole::<M, W>(output, b"done\n")
 }

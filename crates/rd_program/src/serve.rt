@@ -50,26 +50,35 @@ fn place_line(alloc: Global, place: Place) -> Result<String, AllocError>
 /// Writes where visits come, and flushes the output.
 ///
 /// It fails with `NoMemory`, and with `Device` when a write or the flush fails.
-fn tell_listening<W: Write>(alloc: Global, place: Place, output: &mut W) -> Result<(), Refusal>
+fn tell_listening<M: Machine, W: Write>(
+    alloc: Global,
+    place: Place,
+    output: &mut W,
+) -> Result<(), Refusal>
     ensures done { OnOk result (Appends (W.contents output.old) (W.contents output.new) (listening_at (place_of place.entry))) }
     ensures cut { OnErr result (AppendsPart (W.contents output.old) (W.contents output.new) (listening_at (place_of place.entry))) }
     ensures refused { IfErr result IsDeviceOrMemory }
 {
     let line = place_line(alloc, place)?;
-    write_whole(output, line.as_bytes())
+    write_whole::<M, W>(output, line.as_bytes())
 }
 
 /// Writes how many visits it served, and flushes the output.
 ///
 /// It fails with `NoMemory`, and with `Device` when a write or the flush fails.
-fn tell_served<W: Write>(alloc: Global, count: u32, output: &mut W) -> Result<(), Refusal>
+fn tell_served<M: Machine, W: Write>(
+    alloc: Global,
+    count: u32,
+    output: &mut W,
+) -> Result<(), Refusal>
     ensures done { OnOk result (Appends (W.contents output.old) (W.contents output.new) (served_line count)) }
     ensures cut { OnErr result (AppendsPart (W.contents output.old) (W.contents output.new) (served_line count)) }
+    ensures flushed { OnOk result (IsTrue (M.flushed (W.contents output.new))) }
     ensures refused { IfErr result IsDeviceOrMemory }
 {
     let mut line = String::new(alloc);
     write!(line, "served {count}\n")?;
-    write_whole(output, line.as_bytes())
+    write_whole::<M, W>(output, line.as_bytes())
 }
 
 /// How long a visitor may take, from so many seconds.
@@ -126,7 +135,7 @@ fn serve_visits<W: Write, M: Machine>(
         Ok(door) => door,
         Err(fault) => return Err(fault.or(Refusal::Device)),
     };
-    tell_listening(alloc, ask.place, output)?;
+    tell_listening::<M, W>(alloc, ask.place, output)?;
     if is_late(shown, desk) {
         return Ok(none_served());
     }
@@ -137,13 +146,18 @@ fn serve_visits<W: Write, M: Machine>(
 ///
 /// It fails with `Clock` when a moment has no day or the clock is behind, with `Device` when the door shuts
 /// or a write fails, and with `NoMemory`.
-fn tell_ended<W: Write>(alloc: Global, served: Served, output: &mut W) -> Result<(), Refusal>
+fn tell_ended<M: Machine, W: Write>(
+    alloc: Global,
+    served: Served,
+    output: &mut W,
+) -> Result<(), Refusal>
     ensures done { OnOk result (Appends (W.contents output.old) (W.contents output.new) (served_line served.visits)) }
     ensures count { OnOk result (served.ended ≡ Ended.Count) }
+    ensures flushed { OnOk result (IsTrue (M.flushed (W.contents output.new))) }
     ensures refused { IfErr result (RefusesToEnd served.ended served.visits (W.contents output.old) (W.contents output.new)) }
 {
     match served.ended {
-        Ended::Count => tell_served(alloc, served.visits, output),
+        Ended::Count => tell_served::<M, W>(alloc, served.visits, output),
         Ended::Clock => Err(Refusal::Clock),
         Ended::Shut => Err(Refusal::Device),
     }
@@ -172,6 +186,7 @@ pub(crate) fn serve<W: Write, M: Machine>(
         (M.stands machine.old ask.entry.store.now) (M.left machine.new)) }
     ensures limits { OnOk result (IsTrue (M.shows machine.old) → IsSomeAnd (M.door_limits machine.new) (AreLimitsOf ask.entry.timeouts)) }
     ensures lent { WritesOnceLent (M.shows machine.old) (M.door_limits machine.new) (W.contents output.old) (W.contents output.new) }
+    ensures flushed { OnOk result (IsTrue (M.flushed (W.contents output.new))) }
     ensures back { GivesBack (M.shows machine.old) (M.left machine.old) (M.left machine.new) }
     ensures there { OnEnded result (HasBoth (M.shows machine.old) (M.stands machine.old ask.entry.store.now) (M.left machine.new)) }
     ensures asked { AsksPath (M.paths machine.old) ask.entry.store.now (M.paths machine.new) }
@@ -179,5 +194,5 @@ pub(crate) fn serve<W: Write, M: Machine>(
     let mut desk = open_desk(alloc, ask.store, ask.zone, machine)?;
     let served = serve_visits(alloc, ask, &mut desk, output, machine);
     machine.release(&mut Some(desk.into_store().into_connection()));
-    tell_ended(alloc, served?, output)
+    tell_ended::<M, W>(alloc, served?, output)
 }

@@ -1,6 +1,6 @@
 //! Shows what stands in a desk: the catalogue, and what the staff asks to see.
 
-ghost use Rattle.std.specs.Prelude.{◌≡◌, ◌≢◌, ◌⊎◌, IfErr, IfOk, IsSome, OnOk};
+ghost use Rattle.std.specs.Prelude.{◌≡◌, ◌≢◌, ◌⊎◌, IfErr, IfOk, IsSome, IsTrue, OnOk};
 ghost use Rattle.std.specs.Io.KnownBytes.{Appends};
 ghost use Rattle.rd_policy.specs.Days.{IsDay};
 ghost use Rattle.rd_protocol.specs.Requests.{IsForStaff, IsRequest};
@@ -13,6 +13,7 @@ ghost use Rattle.rd_program.specs.Showing.{IsDueOn, IsToShow, OfDesk, RefusesSho
 
 use crate::answers::answer_to_show;
 use crate::asker::{Asker, answer_of};
+use crate::machine::Machine;
 use rd_commands::{Done, Refusal, Shown, write_whole};
 use rd_desk::{Body, Desk, Form, Reply, What, reply_to};
 use sqlite::Alter;
@@ -48,23 +49,28 @@ fn bytes_of(alloc: Global, body: &Body) -> Result<Vec<u8>, AllocError>
 /// Writes the body of a reply, and a line feed after it if it is JSON, and flushes the output.
 ///
 /// It fails with `NoMemory`, and with `Device` when a write or the flush fails.
-fn write_shown<W: Write>(alloc: Global, reply: &Reply, output: &mut W) -> Result<(), Refusal>
+fn write_shown<M: Machine, W: Write>(
+    alloc: Global,
+    reply: &Reply,
+    output: &mut W,
+) -> Result<(), Refusal>
     ensures done { OnOk result (Appends (W.contents output.old) (W.contents output.new) (shown_text reply.now)) }
     ensures refused { IfErr result (RefusesOneQuestion (W.contents output.old) (W.contents output.new)) }
     ensures device { IfErr result IsDeviceOrMemory }
+    ensures flushed { OnOk result (IsTrue (M.flushed (W.contents output.new))) }
 {
     let mut bytes = bytes_of(alloc, &reply.body)?;
     if reply.form == Form::Json {
         bytes.extend_from_slice(b"\n")?;
     }
-    write_whole(output, bytes.as_slice())
+    write_whole::<M, W>(output, bytes.as_slice())
 }
 
 /// Writes what is asked to be shown. It changes nothing.
 ///
 /// It fails with the refusal of the caller, with `Store` when the desk is unavailable, and as
 /// `write_shown` does.
-pub(crate) fn show<S: Alter + Drop, W: Write>(
+pub(crate) fn show<S: Alter + Drop, M: Machine, W: Write>(
     alloc: Global,
     what: What,
     asker: Asker,
@@ -84,10 +90,11 @@ pub(crate) fn show<S: Alter + Drop, W: Write>(
     ensures opened { IfErr result IsOfOpenDesk }
     ensures dated { IfErr result (λ refusal. refusal ≢ Refusal.Clock) }
     ensures same { LeavesDesk S.Store IsSame desk.old.store desk.new.store }
+    ensures flushed { OnOk result (IsTrue (M.flushed (W.contents output.new))) }
 {
     let answered = answer_of(alloc, what, asker, desk);
     let answer = answer_to_show(answered)?;
     let reply = reply_to(alloc, answer)?;
-    write_shown(alloc, &reply, output)?;
+    write_shown::<M, W>(alloc, &reply, output)?;
     Ok(Done::Whole)
 }

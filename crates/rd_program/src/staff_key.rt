@@ -1,6 +1,6 @@
 //! Puts a key of the staff in a desk that stands, for whoever may write the file of its store.
 
-ghost use Rattle.std.specs.Prelude.{◌≡◌, IfErr, OnOk};
+ghost use Rattle.std.specs.Prelude.{◌≡◌, IfErr, IsTrue, OnOk};
 ghost use Rattle.std.specs.Io.KnownBytes.{Appends};
 ghost use Rattle.sha2.specs.Sha256.{sha256};
 ghost use Rattle.rd_holdings.specs.State.{with_key};
@@ -77,6 +77,7 @@ pub(crate) fn staff_key<W: Write, M: Machine>(
     machine: &mut M,
 ) -> Result<(), Refusal>
     ensures done { OnOk result (Appends (W.contents output.old) (W.contents output.new) done_line) }
+    ensures flushed { OnOk result (IsTrue (M.flushed (W.contents output.new))) }
     ensures refused { IfErr result (λ refusal.
         RefusesStaffKey refusal (W.contents output.old) (W.contents output.new)) }
     ensures put { OnOk result
@@ -89,5 +90,5 @@ pub(crate) fn staff_key<W: Write, M: Machine>(
     ensures asked { AsksPath (M.paths machine.old) ask.entry.store.now (M.paths machine.new) }
 {
     put_in_store(alloc, ask, machine)?;
-    write_whole(output, b"done\n")
+    write_whole::<M, W>(output, b"done\n")
 }

@@ -15,7 +15,7 @@ use Rattle.rd_program.specs.Copying.{CopiesBy}
 use Rattle.rd_program.proofs.CopyLemmas.{copy_done, copy_kept, copy_never}
 use Rattle.rd_program.proofs.StaffKeyLemmas.{at_err_all, left_unput_as, opens_as, put_as, staff_key_never, staff_key_not_1}
 use Rattle.rd_program.proofs.LeftStoresByWords.{no_refusal}
-use Rattle.rd_program.proofs.FileLemmas.{stands_nowhere}
+use Rattle.rd_program.proofs.FileLemmas.{flushed_once, stands_nowhere}
 use Rattle.rd_commands.proofs.RunLemmas.{as_asked}
 use Rattle.std.specs.Prelude.{IsSome}
 use Rattle.rd_program.specs.DiskFiles.{GivesFile, IsOfImage}
@@ -1043,3 +1043,43 @@ pub returns-in-Copy-clause-late : goal.returns-in-Copy-clause-late
 returns-in-Copy-clause-late g c =
     subst (λ ask. IfErr c.whole-in-Copy.result (IsBehindBy g.M.Disk.Store (g.M.Machine.clock c.args.machine.now) (g.M.Machine.stands c.args.machine.now) (g.M.Machine.left c.copy.new.machine) ask))
     (sym c.in-Copy.is) (no_refusal c.whole-in-Copy.result)
+
+-- ---- what was flushed
+
+pub returns-in-File-clause-flushed : goal.returns-in-File-clause-flushed
+returns-in-File-clause-flushed g c =
+    ok_whole _ c.cat.result c.whole.result c.whole.ensures
+    (flushed_once g.M.Files.flushed (g.W.Write.contents c.args.output.now) (g.W.Write.contents c.cat.new.output) c.cat.result c.cat.ensures.flushed)
+
+pub returns-in-Files-clause-flushed : goal.returns-in-Files-clause-flushed
+returns-in-Files-clause-flushed g c =
+    ok_whole _ c.list.result c.whole-in-Files.result c.whole-in-Files.ensures
+    (flushed_once g.M.Files.flushed (g.W.Write.contents c.args.output.now) (g.W.Write.contents c.list.new.output) c.list.result c.list.ensures.flushed)
+
+pub returns-in-Init-clause-flushed : goal.returns-in-Init-clause-flushed
+returns-in-Init-clause-flushed g c =
+    ok_whole _ c.init.result c.whole-in-Init.result c.whole-in-Init.ensures
+    (flushed_once g.M.Files.flushed (g.W.Write.contents c.args.output.now) (g.W.Write.contents c.init.new.output) c.init.result c.init.ensures.flushed)
+
+pub returns-in-Serve-clause-flushed : goal.returns-in-Serve-clause-flushed
+returns-in-Serve-clause-flushed g c =
+    ok_whole _ c.serve.result c.whole-in-Serve.result c.whole-in-Serve.ensures
+    (flushed_once g.M.Files.flushed (g.W.Write.contents c.args.output.now) (g.W.Write.contents c.serve.new.output) c.serve.result c.serve.ensures.flushed)
+
+pub returns-in-Import-clause-flushed : goal.returns-in-Import-clause-flushed
+returns-in-Import-clause-flushed g c =
+    c.import.ensures.flushed
+
+pub returns-in-OneQuestion-clause-flushed : goal.returns-in-OneQuestion-clause-flushed
+returns-in-OneQuestion-clause-flushed g c =
+    flushed_once g.M.Files.flushed (g.W.Write.contents c.args.output.now) (g.W.Write.contents c.ask_once.new.output) c.ask_once.result c.ask_once.ensures.flushed
+
+pub returns-in-StaffKey-clause-flushed : goal.returns-in-StaffKey-clause-flushed
+returns-in-StaffKey-clause-flushed g c =
+    ok_whole _ c.staff_key.result c.whole-in-StaffKey.result c.whole-in-StaffKey.ensures
+    (flushed_once g.M.Files.flushed (g.W.Write.contents c.args.output.now) (g.W.Write.contents c.staff_key.new.output) c.staff_key.result c.staff_key.ensures.flushed)
+
+pub returns-in-Copy-clause-flushed : goal.returns-in-Copy-clause-flushed
+returns-in-Copy-clause-flushed g c =
+    ok_whole _ c.copy.result c.whole-in-Copy.result c.whole-in-Copy.ensures
+    (flushed_once g.M.Files.flushed (g.W.Write.contents c.args.output.now) (g.W.Write.contents c.copy.new.output) c.copy.result c.copy.ensures.flushed)

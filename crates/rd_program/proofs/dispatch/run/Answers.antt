@@ -136,7 +136,8 @@ returns-in-Ok-perform-clause-by_status g c = record {
   silent = λ zero. Keeps-refl _;
   names_failure = λ three. absurd (omega (arith, c.status.ensures.most, three));
   names_refusal = λ one.
-      inr (Keeps-refl _, c.in-Ok.ensures.written_on_output (c.in-Ok-perform.ensures.in_part (c.status.ensures.in_part (one_is_some one))));
+      inr (Keeps-refl _, c.in-Ok.ensures.written_on_output (c.in-Ok-perform.ensures.in_part (c.status.ensures.in_part (one_is_some one))), c.in-Ok-perform.ensures.flushed);
+  is_flushed = λ zero. c.in-Ok-perform.ensures.flushed;
   refused = λ one.
       inr (c.in-Ok.ensures.written_on_output (c.in-Ok-perform.ensures.in_part (c.status.ensures.in_part (one_is_some one))));
   usage_keeps = λ two. absurd (omega (arith, c.status.ensures.most, two));
@@ -148,6 +149,7 @@ returns-in-Err-perform-clause-by_status g c = record {
   names_failure = λ three. tells (λ _. ⊤) c.in-Err-perform.refused _ _ _ tt c.tell_refusal.ensures.status c.tell_refusal.ensures.written;
   names_refusal = λ one.
       inl (tells (λ _. ⊤) c.in-Err-perform.refused _ _ _ tt c.tell_refusal.ensures.status c.tell_refusal.ensures.written);
+  is_flushed = λ zero. absurd (not_done c.in-Err-perform.refused (sym c.tell_refusal.ensures.status ∙ zero));
   refused = λ one.
       elim (c.in-Err-perform.ensures.kept (sym c.tell_refusal.ensures.status ∙ one)) [
         | inl kept ↦ inl kept
@@ -162,6 +164,7 @@ returns-in-Err-clause-by_status g c = record {
   names_failure = λ three.
       subst (λ s. Tells (λ _. ⊤) s (g.E.Write.contents c.args.errors.now) (g.E.Write.contents c.tell_unread.new.errors)) (sym three) (c.tell_unread.ensures.written three);
   names_refusal = λ one. absurd (c.tell_unread.ensures.not_refused one);
+  is_flushed = λ zero. inr (c.tell_unread.ensures.flushed zero);
   refused = λ one. absurd (c.tell_unread.ensures.not_refused one);
   usage_keeps = c.tell_unread.ensures.usage;
 }

@@ -1,4 +1,5 @@
 use Rattle.std.proofs.Common.{◌+◌, inl, inr, refl, rules, subst, sym, ◌∙◌}
+use Rattle.std.proofs.KnownBytes.{Keeps-refl}
 use Rattle.csv.specs.Records.{fields_of}
 use Rattle.rd_program.specs.Importing.{IsDoneLine, TellsRows}
 use Rattle.rd_commands.specs.declared.done.Done.TheVariants.{Whole}
@@ -26,6 +27,7 @@ pub loop-number-preserved : goal.loop-number-preserved
 loop-number-preserved g c = record {
   written = subst (TellsRows (g.W.Write.contents c.args.output.now) (g.W.Write.contents c.import_fields.new.output)) (sym c.and-done.ensures)
       (rows_more c.loop-number.done c.in_ok-row.row _ _ _ c.loop-number.invariant.written c.in_ok-row.ensures.written);
+  flushed = inr c.in_ok-row.ensures.flushed;
   same = c.import_fields.ensures.same ∙ c.loop-number.invariant.same;
   zone = c.import_fields.ensures.zone ∙ c.loop-number.invariant.zone;
   rows = subst (λ d. RowsSoFar g.M.Disk.Store (g.M.Files.file_bytes c.args.machine.now) c.args.giver.badge c.args.giver.day c.args.sheet.now (g.W.Write.contents c.args.output.now)
@@ -43,6 +45,7 @@ loop-number-preserved g c = record {
 pub loop-number-init : goal.loop-number-init
 loop-number-init g c = record {
   written = search rules;
+  flushed = inl (Keeps-refl _);
   same = search rules;
   zone = search rules;
   rows = before_rows g.M.Disk.Store (g.M.Files.file_bytes c.args.machine.now) c.args.giver.badge c.args.giver.day c.args.sheet.now (g.W.Write.contents c.args.output.now) c.args.desk.now.store

@@ -1,4 +1,5 @@
 use Rattle.std.proofs.Common.{◌≡◌}
+use Rattle.rd_commands.specs.Output.{IsFlushed}
 use Rattle.rd_program.specs.Importing.{TellsRows}
 use Rattle.rd_program.specs.Leaves.{LeavesDesk, TakesIn}
 use Rattle.rd_program.proofs.RowLemmas.{RowsSoFar}
@@ -7,6 +8,7 @@ use Rattle.rd_program.proofs.import.import_rows.Given as goal
 abbrev pub invariant-loop-number : goal.invariant-loop-number
 invariant-loop-number g l = record {
   written : TellsRows (g.W.Write.contents l.fn.output) (g.W.Write.contents l.output) l.done;
+  flushed : IsFlushed g.M.Files.flushed (g.W.Write.contents l.fn.output) (g.W.Write.contents l.output);
   same : l.machine ≡ l.fn.machine;
   zone : l.desk.zone ≡ l.fn.desk.zone;
   rows : RowsSoFar g.M.Disk.Store (g.M.Files.file_bytes l.fn.machine) l.giver.badge l.giver.day l.sheet (g.W.Write.contents l.fn.output) (g.W.Write.contents l.output)
