@@ -10,6 +10,7 @@ use rd_desk::Desk;
 use rd_fakes::desk::{into_connection, into_store, made, migrate};
 use rd_policy::Audience;
 use rd_samples::rules::{CLOSED, OPEN, TAKEDOWN};
+use rd_store::Store;
 use sqlite::{Alter, Connection, Error};
 use std::alloc::Global;
 
@@ -265,6 +266,12 @@ fn first_version(alloc: Global) -> Result<Pair> {
     let desk = copied_desk(alloc, &[NEW_DESK, LAST_RULE, FIRST_IMAGE, MORE_IMAGES])?;
     let first = copied(after_statements(alloc, &desk, TO_VERSION_1)?)?;
     logged(after_statements(alloc, &first, THIRD_DEED)?)
+}
+
+/// The store of the desk with an image, a takedown of it, and another key of the staff, in files at which nothing stops.
+pub(crate) fn standing_store(alloc: Global) -> Result<Store<FilesStore>> {
+    let files = with_takedown(alloc)?;
+    Ok(into_store(standing_desk(alloc, &files)?))
 }
 
 pub(crate) fn files_of(alloc: Global, base: Base) -> Result<Pair> {

@@ -11,6 +11,7 @@
 mod bases;
 mod bytes;
 mod commands;
+mod copies;
 mod desk;
 mod drive;
 mod files;

@@ -1,6 +1,8 @@
 //! Carries out what a run does, and closes the files.
 
+use crate::bases::standing_store;
 use crate::commands::Command;
+use crate::copies::copy;
 use crate::desk::{desk_of, status_of, words_of_create, words_of_open};
 use crate::files::{Drives, FilesStore, close, connect, into_files, options, pages_of};
 use crate::museum::{Written, accession_of, import, put_staff_key};
@@ -112,6 +114,30 @@ fn run_create<S: Alter + Drop>(alloc: Global, conn: Connection<S>) -> Result<Act
 /// Asks for a desk where one stands.
 fn run_second<S: Alter + Drop>(alloc: Global, conn: Connection<S>) -> Result<Acted<S>> {
     match create(conn) {
+        Ok(store) => ended(alloc, Ending::Other, 1, "done", into_connection(store)),
+        Err((fault, conn)) => {
+            let (ending, words) = (no_second(fault), words_of_create(fault));
+            ended(alloc, ending, 0, words, conn)
+        }
+    }
+}
+
+/// Copies a desk from other files, at which nothing stops.
+fn run_copy(alloc: Global, conn: Connection<FilesStore>) -> Result<Acted<FilesStore>> {
+    let mut from = standing_store(alloc)?;
+    match copy(alloc, &mut from, conn) {
+        Ok(store) => ended(alloc, Ending::Done, 1, "done", into_connection(store)),
+        Err((fault, conn)) => {
+            let (ending, words) = (not_created(fault), words_of_create(fault));
+            ended(alloc, ending, 0, words, conn)
+        }
+    }
+}
+
+/// Copies a desk from other files to where one stands.
+fn run_copy_to_desk(alloc: Global, conn: Connection<FilesStore>) -> Result<Acted<FilesStore>> {
+    let mut from = standing_store(alloc)?;
+    match copy(alloc, &mut from, conn) {
         Ok(store) => ended(alloc, Ending::Other, 1, "done", into_connection(store)),
         Err((fault, conn)) => {
             let (ending, words) = (no_second(fault), words_of_create(fault));
@@ -335,9 +361,11 @@ fn run_staff_key<S: Alter + Drop>(alloc: Global, conn: Connection<S>) -> Result<
 }
 
 /// Does what an action says.
-fn act<S: Alter + Drop>(alloc: Global, action: Action, conn: Connection<S>) -> Result<Acted<S>> {
+fn act(alloc: Global, action: Action, conn: Connection<FilesStore>) -> Result<Acted<FilesStore>> {
     match action {
         Action::Create | Action::CreateWithSums => run_create(alloc, conn),
+        Action::Copy => run_copy(alloc, conn),
+        Action::CopyToDesk => run_copy_to_desk(alloc, conn),
         Action::CreateSecond => run_second(alloc, conn),
         Action::Migrate => run_migrate(alloc, conn),
         Action::Ask(commands) => run_commands(alloc, conn, commands),

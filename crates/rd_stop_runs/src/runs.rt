@@ -15,6 +15,11 @@ pub(crate) enum Action {
     Create,
     /// Makes a desk each of whose pages ends in a sum.
     CreateWithSums,
+    /// Makes a desk with an image, a takedown of it, two keys of the staff and one of the room: a copy of one that stands in
+    /// other files.
+    Copy,
+    /// The same where a desk stands.
+    CopyToDesk,
     /// Asks for a desk where one stands.
     CreateSecond,
     /// Brings a desk to the newest version.
@@ -35,9 +40,10 @@ impl Action {
         match self {
             Action::Import(rows) => rows,
             Action::Ask(commands) => commands.len(),
-            Action::CreateSecond => 0,
+            Action::CreateSecond | Action::CopyToDesk => 0,
             Action::Create
             | Action::CreateWithSums
+            | Action::Copy
             | Action::Migrate
             | Action::AskAsOne(_)
             | Action::PutStaffKey => 1,
@@ -167,6 +173,16 @@ const DEED_PUT: Run = Run {
     question: "SELECT num, donor, signed FROM deed WHERE num > 7 ORDER BY num",
     before: "version 2\n8|B. Donor|18321\n",
     after: "version 2\n8|B. Donor|18321\n9|C. Donor|18628\n",
+    ..MADE
+};
+
+/// A desk is copied: an image, a takedown of it, and keys.
+const COPIED: Run = Run {
+    name: "a desk is copied",
+    action: Action::Copy,
+    question: "SELECT rank FROM rule UNION ALL SELECT acc FROM found UNION ALL SELECT num FROM deed UNION ALL SELECT audience FROM badge WHERE audience = 1",
+    before: "empty\n",
+    after: "version 2\n1\n10\n20\n12\n7\n8\n1\n",
     ..MADE
 };
 
@@ -450,6 +466,22 @@ pub(crate) const RUNS: &[Run] = &[
         name: "a key of the staff is put without another where pages have sums",
         base: Base::Summed,
         ..STAFF_KEY_PUT
+    },
+    COPIED,
+    Run {
+        name: "a desk is copied to where tables were dropped",
+        base: Base::Bare,
+        ..COPIED
+    },
+    Run {
+        name: "no desk is copied to where one stands",
+        sorts: TWICE,
+        base: Base::Desk,
+        action: Action::CopyToDesk,
+        question: "SELECT rank FROM rule ORDER BY rank",
+        before: "version 2\n10\n20\n",
+        after: "version 2\n10\n20\n",
+        ..MADE
     },
 ];
 
