@@ -130,6 +130,15 @@ ends 0 "" '*' "$desk" show keys --store "$work/summed" --key abc
 ends 0 "" "$work/done" "$desk" init --store "$work/plain" --key abc
 same "bytes left alone in a page without a sum" 0 "$(od -An -tu1 -j 20 -N 1 "$work/plain" | tr -d ' ')"
 
+# No store with sums is made of the empty database that a refused opening leaves, nor where a desk is; one without is made.
+ends 1 "desk: exists" "$work/nothing" "$desk" init --sums --store "$work/plain" --key abc
+ends 3 "desk: not-a-desk" "$work/nothing" "$desk" show keys --store "$work/refused" --key abc
+ends 3 "desk: store" "$work/nothing" "$desk" init --sums --store "$work/refused" --key abc
+ends 0 "" "$work/done" "$desk" init --store "$work/refused" --key abc
+rm -f "$work/emptied" && : >"$work/emptied"
+ends 0 "" "$work/done" "$desk" init --sums --store "$work/emptied" --key abc
+same "bytes left alone in a page of an empty file" 8 "$(od -An -tu1 -j 20 -N 1 "$work/emptied" | tr -d ' ')"
+
 # The socket of a killed desk gives way; that of a desk that serves, a link, a file and a folder do not.
 socket=$work/socket
 printf 'listening %s\nserved 0\n' "$socket" >"$work/both"

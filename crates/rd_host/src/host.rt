@@ -7,6 +7,7 @@ use rd_http::{Clock, Door, StreamDoor, TimeLimits};
 use rd_program::{
     Files, Machine, MachineFault, Place, Refusal, connect_fault, exit_code, read_front, run,
 };
+use rd_tables::is_blank;
 use rd_volume::Kind;
 use sqlite::{Connection, FileFrom, FileStore, Options, Wary};
 use sqlite_std_file::OpenError;
@@ -25,6 +26,12 @@ const SHEET_LIMIT: u64 = 67_108_864;
 /// How many frames the log of a store has at least when the next command that writes first copies them into the store's
 /// file. With 1 the log alone has no more than the last command, once a command has been given.
 const COPIED_FRAMES: usize = 1;
+
+/// Which byte of a database says how many bytes at the end of each page are kept free.
+const KEPT_FREE_AT: usize = 20;
+
+/// How many bytes of a page its sum takes.
+const SUM_LENGTH: u8 = 8;
 
 /// What keeps the bytes of a store: a file of the machine and its log. It is wary: where a crash interrupts a write of a
 /// page, it trusts no byte of that page.
@@ -63,6 +70,22 @@ fn open_store(
         Ok(conn) => Ok(conn),
         Err((error, _)) => Err(connect_fault(error)),
     }
+}
+
+/// Whether the file at a path begins as a database whose pages do not end in sums, as its byte 20 says. It looks at no more
+/// than that byte and those before it, and only in an ordinary file; one with fewer bytes is no database yet.
+///
+/// It fails when it cannot read the file.
+fn is_without_sums(rt: &HostRuntime, path: &str) -> Result<bool, MachineFault> {
+    let Ok(found) = fs::metadata(rt, path) else {
+        return Ok(false);
+    };
+    if !found.is_file() {
+        return Ok(false);
+    }
+    let mut file = fs::open(rt, path)?;
+    let head = read_front(rt.alloc(), KEPT_FREE_AT + 1, &mut file)?;
+    Ok(head.len() > KEPT_FREE_AT && head[KEPT_FREE_AT] != SUM_LENGTH)
 }
 
 /// Makes an empty file that its owner alone may open. It answers false where something is at the path already, to which it
@@ -213,12 +236,20 @@ impl<'a, D: Door + Drop, P: Places<D> + Drop> Machine for Host<'a, D, P> {
 
     ghost left = { λ _. None };
 
+    /// It also fails where sums are asked for and a database without them is there, in which nothing stands: it would keep
+    /// its kind.
     fn connect(
         &mut self,
         path: &str,
         new_has_sums: bool,
     ) -> Result<Connection<HostDisk>, MachineFault> {
-        open_store(self.rt, path, new_has_sums)
+        let is_plain = new_has_sums && is_without_sums(self.rt, path)?;
+        let conn = open_store(self.rt, path, new_has_sums)?;
+        if is_plain && is_blank(conn.schema()) {
+            let _ = conn.close();
+            return Err(MachineFault::Failed);
+        }
+        Ok(conn)
     }
 
     /// What was committed stands already, so a fault of closing loses nothing.
