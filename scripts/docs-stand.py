@@ -5,8 +5,8 @@
   line, since each change of a file moves its lines.
 - Each path of the repository that a page names is there.
 - The layout: a title, headings one level at a time, code in fences that end; tables of a row, a line of hyphens and
-  more rows, with as many cells in each as in the first; no blanks at the end of a line, and outside code no line of
-  more than 400 characters. Text has at most 120.
+  more rows, with as many cells in each as in the first; no blanks at the end of a line, and no line of more than 400
+  characters. Text has at most 120.
 - docs/ARCHITECTURE.md has the crates of crates.txt, each above those that it stands on. Its ways have the steps of
   their records, and the names in a step are functions of that step, in this order.
 - Each name on docs/PROMISES.md and on the pages of crates is one in Rattle; the names behind each promise of the list
@@ -128,7 +128,7 @@ def layout_faults(text):
     for number, line, code in [*lines, (len(lines), "", False)]:
         if line != line.rstrip() or "\t" in line and not code:
             yield number, "a blank at its end, or a tab"
-        if len(line) > LONGEST and not code:
+        if len(line) > LONGEST:
             yield number, f"{len(line)} characters"
         if len(line) > WIDEST and not code and not line.startswith("|") and not LINK.search(line):
             yield number, f"text of {len(line)} characters"

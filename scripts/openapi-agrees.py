@@ -3,8 +3,9 @@
 where they differ.
 
 It compares the paths with the table of patterns in rd_messages, and the methods of each with those that the code gives
-its route; the statuses of each method with the refusals that docs/FORMATS.md lists by request; the limits of each part
-of a path with that page's; and it looks whether each reference leads somewhere and everything that is defined is used.
+its route, both also with that page's table of paths; the statuses of each method with the refusals that the page lists
+by request; the limits of each part of a path with the page's; and it looks whether each reference leads somewhere and
+everything that is defined is used.
 You need Python 3 with its standard library alone."""
 
 import json
@@ -77,6 +78,19 @@ def statuses():
     return {row[0].strip("`"): row[1].split(",")[0] for row in rows("## Refusals")}
 
 
+def methods_in_page():
+    """The methods of each path, by the page's table of paths."""
+    found = {}
+    for paths, methods, _ in rows("## A visit over HTTP"):
+        found |= {in_braces(path): set(methods.lower().split(", ")) for path in re.findall(r"`([^`]*)`", paths)}
+    return found
+
+
+def in_braces(path):
+    """A path of the page as the code writes it."""
+    return CAPITALS.sub(lambda part: "{%s}" % PARTS[part.group()], path)
+
+
 def in_page():
     """The names of the refusals of each method of each path, by the page's list."""
     found = {}
@@ -85,8 +99,7 @@ def in_page():
         for word in re.findall(r"\b(GET|PUT|POST|DELETE)\b|`(/[^`]*)`", asked):
             method = word[0].lower() or method
             if word[1]:
-                path = CAPITALS.sub(lambda part: "{%s}" % PARTS[part.group()], word[1])
-                found[path, method] = set(re.findall(r"`([a-z-]+)`", refusals)) | ALWAYS
+                found[in_braces(word[1]), method] = set(re.findall(r"`([a-z-]+)`", refusals)) | ALWAYS
     return found | rehearsed(found)
 
 
@@ -124,6 +137,12 @@ def path_faults(api):
             yield f"{path}: its parts are {PART.findall(path)}, {API} has {named}"
 
 
+def page_faults(_):
+    code, page = in_code(), methods_in_page()
+    differing = [path for path in sorted({*code, *page}) if code.get(path) != page.get(path)]
+    yield from (f"{path}: the code has {code.get(path)}, {FORMATS} has {page.get(path)}" for path in differing)
+
+
 def status_faults(api):
     page, numbers = in_page(), statuses()
     for key, operation in operations(api).items():
@@ -158,7 +177,7 @@ def reference_faults(api):
 
 def main():
     api = json.loads(text(API))
-    found = [fault for look in (path_faults, status_faults, limit_faults, reference_faults) for fault in look(api)]
+    found = [fault for look in (path_faults, page_faults, status_faults, limit_faults, reference_faults) for fault in look(api)]
     for fault in found:
         print(fault)
     print(f"{len(api['paths'])} paths with {len(operations(api))} methods: {len(found)} do not agree")

@@ -3,8 +3,9 @@
 with the words of both pages in web/shared.js; of nginx the statuses that operate/nginx/ refuses with, those of the
 table and those of the pages. It fails where they differ.
 
-It compares name, status and the beginning of the body or line, and the order of those over HTTP in the table; not the
-lists by request and by command. You need Python 3 with its standard library alone."""
+It compares name, status and the beginning of the body or line, and the order of those over HTTP in the table and in
+each list by request; not which refusals these lists have, nor the lists by command. You need Python 3 with its standard
+library alone."""
 
 import re
 import sys
@@ -28,6 +29,14 @@ def in_table():
     part = text_of(FORMATS).partition("\n## Refusals\n")[2].partition("\n### ")[0]
     rows = [line.strip("|").split(" | ") for line in part.splitlines() if line.startswith("| ")][1:]
     return {row[0].strip(" `"): (row[1], row[2]) for row in rows}
+
+
+def out_of_order(order):
+    """The requests whose refusals the page lists in another order than this one."""
+    part = text_of(FORMATS).partition("\n### By request\n")[2].partition("\n### ")[0]
+    rows = [line.strip("|").split(" | ") for line in part.splitlines() if line.startswith("| ")][1:]
+    lists = {row[0].strip(): re.findall(r"`([a-z-]+)`", row[1]) for row in rows}
+    return [request for request, names in lists.items() if names != [name for name in order if name in names]]
 
 
 def on_pages(name):
@@ -76,6 +85,7 @@ def faults():
             for name in rows
             if wrong_row(name, table[name], replied.get(name), ends.get(name))
         ],
+        *[f"{request}: {FORMATS} has its refusals in another order" for request in out_of_order(list(replied))],
         *(
             []
             if [name for name in names if name in replied] == list(replied)

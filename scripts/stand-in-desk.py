@@ -21,7 +21,9 @@ import stand_in
 from client_cases import bytes_of
 from harness import HOST
 
-TABLES = re.findall(r"^CREATE TABLE .*$", bytes_of("docs", "FORMATS.md").decode(), re.M)
+# A statement goes on where a line begins with blanks.
+FORMATS = re.sub(r"\n {4}", " ", bytes_of("docs", "FORMATS.md").decode())
+TABLES = re.findall(r"^CREATE TABLE .*$", FORMATS, re.M)
 EFFECTS = ("deny", "list", "read")
 
 

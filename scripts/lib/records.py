@@ -335,10 +335,13 @@ def line_of(record, word, path, name):
     if word == "clause":
         owner, _, own = name.rpartition(": ")
         return rattle.place(Clause(owner or None, own, path))
-    last = re.escape(re.split(r"::|\.", name)[-1]) if word != "tested" else re.escape(name)
-    patterns = {"coded": rf"\b(fn|const) {last}\b", "defined": rf"\b{last}\b", "tested": last}
-    if word not in patterns or not name:
-        return None
-    lines = rattle.lines_of(path)
-    found = (number for number, line in enumerate(lines, 1) if re.search(patterns[word], line))
+    last = re.escape(name if word == "tested" else re.split(r"::|\.", name)[-1])
+    # what makes the name comes before what only uses it
+    patterns = {
+        "coded": [rf"\b(fn|const) {last}\b"],
+        "defined": [rf"\bpub (record |data )?{last}\b", rf"\b{last}\b"],
+        "tested": [rf"^(visit |run |# ){last}$", rf"\"{last}\"|\bfn {last}\b", last],
+    }
+    lines = list(enumerate(rattle.lines_of(path), 1)) if word in patterns and name else []
+    found = (at for pattern in patterns.get(word, []) for at, line in lines if re.search(pattern, line))
     return next(found, None)
