@@ -1,9 +1,10 @@
 #!/usr/bin/env bash
 # Runs the built program as a shell does, and compares what it writes to its standard output and its standard
 # errors, and its exit status, for each of the statuses 0 to 3; a closed standard output, a full device, folders
-# in place of a sheet and of an image, and bits that flip in a store are among the cases. Of a Unix socket it looks
-# who may use it, whether it gives way once its desk was killed, and whether it goes with its desk. The program is
-# ./desk of this repository, or the one that you name.
+# in place of a sheet and of an image, and bits that flip in a store are among the cases. Of a copy it looks who may
+# open it, whether its pages have sums, and that it takes nothing that is there; of a Unix socket who may use it,
+# whether it gives way once its desk was killed, and whether it goes with its desk. The program is ./desk of this
+# repository, or the one that you name.
 set -u
 desk=
 [ $# -eq 0 ] || desk=$(realpath -e -- "$1") || exit 1
@@ -139,12 +140,48 @@ rm -f "$work/emptied" && : >"$work/emptied"
 ends 0 "" "$work/done" "$desk" init --sums --store "$work/emptied" --key abc
 same "bytes left alone in a page of an empty file" 8 "$(od -An -tu1 -j 20 -N 1 "$work/emptied" | tr -d ' ')"
 
+# A copy is for its owner alone, has sums only if it is asked for them, and holds what the store holds.
+umask 022
+ends 0 "" "$work/done" "$desk" copy --store "$work/plain" --to "$work/copied" --sums
+same "a copy" '600 regular file' "$(kind_at "$work/copied")"
+same "the log of a copy" '600 regular file' "$(kind_at "$work/copied-wal")"
+same "bytes left alone in a page of a copy with sums" 8 "$(od -An -tu1 -j 20 -N 1 "$work/copied" | tr -d ' ')"
+flip "$work/copied" 2048
+ends 3 "desk: store" "$work/nothing" "$desk" show keys --store "$work/copied" --key abc
+flip "$work/copied" 2048
+ends 0 "" "$work/done" "$desk" copy --store "$work/copied" --to "$work/back"
+same "bytes left alone in a page of a copy without" 0 "$(od -An -tu1 -j 20 -N 1 "$work/back" | tr -d ' ')"
+"$desk" show keys --store "$work/plain" --key abc >"$work/keys"
+ends 0 "" "$work/keys" "$desk" show keys --store "$work/copied" --key abc
+ends 0 "" "$work/keys" "$desk" show keys --store "$work/back" --key abc
+
+# It takes nothing that is there, and does nothing to it; where it makes no file, or finds no desk, none is there then.
+: >"$work/no-bytes" && mkdir "$work/a-folder" || exit 1
+ln -s nowhere "$work/dangling" && ln -s plain "$work/to-plain" || exit 1
+for name in no-bytes a-folder dangling to-plain version plain plain-wal; do
+    before=$(kind_at "$work/$name")
+    ends 1 "desk: exists" "$work/nothing" "$desk" copy --store "$work/plain" --to "$work/$name"
+    same "what was at $name" "$before" "$(kind_at "$work/$name")"
+done
+same "where a link leads that leads nowhere" nothing "$(kind_at "$work/nowhere")"
+ends 0 "" "$work/keys" "$desk" show keys --store "$work/plain" --key abc
+for path in :memory: file:desk '' "$work/no-folder/new"; do
+    ends 3 "desk: store" "$work/nothing" "$desk" copy --store "$work/plain" --to "$path"
+    same "what is at $path" nothing "$(kind_at "$path")"
+done
+ends 3 "desk: not-a-desk" "$work/nothing" "$desk" copy --store "$work/none" --to "$work/of-none"
+same "the copy of no desk" nothing "$(kind_at "$work/of-none")"
+ends 3 "desk: device" "$work/nothing" into /dev/full "$desk" copy --store "$work/plain" --to "$work/untold"
+ends 0 "" "$work/keys" "$desk" show keys --store "$work/untold" --key abc
+
 # The socket of a killed desk gives way; that of a desk that serves, a link, a file and a folder do not.
 socket=$work/socket
 printf 'listening %s\nserved 0\n' "$socket" >"$work/both"
 ends 0 "" "$work/done" "$desk" init --store "$work/store" --key abc
 ends 0 "" "$work/done" "$desk" init --store "$work/other" --key abc
 serve_at "$socket"
+ends 3 "desk: store" "$work/nothing" "$desk" copy --store "$work/store" --to "$work/of-served"
+same "the copy of a store that is served" nothing "$(kind_at "$work/of-served")"
 same "the socket while its desk serves" '660 socket' "$(kind_at "$socket")"
 ends 3 "desk: device" "$work/nothing" "$desk" serve --store "$work/other" --socket "$socket" --count 0
 same "the socket once a second desk has looked at it" '660 socket' "$(kind_at "$socket")"
