@@ -315,23 +315,35 @@ fn slices_of(alloc: Global, words: &[String]) -> Result<Vec<&str>, AllocError> {
     words.iter().map(|word| word.as_str()).collect(alloc)
 }
 
+/// Runs the program on these words and a machine with doors of any kind, on the input and the outputs of the process, and
+/// gives its exit status.
+///
+/// It fails with `NoMemory`.
+fn run_on<D: Door + Drop, P: Places<D> + Drop>(
+    rt: &HostRuntime,
+    words: &[&str],
+    host: &mut Host<'_, D, P>,
+) -> Result<u8, Refusal> {
+    let Ok(mut output) = BufWriter::new(rt.alloc(), rt.stdout()) else {
+        return Err(Refusal::NoMemory);
+    };
+    Ok(run(
+        rt.alloc(),
+        words,
+        &mut rt.stdin(),
+        &mut output,
+        &mut rt.stderr(),
+        host,
+    ))
+}
+
 /// Runs the program on the process's words, input and outputs, and gives its exit status.
 ///
 /// It fails as `words_of` does, and with `NoMemory`.
 fn run_here(rt: &HostRuntime) -> Result<u8, Refusal> {
     let words = words_of(rt)?;
     let words = slices_of(rt.alloc(), words.as_slice())?;
-    let Ok(mut output) = BufWriter::new(rt.alloc(), rt.stdout()) else {
-        return Err(Refusal::NoMemory);
-    };
-    Ok(run(
-        rt.alloc(),
-        words.as_slice(),
-        &mut rt.stdin(),
-        &mut output,
-        &mut rt.stderr(),
-        &mut Host::new(rt),
-    ))
+    run_on(rt, words.as_slice(), &mut Host::new(rt))
 }
 
 /// Runs the program in the process, writes why if it cannot run, and gives its exit status.
