@@ -413,8 +413,8 @@ impl<S: Alter> Store<S> {
     /// it is. The connection is outside a transaction.
     ///
     /// It fails with `Exists` if there is a table `desk` in the database, and with `Sql` if there is another table or a
-    /// view, if one of the two databases fails, if the two desks differ, or if memory runs out. After `Sql` the database has
-    /// no table, or it has the whole desk.
+    /// view, if one of the two databases fails, if the two desks differ, or if memory runs out. After `Sql` the database is
+    /// as it was, or it has the whole desk.
     pub fn copy(
         &mut self,
         alloc: Global,
