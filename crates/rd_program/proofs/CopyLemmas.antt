@@ -1,5 +1,5 @@
 -- The desk that `copy` makes in a new store, and what stands after it.
-use Rattle.std.proofs.Common.{◌≡◌, ◌≢◌, ◌∙◌, ◌⊎◌, ℕ, Bool, List, Option, Some, None, Result, Ok, Err, IfErr, IfSome, IsTrue, OnOk, arith, inl, inr, refl, subst, sym}
+use Rattle.std.proofs.Common.{◌≡◌, ◌≢◌, ◌∙◌, ◌⊎◌, ℕ, Bool, List, Option, Some, None, Result, Ok, Err, IfErr, IfSome, IsTrue, OnOk, ap, arith, inl, inr, refl, subst, sym}
 use Rattle.std.specs.Prelude.{IsSome, MatchBool, true, false}
 use Rattle.std.specs.Io.KnownBytes.{Keeps}
 use Rattle.std.proofs.KnownBytes.{Keeps-refl}
@@ -19,12 +19,14 @@ use Rattle.rd_commands.specs.declared.refusal.Refusal.TheVariants.{Device, Exist
 use Rattle.rd_commands.specs.declared.words.Ask.{Ask}
 use Rattle.rd_commands.specs.declared.words.Ask.TheVariants.{Copy}
 use Rattle.rd_commands.specs.Asks.{IsCopyAsk}
-use Rattle.rd_program.specs.Copying.{AsksNew, AsksNoOtherNew, CopiesBy, CopiesTo, IfAll, IsCopyRefusal, LeavesCopy, LeavesNew, LeavesNoPart, LeavesOldOrStood, LeavesTarget, MakesCopy, NotCopied, RefusesCopy, RunsCopy}
+use Rattle.rd_program.specs.Copying.{AsksNew, AsksNoOtherNew, CopiesBy, CopiesTo, IfAll, IsCopyRefusal, LeavesCopy, LeavesNew, LeavesNoPart, LeavesOldOrStood, LeavesTarget, MakesCopy, NotCopied, OpensDesk, RefusesCopy, RunsCopy}
 use Rattle.rd_program.specs.Faults.{refusal_to_create}
 use Rattle.rd_program.specs.Inits.{IsInitRefusal}
-use Rattle.rd_program.specs.Leaves.{GivesBack, HasBoth, IfBoth, IsSame, Leaves, LeavesBy, LeavesDesk, LeavesStore, NamesOpening}
+use Rattle.rd_program.specs.Leaves.{GivesBack, HasBoth, IfBoth, IsSame, Leaves, LeavesBy, LeavesDesk, LeavesNone, LeavesStore, NamesOpening}
 use Rattle.rd_program.specs.Serving.{IsOpenRefusal}
-use Rattle.rd_program.proofs.LeftStores.{desk_left, opening_is_3}
+use Rattle.rd_program.specs.Showing.{EndsWith}
+use Rattle.rd_program.proofs.LeftStores.{desk_left, none_still, opening_is_3}
+use Rattle.rd_program.proofs.ShowLemmas.{ends_with}
 
 -- ---- the desk of the store, and its copy
 
@@ -33,6 +35,10 @@ module _ {S : Type 0} (g : Ghosts S) (stood left : Option (Held S)) (opened last
   pub kept_left : (was : Option (Held S)) → IfSome stood (λ before. IsMigrated g before opened) → conn ≡ last → IfSome left (λ held. Some conn ≡ Some held)
       → Leaves was stood left (LeavesStore g IsSame)
   kept_left was is same took = desk_left g was stood left IsSame opened last conn is leaves same took
+
+  -- it was opened
+  pub opened_left : IfSome stood (λ before. IsMigrated g before opened) → conn ≡ last → IfSome left (λ held. Some conn ≡ Some held) → EndsWith stood left (OpensDesk g)
+  opened_left is same took = ends_with g stood left opened last conn (OpensDesk g) is (λ before at. (opened, at, leaves)) same took
 
   -- what a crash of the new store leaves, by the desk that stood
   old_or_stood : (before old new : Held S) → IsMigrated g before opened → (IsClean g last → LeavesOldOrNew g old new (desk g opened)) → LeavesOldOrStood g before last old new
@@ -85,8 +91,18 @@ module _ {S : Type 0} (g : Ghosts S) (stood left : Option (Held S)) (opened last
   exists_is create.Exists is = refl
   exists_is create.Sql is = absurd cc
 
-  no_part : (before old new : Held S) → IsMigrated g before opened → (fault : CreateFault) → IsNotCopied g opened last old new fault → LeavesNoPart g before last old new
-  no_part before old new at fault not_copied = record { lasts = not_copied.lasts; occupied = not_copied.occupied; crash = old_or_stood before old new at not_copied.crash }
+  desk_free : (b : Bool) (fault : CreateFault) → MatchBool b (fault ≡ create.Exists) (fault ≡ create.Sql) → Store ≡ refusal_to_create fault → b ≡ false
+  desk_free true fault told is = let both : Store ≡ Exists = is ∙ ap refusal_to_create told in absurd cc
+  desk_free false fault told is = refl
+
+  no_part : (before old new : Held S) → IsMigrated g before opened → (fault : CreateFault) → Store ≡ refusal_to_create fault → IsNotCopied g opened last old new fault
+      → LeavesNoPart g before last old new
+  no_part before old new at fault is not_copied = record {
+    lasts = not_copied.lasts;
+    free = desk_free (has_desk old.schema) fault not_copied.exists is;
+    occupied = not_copied.occupied;
+    crash = old_or_stood before old new at not_copied.crash;
+  }
 
   pub leaves_copy : (was fresh made : Option (Held S)) (refusal : Refusal) → IsInitRefusal refusal → IfSome stood (λ before. IsMigrated g before opened)
       → conn ≡ last → IfSome left (λ held. Some conn ≡ Some held) → LeavesTarget g opened last was fresh made refusal → LeavesCopy g stood left was fresh made refusal
@@ -103,13 +119,9 @@ module _ {S : Type 0} (g : Ghosts S) (stood left : Option (Held S)) (opened last
     | inr (inl store) ↦
         subst (LeavesCopy g stood left was fresh made) (sym store)
         (of_all fresh made (λ old new. (was ≡ Some new) ⊎ NotCopied g opened last old new Store) (λ before after old new. (was ≡ Some new) ⊎ LeavesNoPart g before after old new)
-        (λ before old new at told. elim told [ inl none ↦ inl none | inr not_made ↦ inr (no_part before old new at not_made.fault not_made.not_copied) ])
+        (λ before old new at told. elim told [ inl none ↦ inl none | inr not_made ↦ inr (no_part before old new at not_made.fault not_made.refusal_is not_made.not_copied) ])
         is same took (subst (LeavesTarget g opened last was fresh made) store target))
-    | inr (inr memory) ↦
-        subst (LeavesCopy g stood left was fresh made) (sym memory)
-        (of_all fresh made (λ old new. (was ≡ Some new) ⊎ NotCopied g opened last old new NoMemory) (λ before after old new. (was ≡ Some new) ⊎ LeavesNoPart g before after old new)
-        (λ before old new at told. elim told [ inl none ↦ inl none | inr not_made ↦ inr (no_part before old new at not_made.fault not_made.not_copied) ])
-        is same took (subst (LeavesTarget g opened last was fresh made) memory target))
+    | inr (inr memory) ↦ subst (LeavesCopy g stood left was fresh made) (sym memory) (subst (LeavesTarget g opened last was fresh made) memory target)
   ]
 
 -- ---- the new store
@@ -128,9 +140,15 @@ module _ {S : Type 0} (g : Ghosts S) (from last : Held S) (shows : Bool) (was fr
       (λ is. (subst (λ o. IsSome o) (sym (there is)) refl, subst (λ o. IsSome o) (sym (back is)) refl), both_to (IsCopied g from last) copied fresh made stood took)
   done_to (Err refusal) there back copied = tt
 
+  -- it is not for want of memory that none is made over a connection
+  not_memory : (fault : CreateFault) → NoMemory ≡ refusal_to_create fault → ⊥
+  not_memory create.Exists is = cc is
+  not_memory create.Sql is = cc is
+
   -- or it was not
   pub failed_to : {T : Type 0} (r : Result T Refusal) → IfErr r (NotCopied g from last conn new) → IfErr r (LeavesTarget g from last was fresh made)
   failed_to (Ok value) told = tt
+  failed_to (Err NoMemory) told = absurd (not_memory told.fault told.refusal_is)
   failed_to (Err refusal) told = both_to (λ old taken. (was ≡ Some taken) ⊎ NotCopied g from last old taken refusal) (inr told) fresh made stood took
 
 -- the four connections of the whole, by those between two calls
@@ -157,15 +175,16 @@ module _ {S : Type 0} (g : Ghosts S) (stood left : Option (Held S)) (opened last
 
 -- or no connection for it was had
 pub none_to : {S : Type 0} (g : Ghosts S) (from last : Held S) (was fresh made : Option (Held S)) (refusal : Refusal) → made ≡ was → LeavesTarget g from last was fresh made refusal
-none_to g from last was fresh made refusal same = subst (λ m. LeavesTarget g from last was fresh m refusal) (sym same) (go was fresh)
+none_to {S} g from last was fresh made refusal same = subst (λ m. LeavesTarget g from last was fresh m refusal) (sym same) (go refusal was fresh)
   where
-    go : (w f : Option (Held _)) → LeavesTarget g from last w f w refusal
-    go w None = tt
-    go None (Some old) = tt
-    go (Some new) (Some old) = inl refl
+    go : (r : Refusal) (w f : Option (Held S)) → LeavesTarget g from last w f w r
+    go NoMemory w f = none_still w
+    go r w None = tt
+    go r None (Some old) = tt
+    go r (Some new) (Some old) = inl refl
 
 -- where no new store was asked for none was made
-pub none_new : {S : Type 0} (stood left was fresh : Option (Held S)) (P : Held S → Held S → Held S → Held S → Type 0) → LeavesNew stood left was fresh was P
+none_new : {S : Type 0} (stood left was fresh : Option (Held S)) (P : Held S → Held S → Held S → Held S → Type 0) → LeavesNew stood left was fresh was P
 none_new None left was fresh P = tt
 none_new (Some before) None was fresh P = tt
 none_new (Some before) (Some last) was None P = tt
@@ -174,6 +193,9 @@ none_new (Some before) (Some last) (Some new) (Some old) P = inl refl
 
 pub same_new : {S : Type 0} (stood left was fresh made : Option (Held S)) (P : Held S → Held S → Held S → Held S → Type 0) → made ≡ was → LeavesNew stood left was fresh made P
 same_new stood left was fresh made P same = subst (λ m. LeavesNew stood left was fresh m P) (sym same) (none_new stood left was fresh P)
+
+none_taken : {S : Type 0} (was made : Option (Held S)) → made ≡ was → LeavesNone was made
+none_taken {S} was made same = subst (λ (m : Option (Held S)). LeavesNone was m) (sym same) (none_still was)
 
 no_device : IsOpenRefusal Device → ⊥
 no_device (inl is) = cc is
@@ -194,7 +216,8 @@ pub unopened_new : {S : Type 0} (g : Ghosts S) (stood left was fresh made : Opti
     → LeavesCopy g stood left was fresh made refusal
 unopened_new g stood left was fresh made Device opening same = absurd (no_device opening)
 unopened_new g stood left was fresh made Exists opening same = absurd (no_exists opening)
-unopened_new g stood left was fresh made refusal opening same = same_new stood left was fresh made (LeavesNoPart g) same
+unopened_new g stood left was fresh made Store opening same = same_new stood left was fresh made (LeavesNoPart g) same
+unopened_new g stood left was fresh made refusal opening same = none_taken was made same
 
 -- ---- why not
 
@@ -253,17 +276,18 @@ copy_done (Err error) P Q R done told = tt
 
 -- ---- the new store that is asked for
 
-pub asks_new : (old new : Option (List (List ℕ × Bool))) (path : List ℕ) (summed : Bool) → AsksNew old path summed new → AsksNoOtherNew old path summed new
-asks_new None new path summed asks = tt
-asks_new (Some before) new path summed asks = inr asks
+pub asks_new : (old new : Option (List (List ℕ × Bool))) (path : List ℕ) (summed : Bool) (Holds : Type 0) → AsksNew old path summed new → Holds → AsksNoOtherNew old path summed new Holds
+asks_new None new path summed Holds asks holds = tt
+asks_new (Some before) new path summed Holds asks holds = inr (asks, holds)
 
-pub asks_between : (old mid new last : Option (List (List ℕ × Bool))) (path : List ℕ) (summed : Bool) → mid ≡ old → last ≡ new → AsksNew mid path summed new → AsksNoOtherNew old path summed last
-asks_between old mid new last path summed same_old same_last asks =
-    subst (λ l. AsksNoOtherNew old path summed l) (sym same_last) (asks_new old new path summed (subst (λ o. AsksNew o path summed new) same_old asks))
+pub asks_between : (old mid new last : Option (List (List ℕ × Bool))) (path : List ℕ) (summed : Bool) (Holds : Type 0) → mid ≡ old → last ≡ new → AsksNew mid path summed new → Holds
+    → AsksNoOtherNew old path summed last Holds
+asks_between old mid new last path summed Holds same_old same_last asks holds =
+    subst (λ l. AsksNoOtherNew old path summed l Holds) (sym same_last) (asks_new old new path summed Holds (subst (λ o. AsksNew o path summed new) same_old asks) holds)
 
-pub asks_no_new : (old new : Option (List (List ℕ × Bool))) (path : List ℕ) (summed : Bool) → new ≡ old → AsksNoOtherNew old path summed new
-asks_no_new None new path summed same = tt
-asks_no_new (Some before) new path summed same = inl same
+pub asks_no_new : (old new : Option (List (List ℕ × Bool))) (path : List ℕ) (summed : Bool) (Holds : Type 0) → new ≡ old → AsksNoOtherNew old path summed new Holds
+asks_no_new None new path summed Holds same = tt
+asks_no_new (Some before) new path summed Holds same = inl same
 
 -- ---- by what is asked for
 
@@ -271,11 +295,12 @@ module _ {S : Type 0} (g : Ghosts S) (shows : Bool) (stands : List ℕ → Optio
     (before after : Option (List (List ℕ × Bool))) (out written : Option (List ℕ)) (store target : List ℕ) (summed : Bool) where
   -- it runs as the words say
   pub copies_by : {T : Type 0} (ask : Ask) (result : Result T Refusal) → IsCopyAsk store target summed ask → CopiesBy g shows stands left was fresh made before after out written ask result
-      → RunsCopy g shows (stands store) left was (fresh target) made out written result × AsksNoOtherNew before target summed after
+      → RunsCopy g shows (stands store) left was (fresh target) made out written result × AsksNoOtherNew before target summed after (EndsWith (stands store) left (OpensDesk g))
   copies_by (Copy ask) result asks by =
-      subst (λ t. RunsCopy g shows (stands store) left was (fresh t) made out written result × AsksNoOtherNew before t summed after) asks.target_is
-      (subst (λ s. RunsCopy g shows (stands s) left was (fresh ask.target.now) made out written result × AsksNoOtherNew before ask.target.now summed after) asks.store_is
-      (by.0, subst (λ b. AsksNoOtherNew before ask.target.now b after) asks.sums_are by.1))
+      subst (λ t. RunsCopy g shows (stands store) left was (fresh t) made out written result × AsksNoOtherNew before t summed after (EndsWith (stands store) left (OpensDesk g))) asks.target_is
+      (subst (λ s. RunsCopy g shows (stands s) left was (fresh ask.target.now) made out written result
+      × AsksNoOtherNew before ask.target.now summed after (EndsWith (stands s) left (OpensDesk g))) asks.store_is
+      (by.0, subst (λ b. AsksNoOtherNew before ask.target.now b after (EndsWith (stands ask.store.now) left (OpensDesk g))) asks.sums_are by.1))
   copies_by ask result asks by = absurd asks
 
 module _ {S : Type 0} (g : Ghosts S) (clock : _) (was : Option (Held S)) (stands : List ℕ → Option (Held S)) (new : Option (Held S)) where

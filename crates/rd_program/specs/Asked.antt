@@ -13,7 +13,8 @@ use Rattle.rd_commands.specs.declared.words.Ask.{Ask}
 use Rattle.rd_commands.specs.declared.words.Ask.TheVariants.{Copy, Import, Init, OneQuestion, Serve, StaffKey}
 use Rattle.rd_commands.specs.declared.words.Shown.{Shown}
 use Rattle.rd_commands.specs.Serving.{Place}
-use Rattle.rd_program.specs.Doors.{AsksPath, AsksSums}
+use Rattle.rd_program.specs.Doors.{AsksPath, AsksSums, AsksThen, Wanted}
+use Rattle.rd_program.specs.Doors.Wanted.{NewAt, StoreAt}
 use Rattle.rd_program.specs.Leaves.{moment_of}
 use Rattle.rd_program.specs.OnTime.{is_dated}
 use Rattle.rd_program.specs.Serving.{IsUnasked}
@@ -28,14 +29,17 @@ AsksAt words store moment rule =
     ⊎ (((key : List ℕ) × (acc : ℕ) × AsksCheck words store key acc moment rule)
     ⊎ ((key : List ℕ) × (what : Shown) × AsksShow words store key what moment rule)))
 
--- the words name the store in this file: they are an `init`, a `staff-key`, a `copy` of it, a `serve`, or a command that asks
--- a desk at a moment
-abbrev pub NamesStore : List (List ℕ) → List ℕ → Type 0
-NamesStore words store =
+-- the words name the store in this file, and no other: they are an `init`, a `staff-key`, a `serve`, or a command that asks a
+-- desk at a moment
+abbrev pub NamesOneStore : List (List ℕ) → List ℕ → Type 0
+NamesOneStore words store =
     ((key : List ℕ) × (AsksInit words store key ⊎ AsksStaffKey words store key))
     ⊎ (((place : Place) × (count : ℕ) × (rule : List ℕ) × AsksServe words store place count rule)
-    ⊎ (((moment : Option ℤ) × (rule : List ℕ) × AsksAt words store moment rule)
-    ⊎ ((target : List ℕ) × (summed : Bool) × AsksCopy words store target summed)))
+    ⊎ ((moment : Option ℤ) × (rule : List ℕ) × AsksAt words store moment rule))
+
+-- they name it alone, or they are a `copy` of it
+abbrev pub NamesStore : List (List ℕ) → List ℕ → Type 0
+NamesStore words store = NamesOneStore words store ⊎ ((target : List ℕ) × (summed : Bool) × AsksCopy words store target summed)
 
 -- A desk was opened in the store, and at most read since.
 abbrev pub IsOpenedToRead : {S : Type 0} → Ghosts S → Held S → Held S → Type 0
@@ -61,14 +65,15 @@ IsClockOn g dated moment opened last Clock =
     IsStillOrRead g opened last × (dated ≡ false → last ≡ opened) × IfSome moment (λ seconds. ¬ HasDay seconds × (last ≡ opened))
 IsClockOn g dated moment opened last refusal = ⊤
 
--- a command asks for a connection to its store alone, or for none
-abbrev pub AsksBy : Option (List (List ℕ)) → Ask → Option (List (List ℕ)) → Type 0
+-- a command on a store asks for a connection to that store alone, and a `copy` then, if at all, for one to its new store;
+-- another asks for none
+abbrev pub AsksBy : Option (List Wanted) → Ask → Option (List Wanted) → Type 0
 AsksBy old (Init ask) new = AsksPath old ask.store.now new
 AsksBy old (Serve ask) new = AsksPath old ask.store.now new
 AsksBy old (Import ask) new = AsksPath old ask.store.now new
 AsksBy old (OneQuestion ask) new = AsksPath old ask.store.now new
 AsksBy old (StaffKey ask) new = AsksPath old ask.store.now new
-AsksBy old (Copy ask) new = AsksPath old ask.store.now new
+AsksBy old (Copy ask) new = AsksThen old (StoreAt ask.store.now) (NewAt ask.target.now) new
 AsksBy old other new = new ≡ old
 
 -- when a command that asks at a moment may fail with `clock`

@@ -1,6 +1,6 @@
 -- What the command `copy` gives, by the connection that stood for the store and the one that is left of it, and by the two
 -- for the new store, if the machine shows all four.
-use Rattle.std.specs.Prelude.{◌≡◌, ◌⊎◌, ⊤, ◌∷◌, ℕ, Bool, IfErr, IfSome, List, OnOk, Option, Result, Some, true}
+use Rattle.std.specs.Prelude.{◌≡◌, ◌⊎◌, ⊤, ◌∷◌, ℕ, Bool, IfErr, IfSome, List, OnOk, Option, Result, Some, false, true}
 use Rattle.std.specs.Io.KnownBytes.{Appends, Keeps}
 use Rattle.sqlite.specs.Held.{Held, state}
 use Rattle.sqlite.specs.Store.{Ghosts}
@@ -10,14 +10,15 @@ use Rattle.rd_store.specs.Copied.{IsNotCopied}
 use Rattle.rd_store.specs.Created.{LeavesOldOrNew}
 use Rattle.rd_store.specs.declared.faults.CreateFault.{CreateFault}
 use Rattle.rd_store.specs.Held.{IsClean, IsOpen, Lasts, LeavesOnly, desk}
-use Rattle.rd_store.specs.Migrated.{SpellsDesk}
+use Rattle.rd_store.specs.Migrated.{IsMigrated, SpellsDesk}
 use Rattle.rd_program.specs.Faults.{refusal_to_create}
 use Rattle.rd_program.specs.Inits.{done_line}
-use Rattle.rd_program.specs.Leaves.{GivesBack, HasBoth, IfBoth, NamesOpening}
+use Rattle.rd_program.specs.Leaves.{GivesBack, HasBoth, IfBoth, IsSame, LeavesDesk, LeavesNone, NamesOpening}
 use Rattle.rd_program.specs.Serving.{IsOpenRefusal}
+use Rattle.rd_program.specs.Showing.{EndsWith}
 use Rattle.rd_commands.specs.Output.{AppendsPart}
 use Rattle.rd_commands.specs.declared.refusal.Refusal.{Refusal}
-use Rattle.rd_commands.specs.declared.refusal.Refusal.TheVariants.{Device, Exists}
+use Rattle.rd_commands.specs.declared.refusal.Refusal.TheVariants.{Device, Exists, NoMemory, Store}
 use Rattle.rd_commands.specs.declared.words.Ask.{Ask}
 use Rattle.rd_commands.specs.declared.words.Ask.TheVariants.{Copy}
 
@@ -25,9 +26,13 @@ use Rattle.rd_commands.specs.declared.words.Ask.TheVariants.{Copy}
 abbrev pub AsksNew : Option (List (List ℕ × Bool)) → List ℕ → Bool → Option (List (List ℕ × Bool)) → Type 0
 AsksNew old path summed new = IfSome old (λ before. new ≡ Some ((path, summed) ∷ before))
 
--- or none was
-abbrev pub AsksNoOtherNew : Option (List (List ℕ × Bool)) → List ℕ → Bool → Option (List (List ℕ × Bool)) → Type 0
-AsksNoOtherNew old path summed new = IfSome old (λ before. (new ≡ Some before) ⊎ (new ≡ Some ((path, summed) ∷ before)))
+-- it was, and then this holds; or none was
+abbrev pub AsksNoOtherNew : Option (List (List ℕ × Bool)) → List ℕ → Bool → Option (List (List ℕ × Bool)) → Type 0 → Type 0
+AsksNoOtherNew old path summed new Holds = IfSome old (λ before. (new ≡ Some before) ⊎ ((new ≡ Some ((path, summed) ∷ before)) × Holds))
+
+-- a desk was opened in the store, and is as it was
+abbrev pub OpensDesk : {S : Type 0} → Ghosts S → Held S → Held S → Type 0
+OpensDesk {S} g before last = (opened : Held S) × IsMigrated g before opened × LeavesDesk g IsSame opened last
 
 -- this holds of the connections for a store and of those for the new store, if the machine shows all four
 abbrev pub IfAll : {S : Type 0} → Option (Held S) → Option (Held S) → Option (Held S) → Option (Held S)
@@ -50,9 +55,12 @@ pub record MakesCopy {S : Type 0} (g : Ghosts S) (before last old new : Held S) 
   pub durable : IsOpen g new → LeavesOnly g new (desk g new)
   pub crash : LeavesOldOrStood g before last old new
 
--- The new store is as it was, or has the whole desk: never a part of it.
+-- No table `desk` stood in the new store, and it is as it was where any other table, an index or a view stands in it. A crash
+-- of it leaves what it left before, or the whole desk, never a part of it, where the disk of each has returned what was
+-- written.
 pub record LeavesNoPart {S : Type 0} (g : Ghosts S) (before last old new : Held S) : Type 0 where
   pub lasts : IsClean g last → Lasts g old new
+  pub free : has_desk old.schema ≡ false
   pub occupied : ¬ IsBlank old.schema → new ≡ old
   pub crash : LeavesOldOrStood g before last old new
 
@@ -62,13 +70,15 @@ abbrev pub LeavesNew : {S : Type 0} → Option (Held S) → Option (Held S) → 
 LeavesNew stood left was fresh made P = IfAll stood left fresh made (λ before last old new. (was ≡ Some new) ⊎ P before last old new)
 
 -- What is left of the new store after `copy` fails: the whole desk if the device failed, for then only the line about it
--- was not written; if a store was there already, nothing was done to it; and otherwise it is as it was, or has the whole
--- desk.
+-- was not written; if something was there already, nothing was done to it; and if the store failed, no desk was there, and
+-- a crash leaves what it left before, or the whole desk, or no connection to it was taken back. If memory ran out, or no
+-- desk was opened, none was taken back.
 abbrev pub LeavesCopy : {S : Type 0} → Ghosts S → Option (Held S) → Option (Held S) → Option (Held S) → Option (Held S) → Option (Held S) → Refusal → Type 0
 LeavesCopy g stood left was fresh made Device = IfAll stood left fresh made (MakesCopy g)
 LeavesCopy g stood left was fresh made Exists =
     LeavesNew stood left was fresh made (λ before last old new. (new ≡ old) × (has_desk old.schema ≡ true))
-LeavesCopy g stood left was fresh made refusal = LeavesNew stood left was fresh made (LeavesNoPart g)
+LeavesCopy g stood left was fresh made Store = LeavesNew stood left was fresh made (LeavesNoPart g)
+LeavesCopy g stood left was fresh made refusal = LeavesNone was made
 
 -- why no desk is copied: it was not opened, or its copy not made
 abbrev pub IsCopyRefusal : Refusal → Type 0
@@ -94,8 +104,9 @@ abbrev pub CopiesTo : {S : Type 0} → Option (Held S) → Option (Held S) → (
 CopiesTo fresh made P = IfBoth fresh made P
 
 -- no desk was made in the new store: a connection for it was taken back, over which none was made for this reason; or none
--- was
+-- was, and so it is where memory ran out
 abbrev pub LeavesTarget : {S : Type 0} → Ghosts S → Held S → Held S → Option (Held S) → Option (Held S) → Option (Held S) → Refusal → Type 0
+LeavesTarget g from read was fresh made NoMemory = LeavesNone was made
 LeavesTarget g from read was fresh made refusal =
     IfBoth fresh made (λ old new. (was ≡ Some new) ⊎ NotCopied g from read old new refusal)
 
@@ -110,9 +121,10 @@ pub record RunsCopy {S T : Type 0} (g : Ghosts S) (shows : Bool) (stood left was
 
 -- ---- by what is asked for
 
--- a `copy` ends so, and asks for a new store at its path, with sums as its words do, or for none
+-- a `copy` ends so, and asks for a new store at its path, with sums as its words do, only where it opened the desk; or for none
 abbrev pub CopiesBy : {S T : Type 0} → Ghosts S → Bool → (List ℕ → Option (Held S)) → Option (Held S) → Option (Held S) → (List ℕ → Option (Held S)) → Option (Held S)
     → Option (List (List ℕ × Bool)) → Option (List (List ℕ × Bool)) → Option (List ℕ) → Option (List ℕ) → Ask → Result T Refusal → Type 0
 CopiesBy g shows stands left was fresh made before after out written (Copy ask) result =
-    RunsCopy g shows (stands ask.store.now) left was (fresh ask.target.now) made out written result × AsksNoOtherNew before ask.target.now ask.has_sums after
+    RunsCopy g shows (stands ask.store.now) left was (fresh ask.target.now) made out written result
+    × AsksNoOtherNew before ask.target.now ask.has_sums after (EndsWith (stands ask.store.now) left (OpensDesk g))
 CopiesBy g shows stands left was fresh made before after out written ask result = ⊤

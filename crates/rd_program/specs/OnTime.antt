@@ -59,7 +59,7 @@ abbrev pub WasBehindBy : {S : Type 0} → Ghosts S → ℤ → List ℕ → Opti
 WasBehindBy g seconds rule stood left = (zone : Zone) × IsZoneOf rule zone × EndsWith stood left (StoodBehind g (day_number seconds zone))
 
 -- At a moment that is known and has a day, `clock` comes only if the words have the command go by the clock and do not
--- trust it, and the desk that stood was behind.
+-- trust it, and, if the connection is open at the end, the clock was behind the desk that stood.
 abbrev pub IsBehindDue : {S : Type 0} → Ghosts S → List (List ℕ) → List ℕ → List ℕ → Option ℤ → Option (Held S) → Option (Held S) → Refusal → Type 0
 IsBehindDue g words store rule moment stood left Clock =
     IfSome moment (λ seconds. HasDay seconds → GoesByClock words store rule × ¬ Trusts words true × WasBehindBy g seconds rule stood left)

@@ -18,7 +18,7 @@ use Rattle.rd_protocol.specs.declared.request.What.{What}
 use Rattle.rd_protocol.specs.declared.request.What.TheVariants as request
 use Rattle.rd_commands.specs.Cat.{HasNoSoundFile, IsCut, Refuses, Serves}
 use Rattle.rd_commands.specs.CommandLine.{AsksForHelp, AsksForVersion, IsTaken, IsTakenTelling}
-use Rattle.rd_commands.specs.Commands.{AsksOfStore, IsCommand, IsTakenServingNowhere, IsTakenShowingNothing, NamesAPlace, NamesWhatItShows, TellsARule, Trusts}
+use Rattle.rd_commands.specs.Commands.{AsksCopy, AsksOfStore, IsCommand, IsTakenServingNowhere, IsTakenShowingNothing, NamesAPlace, NamesWhatItShows, TellsARule, Trusts}
 use Rattle.rd_commands.specs.Input.{ReadsUpTo}
 use Rattle.rd_commands.specs.Helps.{RefusesHelp, help_for}
 use Rattle.rd_commands.specs.Listed.{Lists, RefusesList}
@@ -32,10 +32,11 @@ use Rattle.rd_commands.specs.declared.done.Done.TheVariants.{InPart, Whole}
 use Rattle.rd_commands.specs.declared.help.TheConstants.{DESK_HELP}
 use Rattle.rd_commands.specs.declared.refusal.Refusal.TheVariants.{BadSheet, NoMemory}
 use Rattle.rd_commands.specs.declared.serving.Timeouts.{Timeouts}
-use Rattle.rd_program.specs.Asked.{AsksAt, IsClockDue, NamesStore}
+use Rattle.rd_program.specs.Asked.{AsksAt, IsClockDue, NamesOneStore, NamesStore}
 use Rattle.rd_program.specs.Asking.{RefusesOneQuestion, TellsCheck}
-use Rattle.rd_program.specs.Copying.{AsksNoOtherNew, IfAll, LeavesCopy, MakesCopy, RefusesCopy}
-use Rattle.rd_program.specs.Doors.{AsksNoOther}
+use Rattle.rd_program.specs.Copying.{AsksNoOtherNew, IfAll, LeavesCopy, MakesCopy, OpensDesk, RefusesCopy}
+use Rattle.rd_program.specs.Doors.{AsksInTurn, AsksNoOther, Wanted}
+use Rattle.rd_program.specs.Doors.Wanted.{NewAt, StoreAt}
 use Rattle.rd_program.specs.Importing.{GainsLines, IsDoneLine, IsRowLine, RefusesImport}
 use Rattle.rd_program.specs.Inits.{LeavesInit, MakesDesk, RefusesInit, done_line}
 use Rattle.rd_program.specs.Leaves.{Checks, GivesBack, HasBoth, IsSame, Leaves, LeavesServe, LeavesStore, NamesOpening, TakesIn, moment_of}
@@ -111,15 +112,17 @@ pub record KeepsMachine {S M : Type 0} (words : List (List ℕ)) (result : ℕ) 
   pub usage_untouched : result ≡ 2 → new ≡ old
 
 -- If the words name a store, at 0 and 1 the machine, if it shows its connections, had one for that store and has taken
--- one back; it is asked for no connection but one to that store; and an `import`, an `export`, a `check` and a `show` at
--- a moment without a day ask the desk nothing: their refusal is that of the opening or of the moment. At 0 an `import`,
--- an `export` or a `check` that goes by the clock of the machine, and does not trust it, has found no check recorded of a
--- later day than the one after that of the clock. At 3 each of the four, at a moment that is known and has a day, names
--- `clock` only if it is one of these and has found such a check.
-pub record UsesOneStore {S : Type 0} (g : Ghosts S) (words : List (List ℕ)) (result : ℕ) (shows : Bool) (clock : Option ℤ) (paths later : Option (List (List ℕ)))
+-- one back. It is asked for no connection but one to that store, nor for a new store anywhere; a `copy` may ask then for
+-- its new store, and for nothing else. An `import`, an `export`, a `check` and a `show` at a moment without a day ask the
+-- desk nothing: their refusal is that of the opening or of the moment. At 0 an `import`, an `export` or a `check` that
+-- goes by the clock of the machine, and does not trust it, has found no check recorded of a later day than the one after
+-- that of the clock, if the connection is open at the end. At 3 each of the four, at a moment that is known and has a day,
+-- names `clock` only if it is one of these and, if the connection is open, has found such a check.
+pub record UsesOneStore {S : Type 0} (g : Ghosts S) (words : List (List ℕ)) (result : ℕ) (shows : Bool) (clock : Option ℤ) (wanted later : Option (List Wanted))
     (stands : List ℕ → Option (Held S)) (left : Option (Held S)) (errors told : Option (List ℕ)) : Type 0 where
   pub there : result ≤ 1 → (store : List ℕ) → NamesStore words store → HasBoth shows (stands store) left
-  pub asked : (store : List ℕ) → NamesStore words store → AsksNoOther paths store later
+  pub asked : (store : List ℕ) → NamesOneStore words store → AsksNoOther wanted store later
+  pub asked_copy : (store target : List ℕ) (summed : Bool) → AsksCopy words store target summed → AsksInTurn wanted (StoreAt store) (NewAt target) later
   pub unasked : (store : List ℕ) (moment : Option ℤ) (rule : List ℕ) → AsksAt words store moment rule
       → IfSome (moment_of moment clock) (λ seconds. ¬ HasDay seconds → Tells IsUnaskedRefusal result errors told)
   pub on_time : result ≡ 0 → (store : List ℕ) (rule : List ℕ) → GoesByClock words store rule → Trusts words false
@@ -257,10 +260,11 @@ pub record DoesStaffKey {S : Type 0} (g : Ghosts S) (result : ℕ) (staff : List
       result errors told
 
 -- At 0 a `copy` has made the desk that stood in a new store, which had no tables, and said so. Not at 0 it names its
--- refusal, at 1 that something is there already. Then nothing was done to the new store, or it is as it was, or it has the
--- whole desk, and so it is after a crash: it never has a part of it. However it ends, the desk that stood is as it was,
--- and a machine that had given back a connection for a new store, `had`, has one again. It asks for a new store at no
--- other path, with sums exactly if its words do. For the new store the machine has `fresh`, and it took back `made`.
+-- refusal, at 1 that something is there already, to which nothing was done. A crash of the new store leaves what it left
+-- before, or the whole desk, never a part of it, where the disks of both have returned what was written. However it ends,
+-- the desk that stood is as it was, if the connection is open at the end, and a machine that had taken back a connection
+-- for a new store, `had`, has one again. It asks for a new store at no other path, with sums exactly if its words do, and
+-- only where it opened the desk. For the new store the machine has `fresh`, and it took back `made`.
 pub record DoesCopy {S : Type 0} (g : Ghosts S) (result : ℕ) (target : List ℕ) (summed shows : Bool) (was stood left had fresh made : Option (Held S))
     (stores later : Option (List (List ℕ × Bool))) (out written errors told : Option (List ℕ)) : Type 0 where
   pub copied : result ≡ 0 → HasBoth shows fresh made × IfAll stood left fresh made (MakesCopy g) × Appends out written done_line
@@ -269,4 +273,4 @@ pub record DoesCopy {S : Type 0} (g : Ghosts S) (result : ℕ) (target : List �
       result errors told
   pub copy_leaves : Leaves was stood left (LeavesStore g IsSame)
   pub copy_back : GivesBack shows had made
-  pub copy_new : AsksNoOtherNew stores target summed later
+  pub copy_new : AsksNoOtherNew stores target summed later (EndsWith stood left (OpensDesk g))

@@ -3,10 +3,11 @@
 ghost use Rattle.std.specs.Prelude.{◌≡◌, IfErr, IsTrue, OnOk, false};
 ghost use Rattle.std.specs.Io.KnownBytes.{Appends};
 ghost use Rattle.rd_store.specs.Copied.{IsCopied};
-ghost use Rattle.rd_program.specs.Copying.{AsksNew, AsksNoOtherNew, CopiesTo, IfAll, IsCopyRefusal, LeavesCopy, LeavesTarget, MakesCopy, NotCopied, RefusesCopy};
-ghost use Rattle.rd_program.specs.Doors.{AsksPath};
+ghost use Rattle.rd_program.specs.Copying.{AsksNew, AsksNoOtherNew, CopiesTo, IfAll, IsCopyRefusal, LeavesCopy, LeavesTarget, MakesCopy, NotCopied, OpensDesk, RefusesCopy};
+ghost use Rattle.rd_program.specs.Doors.{Asks, AsksThen, NewAt, StoreAt};
 ghost use Rattle.rd_program.specs.Inits.{IsInitRefusal, done_line};
 ghost use Rattle.rd_program.specs.Leaves.{GivesBack, HasBoth, IsSame, Leaves, LeavesDesk, LeavesStore, NamesOpening, OnEnded};
+ghost use Rattle.rd_program.specs.Showing.{EndsWith};
 
 use crate::faults::not_made;
 use crate::machine::Machine;
@@ -54,7 +55,7 @@ fn copy_to<M: Machine>(
     ensures back_new { GivesBack (M.shows machine.old) (M.made machine.old) (M.made machine.new) }
     ensures asked_new { AsksNew (M.new_stores machine.old) target.now has_sums (M.new_stores machine.new) }
     ensures left { M.left machine.new ≡ M.left machine.old }
-    ensures asked { M.paths machine.new ≡ M.paths machine.old }
+    ensures asked { Asks (M.wanted machine.old) (NewAt target.now) (M.wanted machine.new) }
     ensures shows { M.shows machine.new ≡ M.shows machine.old }
 {
     let found = match machine.connect_new(target, has_sums) {
@@ -83,8 +84,9 @@ fn copy_store<M: Machine>(alloc: Global, ask: CopyAsk, machine: &mut M) -> Resul
     ensures back { GivesBack (M.shows machine.old) (M.left machine.old) (M.left machine.new) }
     ensures back_new { GivesBack (M.shows machine.old) (M.made machine.old) (M.made machine.new) }
     ensures there { OnEnded result (HasBoth (M.shows machine.old) (M.stands machine.old ask.entry.store.now) (M.left machine.new)) }
-    ensures asked { AsksPath (M.paths machine.old) ask.entry.store.now (M.paths machine.new) }
-    ensures asked_new { AsksNoOtherNew (M.new_stores machine.old) ask.entry.target.now ask.entry.has_sums (M.new_stores machine.new) }
+    ensures asked { AsksThen (M.wanted machine.old) (StoreAt ask.entry.store.now) (NewAt ask.entry.target.now) (M.wanted machine.new) }
+    ensures asked_new { AsksNoOtherNew (M.new_stores machine.old) ask.entry.target.now ask.entry.has_sums (M.new_stores machine.new)
+        (EndsWith (M.stands machine.old ask.entry.store.now) (M.left machine.new) (OpensDesk M.Disk.Store)) }
 {
     let mut store = open_store(alloc, ask.store, machine)?;
     let copied = copy_to(alloc, &mut store, ask.target, ask.has_sums, machine);
@@ -116,8 +118,9 @@ pub(crate) fn copy<W: Write, M: Machine>(
     ensures back { GivesBack (M.shows machine.old) (M.left machine.old) (M.left machine.new) }
     ensures back_new { GivesBack (M.shows machine.old) (M.made machine.old) (M.made machine.new) }
     ensures there { OnEnded result (HasBoth (M.shows machine.old) (M.stands machine.old ask.entry.store.now) (M.left machine.new)) }
-    ensures asked { AsksPath (M.paths machine.old) ask.entry.store.now (M.paths machine.new) }
-    ensures asked_new { AsksNoOtherNew (M.new_stores machine.old) ask.entry.target.now ask.entry.has_sums (M.new_stores machine.new) }
+    ensures asked { AsksThen (M.wanted machine.old) (StoreAt ask.entry.store.now) (NewAt ask.entry.target.now) (M.wanted machine.new) }
+    ensures asked_new { AsksNoOtherNew (M.new_stores machine.old) ask.entry.target.now ask.entry.has_sums (M.new_stores machine.new)
+        (EndsWith (M.stands machine.old ask.entry.store.now) (M.left machine.new) (OpensDesk M.Disk.Store)) }
 {
     copy_store(alloc, ask, machine)?;
     write_whole::<M, W>(output, b"done\n")

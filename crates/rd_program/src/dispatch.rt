@@ -108,7 +108,7 @@ fn perform<R: Read, W: Write, M: Machine>(
     ensures untouched { IsOfImage ask.entry → machine.new ≡ machine.old }
     ensures back { GivesBack (M.shows machine.old) (M.left machine.old) (M.left machine.new) }
     ensures there { OnEnded result (StandsThere (M.shows machine.old) (M.stands machine.old) (M.left machine.new) ask.entry) }
-    ensures asked { AsksBy (M.paths machine.old) ask.entry (M.paths machine.new) }
+    ensures asked { AsksBy (M.wanted machine.old) ask.entry (M.wanted machine.new) }
     ensures sums { SumsBy (M.sums machine.old) ask.entry (M.sums machine.new) }
     ensures copies { CopiesBy M.Disk.Store (M.shows machine.old) (M.stands machine.old) (M.left machine.new) (M.made machine.old) (M.fresh machine.old)
         (M.made machine.new) (M.new_stores machine.old) (M.new_stores machine.new) (W.contents output.old) (W.contents output.new) ask.entry result }
@@ -158,7 +158,7 @@ pub fn run<R: Read, W: Write, E: Write, M: Machine>(
     ensures keeps { KeepsMachine (texts words.entry.now) result (M.shows machine.old) (M.left machine.old) (M.left machine.new)
         machine.old machine.new }
     ensures one_store { UsesOneStore M.Disk.Store (texts words.entry.now) result (M.shows machine.old) (M.clock machine.old)
-        (M.paths machine.old) (M.paths machine.new) (M.stands machine.old) (M.left machine.new)
+        (M.wanted machine.old) (M.wanted machine.new) (M.stands machine.old) (M.left machine.new)
         (E.contents errors.old) (E.contents errors.new) }
     ensures itself { TellsOfItself (texts words.entry.now) result
         (W.contents output.old) (W.contents output.new) (E.contents errors.old) (E.contents errors.new) }

@@ -97,7 +97,7 @@ fn question_day<S: Alter, M: Machine>(
     ensures reads { IsStillOrRead S.Store desk.old.store desk.new.store }
     ensures zone { desk.new.zone ≡ desk.old.zone }
     ensures shows { M.shows machine.new ≡ M.shows machine.old }
-    ensures asked { M.paths machine.new ≡ M.paths machine.old }
+    ensures asked { M.wanted machine.new ≡ M.wanted machine.old }
     ensures in_range { IfOk result IsDay }
     ensures dayless { IsDayless (moment_of ask.now.when.seconds (M.clock machine.old)) result }
     ensures clock { IfErr result (IsClockOn S.Store (is_dated ask.now.question) ask.now.when.seconds desk.old.store desk.new.store) }
@@ -153,7 +153,7 @@ fn tell_asked<S: Alter + Drop, W: Write, M: Machine>(
         → IfErr result (IsDueOn S.Store (IsDayAt (moment_of ask.now.when.seconds (M.clock machine.old)) desk.old.zone)
         (request_of (option_map sha256 (option_map (λ key. key.now) ask.now.key)) (asked_of ask.now.question)) desk.old.store desk.new.store) }
     ensures shows { M.shows machine.new ≡ M.shows machine.old }
-    ensures asked { M.paths machine.new ≡ M.paths machine.old }
+    ensures asked { M.wanted machine.new ≡ M.wanted machine.old }
 {
     let day = question_day(ask, desk, machine)?;
     let badge = badge_of(ask.key);
@@ -188,7 +188,7 @@ pub(crate) fn ask_once<W: Write, M: Machine>(
     ensures unasked { IsUnasked (moment_of ask.entry.when.seconds (M.clock machine.old)) result }
     ensures back { GivesBack (M.shows machine.old) (M.left machine.old) (M.left machine.new) }
     ensures there { OnEnded result (HasBoth (M.shows machine.old) (M.stands machine.old ask.entry.store.now) (M.left machine.new)) }
-    ensures asked { AsksPath (M.paths machine.old) ask.entry.store.now (M.paths machine.new) }
+    ensures asked { AsksPath (M.wanted machine.old) ask.entry.store.now (M.wanted machine.new) }
     ensures clock { IfErr result (IsClockDue M.Disk.Store (is_dated ask.entry.question) ask.entry.when.seconds (M.stands machine.old ask.entry.store.now) (M.left machine.new)) }
     ensures late { IfErr result (IsBehindIn M.Disk.Store (is_dated ask.entry.question) (must_be_on_time ask.entry.when.seconds ask.entry.when.is_trusting)
         (moment_of ask.entry.when.seconds (M.clock machine.old)) ask.entry.when.zone (M.stands machine.old ask.entry.store.now) (M.left machine.new)) }

@@ -286,7 +286,7 @@ fn import_sheet<W: Write, M: Machine>(
         (M.sheet_bytes machine.old ask.entry.sheet.now) (W.contents output.old) (W.contents output.new) done
         (desk_in M.Disk.Store desk.old.store) (desk_in M.Disk.Store desk.new.store)) }
     ensures shows { M.shows machine.new ≡ M.shows machine.old }
-    ensures asked { M.paths machine.new ≡ M.paths machine.old }
+    ensures asked { M.wanted machine.new ≡ M.wanted machine.old }
 {
     let day = day_on_time(ask.when, desk, machine)?;
     let sheet = match machine.read_sheet(alloc, ask.sheet) {
@@ -324,7 +324,7 @@ pub(crate) fn import<W: Write, M: Machine>(
     ensures unasked { IsUnasked (moment_of ask.entry.when.seconds (M.clock machine.old)) result }
     ensures back { GivesBack (M.shows machine.old) (M.left machine.old) (M.left machine.new) }
     ensures there { OnEnded result (HasBoth (M.shows machine.old) (M.stands machine.old ask.entry.store.now) (M.left machine.new)) }
-    ensures asked { AsksPath (M.paths machine.old) ask.entry.store.now (M.paths machine.new) }
+    ensures asked { AsksPath (M.wanted machine.old) ask.entry.store.now (M.wanted machine.new) }
     ensures clock { IfErr result (IsClockDue M.Disk.Store true ask.entry.when.seconds (M.stands machine.old ask.entry.store.now) (M.left machine.new)) }
     ensures late { IfErr result (IsBehindIn M.Disk.Store true (must_be_on_time ask.entry.when.seconds ask.entry.when.is_trusting)
         (moment_of ask.entry.when.seconds (M.clock machine.old)) ask.entry.when.zone (M.stands machine.old ask.entry.store.now) (M.left machine.new)) }

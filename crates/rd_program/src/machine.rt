@@ -7,7 +7,7 @@ ghost use Rattle.rd_messages.specs.declared.pace.TimeLimits as pace;
 ghost use Rattle.rd_commands.specs.Serving as places;
 ghost use Rattle.rd_commands.specs.Serving.{place_of};
 ghost use Rattle.rd_program.specs.Copying.{AsksNew};
-ghost use Rattle.rd_program.specs.Doors.{AsksPath, AsksSums, LendsDoor};
+ghost use Rattle.rd_program.specs.Doors.{Asks, AsksPath, AsksSums, LendsDoor, NewAt, Wanted};
 ghost use Rattle.rd_program.specs.Leaves.{LeavesNone};
 ghost use Rattle.rd_program.specs.Rows.{KeepsFiles};
 
@@ -50,11 +50,10 @@ pub trait Machine: Files {
     /// The connection that stands for a store at a path, if the machine shows it.
     ghost stands: { Self → List ℕ → Option (Held Self.Disk) };
 
-    /// The paths for which connections were asked, the latest first, if the machine shows them.
-    ghost paths: { Self → Option (List (List ℕ)) } = { λ _. None };
+    /// The connections that it was asked for, to stores and to new ones, the latest first, if the machine shows them.
+    ghost wanted: { Self → Option (List Wanted) } = { λ _. None };
 
-    /// For each connection that was asked for, whether a file that is new was to have sums, the latest first, if the
-    /// machine shows it.
+    /// For each call of `connect`, whether a file that is new was to have sums, the latest first, if the machine shows it.
     ghost sums: { Self → Option (List Bool) } = { λ _. None };
 
     /// The connection that it took back last, if the machine shows it.
@@ -84,7 +83,7 @@ pub trait Machine: Files {
         ensures there { IfOk result (λ conn. IsTrue (shows self.old) → stands self.old path.now ≡ Some conn) }
         ensures none { IfErr result (λ _. LeavesNone (left self.old) (left self.new)) }
         ensures kept { IfErr result (λ _. IsTrue (shows self.old) → left self.new ≡ left self.old) }
-        ensures asked { AsksPath (paths self.old) path.now (paths self.new) }
+        ensures asked { AsksPath (wanted self.old) path.now (wanted self.new) }
         ensures sums { AsksSums (sums self.old) new_has_sums (sums self.new) }
         ensures shows { shows self.new ≡ shows self.old }
         ensures clock { clock self.new ≡ clock self.old }
@@ -98,7 +97,7 @@ pub trait Machine: Files {
     fn release(&mut self, conn: &mut Option<Connection<Self::Disk>>)
         ensures left { IfSome (left self.new) (λ held. conn.old ≡ Some held) }
         ensures back { IsTrue (shows self.old) → left self.new ≡ conn.old }
-        ensures asked { paths self.new ≡ paths self.old }
+        ensures asked { wanted self.new ≡ wanted self.old }
         ensures sums { sums self.new ≡ sums self.old }
         ensures shows { shows self.new ≡ shows self.old }
         ensures door_limits { door_limits self.new ≡ door_limits self.old }
@@ -124,7 +123,7 @@ pub trait Machine: Files {
         ensures kept { IfErr result (λ _. made self.new ≡ made self.old) }
         ensures new_stores { AsksNew (new_stores self.old) path.now has_sums (new_stores self.new) }
         ensures left { left self.new ≡ left self.old }
-        ensures asked { paths self.new ≡ paths self.old }
+        ensures asked { Asks (wanted self.old) (NewAt path.now) (wanted self.new) }
         ensures sums { sums self.new ≡ sums self.old }
         ensures shows { shows self.new ≡ shows self.old };
 
@@ -134,7 +133,7 @@ pub trait Machine: Files {
         ensures back { IsTrue (shows self.old) → made self.new ≡ conn.old }
         ensures new_stores { new_stores self.new ≡ new_stores self.old }
         ensures left { left self.new ≡ left self.old }
-        ensures asked { paths self.new ≡ paths self.old }
+        ensures asked { wanted self.new ≡ wanted self.old }
         ensures sums { sums self.new ≡ sums self.old }
         ensures shows { shows self.new ≡ shows self.old };
 
@@ -145,7 +144,7 @@ pub trait Machine: Files {
         ensures shown { IfOk result (λ seconds. IfSome (clock self.old) (λ moment. seconds ≡ moment)) }
         ensures sure { IfSome (clock self.old) (λ moment. result ≡ Ok moment) }
         ensures files { KeepsFiles Self.file_bytes Self.sheet_bytes self.old self.new }
-        ensures asked { paths self.new ≡ paths self.old }
+        ensures asked { wanted self.new ≡ wanted self.old }
         ensures sums { sums self.new ≡ sums self.old }
         ensures shows { shows self.new ≡ shows self.old }
         ensures door { door self.new ≡ door self.old };
@@ -155,6 +154,6 @@ pub trait Machine: Files {
     ///
     /// It fails when it cannot open the place.
     fn listen(&mut self, place: Place, limits: TimeLimits) -> Result<&mut Self::Door, MachineFault>
-        ensures* lends { sem 𝓛 (LendsDoor Self.row Self.Door.row shows paths door_limits door (place_of place.entry) limits self.entry result) }
+        ensures* lends { sem 𝓛 (LendsDoor Self.row Self.Door.row shows wanted door_limits door (place_of place.entry) limits self.entry result) }
         ensures lent { IfOk result (λ lent. IfSome (door self.old (place_of place.entry)) (λ shown. lent.now ≡ shown)) };
 }

@@ -32,7 +32,7 @@ pub(crate) fn open_store<M: Machine>(
     ensures opened { IfOk result (λ opened. IfSome (M.stands machine.old store.now) (λ before. IsMigrated M.Disk.Store before opened)) }
     ensures there { IfOk result (λ _. IsTrue (M.shows machine.old) → IsSome (M.stands machine.old store.now)) }
     ensures shows { M.shows machine.new ≡ M.shows machine.old }
-    ensures asked { AsksPath (M.paths machine.old) store.now (M.paths machine.new) }
+    ensures asked { AsksPath (M.wanted machine.old) store.now (M.wanted machine.new) }
     ensures clock { IfOk result (λ _. M.clock machine.new ≡ M.clock machine.old) }
     ensures files { IfOk result (λ _. KeepsFiles M.file_bytes M.sheet_bytes machine.old machine.new) }
     ensures door { M.door machine.new ≡ M.door machine.old }
@@ -70,7 +70,7 @@ pub(crate) fn open_desk<M: Machine>(
     ensures opened { IfOk result (λ desk. IfSome (M.stands machine.old store.now) (λ before. IsMigrated M.Disk.Store before desk.store)) }
     ensures there { IfOk result (λ _. IsTrue (M.shows machine.old) → IsSome (M.stands machine.old store.now)) }
     ensures shows { M.shows machine.new ≡ M.shows machine.old }
-    ensures asked { AsksPath (M.paths machine.old) store.now (M.paths machine.new) }
+    ensures asked { AsksPath (M.wanted machine.old) store.now (M.wanted machine.new) }
     ensures clock { IfOk result (λ _. M.clock machine.new ≡ M.clock machine.old) }
     ensures files { IfOk result (λ _. KeepsFiles M.file_bytes M.sheet_bytes machine.old machine.new) }
     ensures door { M.door machine.new ≡ M.door machine.old }
@@ -93,7 +93,7 @@ fn clock_seconds<M: Machine>(machine: &mut M) -> Result<i64, Refusal>
     ensures sure { IfSome (M.clock machine.old) (λ moment. result ≡ Ok moment) }
     ensures files { KeepsFiles M.file_bytes M.sheet_bytes machine.old machine.new }
     ensures shows { M.shows machine.new ≡ M.shows machine.old }
-    ensures asked { M.paths machine.new ≡ M.paths machine.old }
+    ensures asked { M.wanted machine.new ≡ M.wanted machine.old }
     ensures refused { IfErr result IsClockRefusal }
 {
     match machine.now() {
@@ -111,7 +111,7 @@ fn seconds_of<M: Machine>(named: Option<i64>, machine: &mut M) -> Result<i64, Re
     ensures sure { IfSome (moment_of named (M.clock machine.old)) (λ seconds. result ≡ Ok seconds) }
     ensures files { KeepsFiles M.file_bytes M.sheet_bytes machine.old machine.new }
     ensures shows { M.shows machine.new ≡ M.shows machine.old }
-    ensures paths { M.paths machine.new ≡ M.paths machine.old }
+    ensures wanted { M.wanted machine.new ≡ M.wanted machine.old }
     ensures refused { IfErr result IsClockRefusal }
 {
     match named {
@@ -132,7 +132,7 @@ pub(crate) fn visit_day<S: Alter, M: Machine>(
     ensures day { IfOk result (IsDayAt (moment_of named (M.clock machine.old)) desk.now.zone) }
     ensures files { KeepsFiles M.file_bytes M.sheet_bytes machine.old machine.new }
     ensures shows { M.shows machine.new ≡ M.shows machine.old }
-    ensures asked { M.paths machine.new ≡ M.paths machine.old }
+    ensures asked { M.wanted machine.new ≡ M.wanted machine.old }
     ensures in_range { IfOk result IsDay }
     ensures named { IfSome named (λ seconds.
         (HasDay seconds → result ≡ Ok (day_number seconds desk.now.zone)) × (¬ HasDay seconds → result ≡ Err Refusal.Clock)) }
@@ -181,7 +181,7 @@ pub(crate) fn day_on_time<S: Alter, M: Machine>(
     ensures zone { desk.new.zone ≡ desk.old.zone }
     ensures files { KeepsFiles M.file_bytes M.sheet_bytes machine.old machine.new }
     ensures shows { M.shows machine.new ≡ M.shows machine.old }
-    ensures asked { M.paths machine.new ≡ M.paths machine.old }
+    ensures asked { M.wanted machine.new ≡ M.wanted machine.old }
     ensures in_range { IfOk result IsDay }
     ensures dayless { IsDayless (moment_of when.seconds (M.clock machine.old)) result }
     ensures clock { IfErr result (IsClockOn S.Store true when.seconds desk.old.store desk.new.store) }
@@ -206,7 +206,7 @@ pub(crate) fn clock_shown<M: Machine>(is_trusting: bool, machine: &mut M) -> Opt
     ensures shown { IfSome result (λ seconds. IfSome (M.clock machine.old) (λ moment. seconds ≡ moment)) }
     ensures trusted { IsTrue is_trusting → result ≡ None }
     ensures shows { M.shows machine.new ≡ M.shows machine.old }
-    ensures asked { M.paths machine.new ≡ M.paths machine.old }
+    ensures asked { M.wanted machine.new ≡ M.wanted machine.old }
     ensures door { M.door machine.new ≡ M.door machine.old }
 {
     if is_trusting {

@@ -124,7 +124,7 @@ fn serve_visits<W: Write, M: Machine>(
     ensures unserved { IfErr result (λ _. desk.new.store ≡ desk.old.store) }
     ensures lent { WritesOnceLent (M.shows machine.old) (M.door_limits machine.new) (W.contents output.old) (W.contents output.new) }
     ensures shows { M.shows machine.new ≡ M.shows machine.old }
-    ensures asked { M.paths machine.new ≡ M.paths machine.old }
+    ensures asked { M.wanted machine.new ≡ M.wanted machine.old }
     ensures limits { IfOk result (λ _. IsTrue (M.shows machine.old) → IsSomeAnd (M.door_limits machine.new) (AreLimitsOf ask.entry.timeouts)) }
     ensures visits { IfOk result (λ served. served.ended ≡ Ended.Count → IfSome (M.door machine.old (place_of ask.entry.place))
         (λ before. IsSomeAnd (M.door machine.new (place_of ask.entry.place)) (λ after.
@@ -189,7 +189,7 @@ pub(crate) fn serve<W: Write, M: Machine>(
     ensures flushed { OnOk result (IsTrue (M.flushed (W.contents output.new))) }
     ensures back { GivesBack (M.shows machine.old) (M.left machine.old) (M.left machine.new) }
     ensures there { OnEnded result (HasBoth (M.shows machine.old) (M.stands machine.old ask.entry.store.now) (M.left machine.new)) }
-    ensures asked { AsksPath (M.paths machine.old) ask.entry.store.now (M.paths machine.new) }
+    ensures asked { AsksPath (M.wanted machine.old) ask.entry.store.now (M.wanted machine.new) }
 {
     let mut desk = open_desk(alloc, ask.store, ask.zone, machine)?;
     let served = serve_visits(alloc, ask, &mut desk, output, machine);

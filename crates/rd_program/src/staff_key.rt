@@ -57,7 +57,7 @@ fn put_in_store<M: Machine>(alloc: Global, ask: StaffKeyAsk, machine: &mut M) ->
     ensures refused { IfErr result IsOpenRefusal }
     ensures back { GivesBack (M.shows machine.old) (M.left machine.old) (M.left machine.new) }
     ensures there { OnEnded result (HasBoth (M.shows machine.old) (M.stands machine.old ask.entry.store.now) (M.left machine.new)) }
-    ensures asked { AsksPath (M.paths machine.old) ask.entry.store.now (M.paths machine.new) }
+    ensures asked { AsksPath (M.wanted machine.old) ask.entry.store.now (M.wanted machine.new) }
 {
     let mut store = open_store(alloc, ask.store, machine)?;
     let put = put_staff(&mut store, ask.key);
@@ -87,7 +87,7 @@ pub(crate) fn staff_key<W: Write, M: Machine>(
     ensures opens { IfErr result (NamesOpening M.Disk.Store (M.stands machine.old ask.entry.store.now) (M.left machine.new)) }
     ensures back { GivesBack (M.shows machine.old) (M.left machine.old) (M.left machine.new) }
     ensures there { OnEnded result (HasBoth (M.shows machine.old) (M.stands machine.old ask.entry.store.now) (M.left machine.new)) }
-    ensures asked { AsksPath (M.paths machine.old) ask.entry.store.now (M.paths machine.new) }
+    ensures asked { AsksPath (M.wanted machine.old) ask.entry.store.now (M.wanted machine.new) }
 {
     put_in_store(alloc, ask, machine)?;
     write_whole::<M, W>(output, b"done\n")

@@ -1,9 +1,12 @@
 use Rattle.std.proofs.Common.{◌∙◌, ℕ, IsTrue, List, Option, ap, subst, sym}
 use Rattle.sqlite.specs.Held.{Held}
+use Rattle.rd_program.specs.Copying.{OpensDesk}
+use Rattle.rd_program.specs.Doors.Wanted.{NewAt, StoreAt}
 use Rattle.rd_program.specs.Leaves.{IsSame}
-use Rattle.rd_program.proofs.CopyLemmas.{asks_between, asks_no_new, back_between, back_same, copied_from, init_opens_all, init_refused, kept_left, not_copied_from, unopened_new}
+use Rattle.rd_program.specs.Showing.{EndsWith}
+use Rattle.rd_program.proofs.CopyLemmas.{asks_between, asks_no_new, back_between, back_same, copied_from, init_opens_all, init_refused, kept_left, not_copied_from, opened_left, unopened_new}
 use Rattle.rd_program.proofs.LeftStores.{gives_back, has_both, on_ended_always, opening_fails, unopened_left}
-use Rattle.rd_program.proofs.Named.{asked_then}
+use Rattle.rd_program.proofs.Named.{asked_both, asked_first}
 use Rattle.rd_program.proofs.ShowLemmas.{passed_on}
 use Rattle.rd_program.proofs.copy.copy_store.Goals as goal
 
@@ -25,8 +28,12 @@ returns-clause-there g c =
 
 pub returns-clause-asked : goal.returns-clause-asked
 returns-clause-asked g c =
-    asked_then (g.M.Machine.paths c.args.machine.now) (g.M.Machine.paths c.open_store.new.machine) (g.M.Machine.paths c.release.new.self) c.args.ask.store.now c.open_store.ensures.asked
-    (c.release.ensures.asked ∙ c.copy_to-copied.ensures.asked)
+    asked_both (g.M.Machine.wanted c.args.machine.now) (g.M.Machine.wanted c.release.new.self) (StoreAt c.args.ask.store.now) (NewAt c.args.ask.target.now) (g.M.Machine.wanted c.open_store.new.machine)
+    (g.M.Machine.wanted c.copy_to-copied.new.machine) c.open_store.ensures.asked c.copy_to-copied.ensures.asked c.release.ensures.asked
+
+pub returns-in_err-store-clause-asked : goal.returns-in_err-store-clause-asked
+returns-in_err-store-clause-asked g c =
+    asked_first (g.M.Machine.wanted c.args.machine.now) (g.M.Machine.wanted c.open_store.new.machine) (StoreAt c.args.ask.store.now) (NewAt c.args.ask.target.now) c.open_store.ensures.asked
 
 pub returns-in_err-store-clause-leaves : goal.returns-in_err-store-clause-leaves
 returns-in_err-store-clause-leaves g c =
@@ -71,11 +78,16 @@ returns-clause-back_new g c =
 pub returns-clause-asked_new : goal.returns-clause-asked_new
 returns-clause-asked_new g c =
     asks_between (g.M.Machine.new_stores c.args.machine.now) (g.M.Machine.new_stores c.open_store.new.machine) (g.M.Machine.new_stores c.copy_to-copied.new.machine) (g.M.Machine.new_stores c.release.new.self)
-    c.args.ask.target.now c.args.ask.has_sums c.open_store.ensures.new_stores c.release.ensures.new_stores c.copy_to-copied.ensures.asked_new
+    c.args.ask.target.now c.args.ask.has_sums (EndsWith (g.M.Machine.stands c.args.machine.now c.args.ask.store.now) (g.M.Machine.left c.release.new.self) (OpensDesk g.M.Disk.Store))
+    c.open_store.ensures.new_stores c.release.ensures.new_stores c.copy_to-copied.ensures.asked_new
+    (opened_left g.M.Disk.Store (g.M.Machine.stands c.args.machine.now c.args.ask.store.now) (g.M.Machine.left c.release.new.self)
+    c.in_ok-store.store c.copy_to-copied.new.from c.into_connection.result c.copy_to-copied.ensures.leaves
+    c.in_ok-store.ensures.opened c.into_connection.ensures.same c.release.ensures.left)
 
 pub returns-in_err-store-clause-back_new : goal.returns-in_err-store-clause-back_new
 returns-in_err-store-clause-back_new g c = back_same (g.M.Machine.shows c.args.machine.now) (g.M.Machine.made c.args.machine.now) (g.M.Machine.made c.open_store.new.machine) c.open_store.ensures.made
 
 pub returns-in_err-store-clause-asked_new : goal.returns-in_err-store-clause-asked_new
 returns-in_err-store-clause-asked_new g c =
-    asks_no_new (g.M.Machine.new_stores c.args.machine.now) (g.M.Machine.new_stores c.open_store.new.machine) c.args.ask.target.now c.args.ask.has_sums c.open_store.ensures.new_stores
+    asks_no_new (g.M.Machine.new_stores c.args.machine.now) (g.M.Machine.new_stores c.open_store.new.machine) c.args.ask.target.now c.args.ask.has_sums
+    (EndsWith (g.M.Machine.stands c.args.machine.now c.args.ask.store.now) (g.M.Machine.left c.open_store.new.machine) (OpensDesk g.M.Disk.Store)) c.open_store.ensures.new_stores

@@ -1,6 +1,6 @@
 use Rattle.std.proofs.Common.{◌≡◌, Option, IsTrue, IfSome, Some, subst, sym}
 use Rattle.sqlite.specs.Held.{Held}
-use Rattle.rd_program.proofs.CopyLemmas.{done_to, failed_to}
+use Rattle.rd_program.proofs.CopyLemmas.{done_to, failed_to, none_to}
 use Rattle.rd_program.proofs.copy.copy_to.Goals as goal
 
 pub returns-clause-copied : goal.returns-clause-copied
@@ -19,3 +19,8 @@ returns-clause-not_copied g c =
     c.in-Some.conn c.copy_desk-copied.result.1
     (subst (λ (found : Option (Held _)). IfSome found (λ conn. IfSome fresh (λ held. conn ≡ held))) c.in-Some.is c.in-Ok.ensures.fresh) c.release_new.ensures.made c.copy_desk-copied.result.0
     c.copy_desk-copied.ensures.not_copied
+
+pub returns-in-Err-clause-not_copied : goal.returns-in-Err-clause-not_copied
+returns-in-Err-clause-not_copied g c =
+    none_to g.M.Disk.Store c.args.from.now c.args.from.now (g.M.Machine.made c.args.machine.now) (g.M.Machine.fresh c.args.machine.now c.args.target.now)
+    (g.M.Machine.made c.connect_new.new.self) c.or.result c.in-Err.ensures.kept

@@ -582,27 +582,27 @@ returns-in-OneQuestion-clause-bad_sheet g c =
 
 pub returns-in-File-clause-asked : goal.returns-in-File-clause-asked
 returns-in-File-clause-asked g c =
-    subst (λ ask. AsksBy (g.M.Machine.paths c.args.machine.now) ask (g.M.Machine.paths c.cat.new.machine)) (sym c.in-File.is) (ap g.M.Machine.paths c.cat.ensures.same)
+    subst (λ ask. AsksBy (g.M.Machine.wanted c.args.machine.now) ask (g.M.Machine.wanted c.cat.new.machine)) (sym c.in-File.is) (ap g.M.Machine.wanted c.cat.ensures.same)
 
 pub returns-in-Files-clause-asked : goal.returns-in-Files-clause-asked
 returns-in-Files-clause-asked g c =
-    subst (λ ask. AsksBy (g.M.Machine.paths c.args.machine.now) ask (g.M.Machine.paths c.list.new.machine)) (sym c.in-Files.is) (ap g.M.Machine.paths c.list.ensures.same)
+    subst (λ ask. AsksBy (g.M.Machine.wanted c.args.machine.now) ask (g.M.Machine.wanted c.list.new.machine)) (sym c.in-Files.is) (ap g.M.Machine.wanted c.list.ensures.same)
 
 pub returns-in-Init-clause-asked : goal.returns-in-Init-clause-asked
 returns-in-Init-clause-asked g c =
-    subst (λ ask. AsksBy (g.M.Machine.paths c.args.machine.now) ask (g.M.Machine.paths c.init.new.machine)) (sym c.in-Init.is) c.init.ensures.asked
+    subst (λ ask. AsksBy (g.M.Machine.wanted c.args.machine.now) ask (g.M.Machine.wanted c.init.new.machine)) (sym c.in-Init.is) c.init.ensures.asked
 
 pub returns-in-Serve-clause-asked : goal.returns-in-Serve-clause-asked
 returns-in-Serve-clause-asked g c =
-    subst (λ ask. AsksBy (g.M.Machine.paths c.args.machine.now) ask (g.M.Machine.paths c.serve.new.machine)) (sym c.in-Serve.is) c.serve.ensures.asked
+    subst (λ ask. AsksBy (g.M.Machine.wanted c.args.machine.now) ask (g.M.Machine.wanted c.serve.new.machine)) (sym c.in-Serve.is) c.serve.ensures.asked
 
 pub returns-in-Import-clause-asked : goal.returns-in-Import-clause-asked
 returns-in-Import-clause-asked g c =
-    subst (λ ask. AsksBy (g.M.Machine.paths c.args.machine.now) ask (g.M.Machine.paths c.import.new.machine)) (sym c.in-Import.is) c.import.ensures.asked
+    subst (λ ask. AsksBy (g.M.Machine.wanted c.args.machine.now) ask (g.M.Machine.wanted c.import.new.machine)) (sym c.in-Import.is) c.import.ensures.asked
 
 pub returns-in-OneQuestion-clause-asked : goal.returns-in-OneQuestion-clause-asked
 returns-in-OneQuestion-clause-asked g c =
-    subst (λ ask. AsksBy (g.M.Machine.paths c.args.machine.now) ask (g.M.Machine.paths c.ask_once.new.machine)) (sym c.in-OneQuestion.is) c.ask_once.ensures.asked
+    subst (λ ask. AsksBy (g.M.Machine.wanted c.args.machine.now) ask (g.M.Machine.wanted c.ask_once.new.machine)) (sym c.in-OneQuestion.is) c.ask_once.ensures.asked
 
 -- ---- a key of the staff
 
@@ -685,7 +685,7 @@ returns-in-StaffKey-clause-bad_sheet g c =
 
 pub returns-in-StaffKey-clause-asked : goal.returns-in-StaffKey-clause-asked
 returns-in-StaffKey-clause-asked g c =
-    subst (λ ask. AsksBy (g.M.Machine.paths c.args.machine.now) ask (g.M.Machine.paths c.staff_key.new.machine)) (sym c.in-StaffKey.is) c.staff_key.ensures.asked
+    subst (λ ask. AsksBy (g.M.Machine.wanted c.args.machine.now) ask (g.M.Machine.wanted c.staff_key.new.machine)) (sym c.in-StaffKey.is) c.staff_key.ensures.asked
 
 pub returns-in-StaffKey-clause-made : goal.returns-in-StaffKey-clause-made
 returns-in-StaffKey-clause-made g c = λ store key asked. absurd (subst (IsInitAsk store key) c.in-StaffKey.is asked)
@@ -877,7 +877,7 @@ returns-in-Copy-clause-bad_sheet g c =
 
 pub returns-in-Copy-clause-asked : goal.returns-in-Copy-clause-asked
 returns-in-Copy-clause-asked g c =
-    subst (λ ask. AsksBy (g.M.Machine.paths c.args.machine.now) ask (g.M.Machine.paths c.copy.new.machine)) (sym c.in-Copy.is) c.copy.ensures.asked
+    subst (λ ask. AsksBy (g.M.Machine.wanted c.args.machine.now) ask (g.M.Machine.wanted c.copy.new.machine)) (sym c.in-Copy.is) c.copy.ensures.asked
 
 pub returns-in-Copy-clause-made : goal.returns-in-Copy-clause-made
 returns-in-Copy-clause-made g c = λ store key asked. absurd (subst (IsInitAsk store key) c.in-Copy.is asked)

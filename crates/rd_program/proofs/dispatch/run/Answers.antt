@@ -29,9 +29,11 @@ use Rattle.std.specs.Io.KnownBytes.{Appends}
 use Rattle.rd_program.proofs.AnswerLemmas.{check_asks, check_of_desk, export_is_whole, show_is_whole}
 use Rattle.rd_program.proofs.ImportLemmas.{done_lines, import_tells, in_part_is_one, not_in_rows, one_is_some, rows_of, rows_tell}
 use Rattle.rd_program.proofs.LeftStores.{none_still, still_left}
-use Rattle.rd_program.proofs.Named.{asks_by, asks_none, command_of_store, has_both_by, one_of_status, sums_by, sums_none}
+use Rattle.rd_program.specs.Doors.Wanted.{NewAt, StoreAt}
+use Rattle.rd_program.proofs.Named.{asks_by, asks_neither, asks_none, command_of_store, copy_asks, has_both_by, one_of_status, sums_by, sums_none}
 use Rattle.rd_program.proofs.ShowLemmas.{memory_no_accession, once_due, once_finds, once_not_shown, once_shows}
-use Rattle.rd_program.proofs.CopyLemmas.{asks_no_new, copies_by, copy_leaves, none_new}
+use Rattle.rd_program.specs.Copying.{OpensDesk}
+use Rattle.rd_program.proofs.CopyLemmas.{asks_no_new, copies_by, copy_leaves}
 use Rattle.rd_program.proofs.LeftStoresByWords.{import_leaves, import_names, once_leaves, once_names, serve_leaves, serve_refused}
 use Rattle.rd_commands.proofs.RunLemmas.{is_cut, kept_is_cut, no_sound_file, not_done, of_all, of_known, reads_few, reads_no_input, reads_of_kind, tells}
 use Rattle.rd_commands.proofs.ReadLimits.{reads_none, reads_within}
@@ -234,7 +236,10 @@ returns-in-Ok-perform-clause-one_store g c = record {
       has_both_by (g.M.Machine.shows c.args.machine.now) (g.M.Machine.stands c.args.machine.now) (g.M.Machine.left c.perform.new.machine) _ c.in-Ok.ask store c.in-Ok.ensures.read names
       c.in-Ok-perform.ensures.there;
   asked = λ store names.
-      asks_by (g.M.Machine.paths c.args.machine.now) (g.M.Machine.paths c.perform.new.machine) _ c.in-Ok.ask store c.in-Ok.ensures.read names c.perform.ensures.asked;
+      asks_by (g.M.Machine.wanted c.args.machine.now) (g.M.Machine.wanted c.perform.new.machine) _ c.in-Ok.ask store c.in-Ok.ensures.read names c.perform.ensures.asked;
+  asked_copy = λ store target summed asks.
+      copy_asks (g.M.Machine.wanted c.args.machine.now) (g.M.Machine.wanted c.perform.new.machine) c.in-Ok.ask store target summed (c.in-Ok.ensures.read.copy store target summed asks)
+      c.perform.ensures.asked;
   unasked = λ store moment rule asks.
       unasked_by _ _ (g.M.Machine.clock c.args.machine.now) c.in-Ok.ask (Ok c.in-Ok-perform.done) store moment rule c.in-Ok.ensures.read asks c.in-Ok-perform.ensures.unasked (λ none. absurd none);
   on_time = λ zero store rule goes trusts.
@@ -250,7 +255,10 @@ returns-in-Err-perform-clause-one_store g c = record {
       has_both_by (g.M.Machine.shows c.args.machine.now) (g.M.Machine.stands c.args.machine.now) (g.M.Machine.left c.perform.new.machine) _ c.in-Ok.ask store c.in-Ok.ensures.read names
       (c.in-Err-perform.ensures.there (one_of_status (status_of c.in-Err-perform.refused) (subst (λ s. s ≤ 1) c.tell_refusal.ensures.status well) some));
   asked = λ store names.
-      asks_by (g.M.Machine.paths c.args.machine.now) (g.M.Machine.paths c.perform.new.machine) _ c.in-Ok.ask store c.in-Ok.ensures.read names c.perform.ensures.asked;
+      asks_by (g.M.Machine.wanted c.args.machine.now) (g.M.Machine.wanted c.perform.new.machine) _ c.in-Ok.ask store c.in-Ok.ensures.read names c.perform.ensures.asked;
+  asked_copy = λ store target summed asks.
+      copy_asks (g.M.Machine.wanted c.args.machine.now) (g.M.Machine.wanted c.perform.new.machine) c.in-Ok.ask store target summed (c.in-Ok.ensures.read.copy store target summed asks)
+      c.perform.ensures.asked;
   unasked = λ store moment rule asks.
       unasked_by _ _ (g.M.Machine.clock c.args.machine.now) c.in-Ok.ask (Err c.in-Err-perform.refused) store moment rule c.in-Ok.ensures.read asks c.in-Err-perform.ensures.unasked
       (λ is. tells IsUnaskedRefusal c.in-Err-perform.refused _ _ _ is c.tell_refusal.ensures.status c.tell_refusal.ensures.written);
@@ -267,7 +275,8 @@ returns-in-Err-clause-one_store g c = record {
   there = λ well store names.
       let memory = c.tell_unread.ensures.memory (c.in-Err.ensures.unread (command_of_store _ store names)) in
       let three : c.tell_unread.result ≡ 3 = memory.0 in absurd (omega (arith, well));
-  asked = λ store names. asks_none (g.M.Machine.paths c.args.machine.now) store;
+  asked = λ store names. asks_none (g.M.Machine.wanted c.args.machine.now) store;
+  asked_copy = λ store target summed asks. asks_neither (g.M.Machine.wanted c.args.machine.now) (StoreAt store) (NewAt target);
   unasked = λ store moment rule asks.
       let none = c.in-Err.ensures.unread (command_at _ store moment rule asks) in
       always _ (moment_of moment (g.M.Machine.clock c.args.machine.now)) (tells IsUnaskedRefusal NoMemory _ _ _ (inr (inr refl)) (c.tell_unread.ensures.memory none).0 (c.tell_unread.ensures.no_memory none));
@@ -850,11 +859,13 @@ returns-in-Err-clause-copy g c = λ store target summed asks.
       copy_due = λ some.
           tells _ NoMemory _ _ _ (
             (memory.1, inl (inr (inr (inr (inr refl))))),
-            none_new (g.M.Machine.stands c.args.machine.now store) (g.M.Machine.left c.args.machine.now) (g.M.Machine.made c.args.machine.now) (g.M.Machine.fresh c.args.machine.now target) _,
+            none_still (g.M.Machine.made c.args.machine.now),
             tt,
           )
           memory.0 (c.tell_unread.ensures.no_memory none);
       copy_leaves = still_left (g.M.Machine.left c.args.machine.now) (g.M.Machine.stands c.args.machine.now store) _;
       copy_back = λ shows had. had;
-      copy_new = asks_no_new (g.M.Machine.new_stores c.args.machine.now) (g.M.Machine.new_stores c.args.machine.now) target summed refl;
+      copy_new =
+          asks_no_new (g.M.Machine.new_stores c.args.machine.now) (g.M.Machine.new_stores c.args.machine.now) target summed
+          (EndsWith (g.M.Machine.stands c.args.machine.now store) (g.M.Machine.left c.args.machine.now) (OpensDesk g.M.Disk.Store)) refl;
     }

@@ -89,7 +89,7 @@ returns-in_err-desk-clause-bad_sheet g c =
 
 pub returns-clause-asked : goal.returns-clause-asked
 returns-clause-asked g c =
-    asked_then (g.M.Machine.paths c.args.machine.now) (g.M.Machine.paths c.open_desk.new.machine) (g.M.Machine.paths c.release.new.self) c.args.ask.store.now c.open_desk.ensures.asked
+    asked_then (g.M.Machine.wanted c.args.machine.now) (g.M.Machine.wanted c.open_desk.new.machine) (g.M.Machine.wanted c.release.new.self) c.args.ask.store.now c.open_desk.ensures.asked
     (c.release.ensures.asked ∙ c.import_sheet-imported.ensures.asked)
 
 -- ---- the clock that is not behind

@@ -96,12 +96,12 @@ returns-in_err-desk-clause-there g c = opening_fails c.from_residual.result c.in
 
 pub returns-clause-asked : goal.returns-clause-asked
 returns-clause-asked g c =
-    asked_then (g.M.Machine.paths c.args.machine.now) (g.M.Machine.paths c.open_desk.new.machine) (g.M.Machine.paths c.release.new.self) c.args.ask.store.now c.open_desk.ensures.asked
+    asked_then (g.M.Machine.wanted c.args.machine.now) (g.M.Machine.wanted c.open_desk.new.machine) (g.M.Machine.wanted c.release.new.self) c.args.ask.store.now c.open_desk.ensures.asked
     (c.release.ensures.asked ∙ c.serve_visits-served.ensures.asked)
 
 pub returns-in_err-served-clause-asked : goal.returns-in_err-served-clause-asked
 returns-in_err-served-clause-asked g c =
-    asked_then (g.M.Machine.paths c.args.machine.now) (g.M.Machine.paths c.open_desk.new.machine) (g.M.Machine.paths c.release.new.self) c.args.ask.store.now c.open_desk.ensures.asked
+    asked_then (g.M.Machine.wanted c.args.machine.now) (g.M.Machine.wanted c.open_desk.new.machine) (g.M.Machine.wanted c.release.new.self) c.args.ask.store.now c.open_desk.ensures.asked
     (c.release.ensures.asked ∙ c.serve_visits-served.ensures.asked)
 
 -- ---- the door that was lent

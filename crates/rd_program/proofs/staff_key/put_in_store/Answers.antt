@@ -37,7 +37,7 @@ returns-clause-there g c =
 
 pub returns-clause-asked : goal.returns-clause-asked
 returns-clause-asked g c =
-    asked_then (g.M.Machine.paths c.args.machine.now) (g.M.Machine.paths c.open_store.new.machine) (g.M.Machine.paths c.release.new.self) c.args.ask.store.now c.open_store.ensures.asked
+    asked_then (g.M.Machine.wanted c.args.machine.now) (g.M.Machine.wanted c.open_store.new.machine) (g.M.Machine.wanted c.release.new.self) c.args.ask.store.now c.open_store.ensures.asked
     c.release.ensures.asked
 
 pub returns-in_err-store-clause-left : goal.returns-in_err-store-clause-left
