@@ -20,6 +20,8 @@ UNIT, USER = "desk.service", "desk"
 OPENS = 600
 # What the staff may ask, as far as a backup and a restore compare it.
 QUESTIONS = ("deeds", "takedowns", "keys", "checks")
+# How a file in SQLite's format begins, and how many bytes of each page a store with sums has for them.
+FORMAT, SUM_BYTES = b"SQLite format 3\0", 8
 PLACE = re.compile(r"([A-Z_]+)=(\S+)")
 
 
@@ -130,6 +132,26 @@ class Served:
         return self.process.communicate()[1].decode(errors="replace")
 
 
+def do(program, folder, *words):
+    """Has desk do a command on stores in a folder, as the user of the desk where there is one. Raises Failed where it
+    refuses."""
+    streams = {"stdin": subprocess.DEVNULL, "capture_output": True, "text": True}
+    ran = subprocess.run([program, *map(str, words)], **streams, **as_desk(folder))
+    if ran.returncode:
+        raise Failed(": ".join([f"desk {words[0]}", *ran.stderr.splitlines()[:1]]))
+
+
+def has_sums(store):
+    """Whether the pages of a store's file end in sums, by its header, which leaves room for them. Of one that cannot be
+    read they are taken for granted, as the package makes them."""
+    try:
+        with open(store, "rb") as file:
+            head = file.read(len(FORMAT) + 5)
+    except OSError:
+        return True
+    return head.startswith(FORMAT) and head[-1] == SUM_BYTES
+
+
 def as_desk(folder):
     """How a process becomes one of the desk's user, whose a folder and all files in it become."""
     try:
@@ -139,7 +161,7 @@ def as_desk(folder):
     if os.geteuid():
         return {}
     for path in (folder, *folder.iterdir()):
-        os.chown(path, user.pw_uid, user.pw_gid)
+        os.chown(path, user.pw_uid, user.pw_gid, follow_symlinks=False)
     return {"user": user.pw_uid, "group": user.pw_gid, "extra_groups": []}
 
 

@@ -49,10 +49,12 @@ DEEDS = 40
 # The disks of the smaller store, and the fewest backups of a size.
 SMALL, FEWEST = 57, 10
 # How many backups are made while commands go round the door; and during how many no more than one disk is put, so that
-# the store keeps its size.
+# the store keeps its size. Of so many pages the bit of one flips.
 AROUND, EACH = 4, 4
 # How many times as long a reader may wait at the larger store.
 LONGER = 2
+# How many bytes of a page are left alone in a store with sums; where the file says it; and how long a page is.
+SUMMED, LEFT_ALONE, PAGE = 8, 20, 4096
 READ = "/images/1/files/0"
 
 
@@ -204,6 +206,7 @@ def see_copy(seen, folder, writer, counts, label):
     """That a backup holds what was done after as many commands as one of these counts or one between them."""
     names = ["checks.json", "deeds.json", "keys.json", "museum.sqlite", "museum.sqlite-wal", "takedowns.json"]
     seen.same(f"{label}: its files", names, sorted(path.name for path in folder.iterdir()))
+    seen.same(f"{label}: its sums", SUMMED, (folder / "museum.sqlite").read_bytes()[LEFT_ALONE])
     holds = held(folder)
     fits = writer.fits(*counts, holds)
     seen.same(f"{label}: it holds what was done at a moment", True, fits)
@@ -320,6 +323,7 @@ def see_failures(seen, program):
         see_failure(seen, house, "a desk that cannot open the copy", "museum.sqlite\n", program="/bin/false")
         words = "has other keys than the desk\n"
         see_failure(seen, house, "a desk that says something else", words, program=other(room, program))
+        see_flipped(seen, house)
         seen.same("failures: nothing is left", [], house.backups())
         seen.same("failures: the gate is open", False, (room.folder / "gate").exists())
         writer.send(*command)
@@ -344,12 +348,34 @@ def see_failure(seen, house, label, words, key=STAFF, program=None):
     seen.same(f"failures: {label}", (1, "", True), (status, out, errors.endswith(words)))
 
 
+def see_flipped(seen, house):
+    """A bit of some pages of the store flips: the desk goes on, and there is no backup before the bit is right. No page
+    has a later form in the log, which another command has copied into the file."""
+    store = house.room.store
+    house.room.stop_desk()
+    seen.same("flipped: no log", 0, house.room.run("show", "keys", "--store", str(store), "--key", STAFF)[0])
+    house.start()
+    for at in range(PAGE // 2, store.stat().st_size, EACH * PAGE):
+        flip(store, at)
+        see_failure(seen, house, f"a bit of page {at // PAGE}", "museum.sqlite: desk: store\n")
+        flip(store, at)
+
+
+def flip(path, at):
+    """Flips a bit of a file."""
+    with open(path, "r+b") as file:
+        file.seek(at)
+        byte = file.read(1)[0]
+        file.seek(at)
+        file.write(bytes([byte ^ 1]))
+
+
 def other(room, program):
     """A program that adds a key to the store before it serves."""
     path = room.folder / "other"
     path.write_text(
-        f'#!/bin/sh\nfor last; do case $last in */museum.sqlite) sqlite3 "$last" '
-        f'"INSERT INTO badge VALUES (zeroblob(32), 1)" ;; esac; done\nexec {program} "$@"\n'
+        f'#!/bin/sh\nfor last; do case $last in */museum.sqlite) {program} staff-key --store "$last" --key another '
+        f'>/dev/null ;; esac; done\nexec {program} "$@"\n'
     )
     path.chmod(0o755)
     return path

@@ -1,8 +1,9 @@
 #!/usr/bin/env python3
 """scripts/installed-by-package.py [--before PACKAGE] [PROGRAM]: boots a small Debian by systemd, installs the desk
-there by the package that operate/make-deb makes, and follows it through a museum's day, a removal and a purge. On
-another such machine a museum works with the version before, and goes on with this one after an upgrade. On a third it
-types what docs/OPERATING.md has a museum type there, and opens that page's tunnel from a machine beside it.
+there by the package that operate/make-deb makes, and follows it through a museum's day, a bit of its store that flips,
+a removal and a purge. On another such machine a museum works with the version before and a store without sums, goes on
+with this one after an upgrade, and at last gives the store sums, as docs/BY-HAND.md says. On a third it types what
+docs/OPERATING.md has a museum type there, and opens that page's tunnel from a machine beside it.
 
 PACKAGE is the version before: a package that operate/make-deb of an earlier commit has made. Without it the same
 program under a lower number is taken.
@@ -15,6 +16,7 @@ The Debian is kept in /var/tmp/desk-under-systemd for the next run, and no run c
 
 import argparse
 import functools
+import gzip
 import os
 import pathlib
 import re
@@ -31,8 +33,9 @@ import tools
 
 from client_cases import ROOT, digest
 from package_cases import (
-    AGAIN, APT, BEFORE, CHANGED, DAY, DONE, FAILS, GOES_ON, INSTALLED, KEEP, NEXT_START, PROGRAM, PROVED, PURGED,
-    READERS, REMOVED, RESTORED, RIGHTS, SITE, STAFF, STAFFS, STANDS, TITLE, UPGRADED, asked, kept,
+    AGAIN, APT, BEFORE, CHANGED, CHANGES, DAY, DONE, FAILS, FLIPPED, GOES_ON, INSTALLED, KEEP, NEXT_START, NOW_SUMMED, OUT,
+    PROGRAM, PROVED, PURGED, READ, READERS, REMOVED, RESTORED, RIGHTS, SITE, STAFF, STAFFS, STANDS, STORE, SUMMED, TITLE,
+    UPGRADED, asked, kept, sums_of,
 )
 
 MAKE = f"{ROOT}/operate/make-deb"
@@ -86,6 +89,11 @@ def inside(package, path):
     """The bytes of a file of a package."""
     words = ["sh", "-c", f"dpkg-deb --fsys-tarfile {package} | tar -xO .{path}"]
     return subprocess.run(words, capture_output=True).stdout
+
+
+def commit_of(package):
+    """The commit that a package says it is of."""
+    return re.search(r"Commit (\w+)", gzip.decompress(inside(package, CHANGES)).decode())[1]
 
 
 def number_of(version):
@@ -194,6 +202,9 @@ def see_life(seen, machine, package):
     see_exposure(seen, machine)
     see_cases(seen, machine, "a day", DAY)
     see_cases(seen, machine, "restored", RESTORED)
+    see_cases(seen, machine, "a flipped bit", FLIPPED)
+    see_cases(seen, machine, "read by sqlite3", READ)
+    see_cases(seen, machine, "the store is out", OUT)
     see_cases(seen, machine, "what fails", FAILS)
     see_cases(seen, machine, "changed", CHANGED)
     machine.set_clock_late()
@@ -233,16 +244,30 @@ def see_upgrade(seen, machine, before, package):
     see_install(seen, machine, package, KEEP)
     upgraded = [*UPGRADED, kept("all answers", "/root/after", "/root/before"), *STANDS, *GOES_ON]
     see_cases(seen, machine, "upgraded", upgraded)
+    see_sums(seen, machine)
     see_end(seen, machine)
 
 
+def see_sums(seen, machine):
+    """The store gets sums by the commands of the page, after those with which each shell begins there."""
+    says(machine, asked("/root/plain"))
+    block = operating_page.block_after(operating_page.BY_HAND, GIVES_SUMS)
+    begins = [words for _, _, words, _ in operating_page.commands(operating_page.BY_HAND) if BEGINS.match(words)]
+    words = "\n".join([*begins, *(words for words, _ in block)])
+    wanted = "\n".join(line for _, lines in block for line in lines)
+    seen.same("sums: the page's commands", ("done", wanted), (wanted, says(machine, words)))
+    see_cases(seen, machine, "sums", NOW_SUMMED)
+
+
 def see_versions(seen, before, package, is_earlier):
-    """The version before is a lower one; one of an earlier commit has another program."""
+    """The version before is a lower one, and of an earlier commit where it is a package of its own."""
     for one in (before, package):
         print(f"{field(one, 'Version')}: {proof_of(one)}", flush=True)
     seen.same("the version before is lower", True, is_lower(before, package))
     if is_earlier:
-        seen.same("it has another program", True, inside(before, PROGRAM) != inside(package, PROGRAM))
+        seen.same("it is of another commit", True, commit_of(before) != commit_of(package))
+        is_same = inside(before, PROGRAM) == inside(package, PROGRAM)
+        print(f"the version before has {'the same' if is_same else 'another'} program", flush=True)
 
 
 # What answers apt's questions, and has it install nothing that was not fetched.
@@ -251,6 +276,8 @@ ANSWERS = 'APT::Get::Assume-Yes "true";\nAPT::Install-Recommends "false";\n'
 FIRST, SECOND, FEW = "desk_0.1.0+202611271350.781_amd64.deb", "desk_NEW_amd64.deb", 10
 CHAPTER = re.compile(r"^## On the museum's machine, by the package\n(.*?)^##+ ", re.M | re.S)
 BACKUP = "2026-11-27T031000Z"
+# What gives a store sums on the page, and with what each shell begins there.
+GIVES_SUMS, BEGINS = "**To give [sums]", re.compile(r"umask 077$|store=\S+ as_desk=")
 # What begins a backup on the page, and what shows all that were made; and as many commands as it has done again.
 BACKED_UP, ALL_BACKUPS = "systemctl start desk-backup", "journalctl -u desk-backup "
 SINCE = (
@@ -320,6 +347,7 @@ def see_page(seen, machine):
         # the system's journal also has the backups that were made before
         due = wanted * backups if words.startswith(ALL_BACKUPS) else wanted
         seen.same(label, shapes(due), shapes(came))
+    seen.same("the page: the store has sums", SUMMED, says(machine, sums_of(STORE)))
 
 
 def shapes(lines):

@@ -1,6 +1,7 @@
 #!/usr/bin/env python3
 """scripts/looks-find-faults.py [PROGRAM]: looks whether operate/desk-look finds what is not well on a museum's machine,
-and whether operate/desk-alarm reports it.
+whether operate/desk-alarm reports it, and whether operate/check-all finds a bit of a store with sums that flips while
+the desk serves it.
 
 You need Python 3 with its standard library alone, Linux, and Debian's nginx, openssl and sqlite3, which the script
 installs as root if they are missing. Without PROGRAM it takes ./desk of this repository."""
@@ -16,12 +17,17 @@ import lib
 import harness
 import reading_room
 
-from client_cases import STAFF
+from client_cases import STAFF, bytes_of, digest, get, put, put_rule
 from harness import LIMIT, ROOT
 
-LOOK, ALARM = (os.path.join(ROOT, "operate", name) for name in ("desk-look", "desk-alarm"))
+LOOK, ALARM, CHECK = (os.path.join(ROOT, "operate", name) for name in ("desk-look", "desk-alarm", "check-all"))
 GOOD = (0, "", "")
 DAY = 24 * 3600
+IMAGE = bytes_of("images", "museum.d64")
+# So many disks that the desk does not have all of them in memory; and the one of which a bit flips.
+DISKS, FLIPPED = 120, 60
+# Where a disk has its own number here, in a block that no file has.
+OWN = 100
 
 
 def run(*words, **settings):
@@ -128,15 +134,56 @@ def see_alarm(seen, room):
     seen.same("alarm: usage", (2, "", "usage: desk-alarm UNIT\n"), run(ALARM))
 
 
+def image_of(accession):
+    return IMAGE[:OWN] + accession.to_bytes(8, "big") + IMAGE[OWN + 8 :]
+
+
+def see_check(seen, room):
+    """A bit of a disk flips in a store with sums: the desk goes on without that disk, and a check of all names it."""
+    sheet, key = room.folder / "sheet.csv", room.folder / "staff-key"
+    key.write_text(f"Desk-Key: {STAFF}\n")
+    rows = ["accession,kind,deed,sha256,file"]
+    for number in range(1, DISKS + 1):
+        path = room.folder / f"{number}.d64"
+        path.write_bytes(image_of(number))
+        rows.append(f"{number},d64,7,{digest(path.read_bytes())},{path}")
+    sheet.write_text("\n".join(rows) + "\n")
+    deed = {"donor": "A", "signed": "2019-05-04"}
+    for asked in (put("/deeds/7", deed), put_rule("/deeds/7/rules/20", "read", {"all": True}, "public")):
+        seen.same(f"check: {asked.path}", 200, room.ask_desk(asked)[0])
+    room.stop_desk()
+    words = ("--store", str(room.store), "--key", STAFF, "--sheet", str(sheet))
+    seen.same("check: filled", "".join(f"{n} done\n" for n in range(1, DISKS + 1)), room.run("import", *words)[1])
+    room.start_desk()
+    flip(room.store, image_of(FLIPPED)[OWN - 8 : OWN + 40])
+    told = f"{DISKS} accessions: {DISKS - 1} sound, 0 changed, 1 not asked\n"
+    came = run(CHECK, key, f"http://127.0.0.1:{room.staff_port}")
+    seen.same("check: a flipped bit", (2, told, f"check-all: {FLIPPED}: unavailable\n"), came)
+    for number, status in ((FLIPPED - 1, 200), (FLIPPED, 503), (FLIPPED + 1, 200)):
+        seen.same(f"check: a file of {number}", status, room.ask_desk(get(f"/images/{number}/files/2", None))[0])
+    room.stop_desk()
+    seen.same("check: the next start", (3, "", "desk: store\n"), room.run("show", "keys", *words[:4]))
+
+
+def flip(path, text):
+    """Flips a bit of a text that a file has."""
+    data = bytearray(path.read_bytes())
+    at = data.index(text)
+    with open(path, "r+b") as file:
+        file.seek(at)
+        file.write(bytes([data[at] ^ 1]))
+
+
 def main():
     reading_room.install()
     seen = harness.Seen()
     with reading_room.Room(harness.program(sys.argv[1:])) as room:
-        room.run("init", "--store", str(room.store), "--key", STAFF)
+        room.run("init", "--sums", "--store", str(room.store), "--key", STAFF)
         room.start_desk()
         room.start_nginx()
         see_looks(seen, room)
         see_alarm(seen, room)
+        see_check(seen, room)
     sys.exit(seen.told())
 
 

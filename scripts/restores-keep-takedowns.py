@@ -7,9 +7,10 @@ installs as root if they are missing. Without PROGRAM it takes ./desk of this re
 staff may ask.
 
 On Tuesday there are takedowns, also of a disk that the backup lacks, keys that change, commands whose outcome nobody
-knows, and a bit of a disk that flips. The restore is made with the old store, with one that no longer opens, with a
-journal that is cut, and after nginx's processes were killed 150 times, or KILLS times, while takedowns came. A store
-with a check of a day to come is backed up and restored too."""
+knows, and a bit of a disk that flips, which shuts a store with sums. The restore is made with the old store, with sums
+and without, with one that no longer opens, with a journal that is cut, and after nginx's processes were killed 150
+times, or KILLS times, while takedowns came. A backup without sums is restored in a museum that has them now, and a
+store with a check of a day to come is backed up and restored too."""
 
 import contextlib
 import http.client
@@ -17,8 +18,10 @@ import json
 import pathlib
 import random
 import re
+import shutil
 import signal
 import sqlite3
+import subprocess
 import sys
 import threading
 import time
@@ -36,8 +39,12 @@ IMAGE = bytes_of("images", "museum.d64")
 EVERYBODY = ("public", "room", "staff")
 READERS = ("public", "room")
 SLOT = [{"slot": slot} for slot in range(3)]
-# A byte of the disk that is no link, and in no entry of its directory.
-FLIPPED = 1000
+# A byte of the disk that is no link, and in no entry of its directory; and a text of the disk, which is in the store.
+FLIPPED, TEXT = 1000, b"A GUIDE TO THE ROOM"
+# How many bytes of a page are left alone in a store with sums, and in one without; and where the file says it.
+SUMMED, PLAIN, LEFT_ALONE = 8, 0, 20
+DAY = 24 * 3600
+NOT_COMPARED = "the old store is not compared, since it does not open"
 NEW_KEY = "tuesday's key"
 # A takedown that begins in some years.
 LATER = put_rule("/images/13/rules/5", "deny", SLOT[0], *READERS, **{"from": "2099-01-01"})
@@ -79,11 +86,22 @@ class Reader(threading.Thread):
             time.sleep(0.05)
 
 
+def left_alone(store):
+    """How many bytes of each page a store's file leaves alone: its sums."""
+    return store.read_bytes()[LEFT_ALONE]
+
+
+def serves(room):
+    """How a desk ends that serves the room's store for one visit."""
+    return room.run("serve", "--store", str(room.store), "--socket", str(room.place), "--count", "1")
+
+
 class Week:
     """A week in a room until Tuesday night: Monday's backup, and what came after it."""
 
-    def __init__(self, seen, room):
-        self.seen, self.room, self.house = seen, room, House(room)
+    def __init__(self, seen, room, has_sums=True):
+        self.seen, self.room, self.has_sums, self.house = seen, room, has_sums, House(room, has_sums)
+        self.sums = SUMMED if has_sums else PLAIN
         self.reader = Reader(room)
 
     def done(self, *asked):
@@ -102,7 +120,9 @@ class Week:
         self.reader.turn("monday")
         status, out, errors = self.house.back_up()
         self.seen.same("monday's backup", (0, ""), (status, errors))
-        return pathlib.Path(out.split(": ")[0])
+        backup = pathlib.Path(out.split(": ")[0])
+        self.seen.same("monday's backup: its sums", self.sums, left_alone(backup / "museum.sqlite"))
+        return backup
 
     def tuesday(self, disk=True):
         """A takedown; one that is put and dropped; one that is settled; keys that change; a deed; a disk with a
@@ -126,8 +146,15 @@ class Week:
         self.reader.turn("tuesday night")
 
     def flip(self, accession):
-        """One bit of a disk flips in the store, which only a check of that disk finds."""
+        """One bit of a disk flips in the store. With sums the desk does not open it again; without them only a check of
+        that disk finds it."""
         self.room.stop_desk()
+        if self.has_sums:
+            data = bytearray(self.room.store.read_bytes())
+            data[data.index(TEXT)] ^= 1
+            self.room.store.write_bytes(data)
+            self.seen.same("a flipped bit: the room stays shut", (3, "", "desk: store\n"), serves(self.room))
+            return
         with contextlib.closing(sqlite3.connect(self.room.store)) as store, store:
             disk = bytearray(store.execute("SELECT bytes FROM image WHERE acc = ?", [accession]).fetchone()[0])
             disk[FLIPPED] ^= 1
@@ -174,6 +201,7 @@ def see_room(seen, week, label):
     seen.same(f"{label}: the bit is as it was", "sound", week.checked(14))
     deeds = json.loads(week.room.ask_desk(get("/staff/deeds", NEW_KEY))[1])["deeds"]
     seen.same(f"{label}: the deeds", ["A", "\u017dofie"], [deed["donor"] for deed in deeds])
+    seen.same(f"{label}: its sums", week.sums, left_alone(week.room.store))
 
 
 def see_refused(seen, week, backup, label, words, *options):
@@ -188,10 +216,10 @@ def see_refused(seen, week, backup, label, words, *options):
     seen.same(f"{label}: nothing is left", [], list(week.room.folder.glob("restored-*")))
 
 
-def see_whole_week(seen, program):
+def see_whole_week(seen, program, has_sums):
     """The restore with all that it needs, after two that lack a disk."""
     with reading_room.Room(program) as room:
-        week = Week(seen, room)
+        week = Week(seen, room, has_sums)
         backup = week.monday()
         week.tuesday()
         (room.folder / "dumps").mkdir()
@@ -204,6 +232,8 @@ def see_whole_week(seen, program):
         see_room(seen, week, "the week")
         seen.same("the week: the disk's takedown", {403}, week.reader.seen[("the week: wednesday", FILES[4])])
         see_notes(seen, out)
+        # the flipped bit has shut a store with sums
+        seen.same("the week: it is compared", not has_sums, NOT_COMPARED not in out)
         seen.same("the week: the old store is there", 1, len(list(room.folder.glob("set-aside-*/museum.sqlite"))))
         week.end()
 
@@ -234,7 +264,7 @@ def see_given_up(seen, program):
         status, out, errors = week.house.run("desk-restore", "--give-up", 16, backup)
         seen.same("given up", (0, ""), (status, errors))
         seen.same("given up: it says so", True, "disk 16 is given up, with its takedowns" in out)
-        seen.same("given up: the old store", True, "the old store is not compared, since it does not open" in out)
+        seen.same("given up: the old store", True, NOT_COMPARED in out)
         see_room(seen, week, "given up")
         seen.same("given up: there is no such disk", {404}, week.reader.seen[("given up: wednesday", FILES[4])])
         week.end()
@@ -262,6 +292,32 @@ def see_cut_journal(seen, program):
             seen.same(f"{label}", (0, "", True), (status, errors, words in out))
             week.reader.turn(f"{label}: wednesday")
             seen.same(f"{label}: it is closed", {403}, week.reader.seen[(f"{label}: wednesday", FILES[0])])
+            seen.same(f"{label}: its sums", SUMMED, left_alone(room.store))
+        week.end()
+
+
+def see_sums_since(seen, program):
+    """A backup without sums, of a museum that has them now: the restore gives it sums, and keeps the takedown."""
+    with reading_room.Room(program) as room:
+        week = Week(seen, room, has_sums=False)
+        backup = week.monday()
+        week.done(takedown(13, 1, 2))
+        room.stop_desk()
+        older = room.folder / "older"
+        older.mkdir()
+        for path in room.folder.glob("museum.sqlite*"):
+            shutil.move(path, older)
+        came = room.run("copy", "--store", str(older / "museum.sqlite"), "--to", str(room.store), "--sums")
+        seen.same("sums since: copied", (0, "done\n", "", SUMMED), (*came, left_alone(room.store)))
+        week.house.start()
+        week.reader.turn("tuesday night")
+        status, out, errors = week.house.run("desk-restore", backup)
+        seen.same("sums since: the restore", (0, "", True), (status, errors, "commands since" in out))
+        seen.same("sums since: its sums", SUMMED, left_alone(room.store))
+        seen.same("sums since: the store and its log alone", 2, len(list(room.folder.glob("*.sqlite*"))))
+        week.reader.turn("sums since: wednesday")
+        seen.same("sums since: it is closed", {403}, week.reader.seen[("sums since: wednesday", FILES[0])])
+        seen.same("sums since: the other files", {200}, week.reader.seen[("sums since: wednesday", FILES[3])])
         week.end()
 
 
@@ -335,12 +391,10 @@ def see_check_ahead(seen, program):
         house = House(room)
         for asked in (put("/deeds/7", {"donor": "A", "signed": "2019-05-04"}), put_image(13, "d64", 7, IMAGE)):
             seen.same("a check ahead: filled", 200, room.ask_staffs_door(asked)[0])
-        seen.same("a check ahead: checked", 200, room.ask_staffs_door(Asked("POST", "/images/13/check", STAFF))[0])
         room.stop_desk()
-        with contextlib.closing(sqlite3.connect(room.store)) as store, store:
-            store.execute("UPDATE checked SET day = day + 365")
-        words = ("serve", "--store", str(room.store), "--socket", str(room.place), "--count", "1")
-        status, _, errors = room.run(*words)
+        words = ("--store", str(room.store), "--key", STAFF, "--acc", "13", "--at", str(int(time.time()) + 365 * DAY))
+        seen.same("a check ahead: checked", (0, "13 sound\n", ""), room.run("check", *words))
+        status, _, errors = serves(room)
         seen.same("a check ahead: the desk says so", (3, "desk: clock\n"), (status, errors))
         house.start("--trust-clock")
         status, out, errors = house.back_up()
@@ -349,6 +403,42 @@ def see_check_ahead(seen, program):
         seen.same("a check ahead: the restore", (0, ""), (status, errors))
         seen.same("a check ahead: it serves", 200, room.ask_staffs_door(get("/staff/checks", STAFF))[0])
         house.end()
+
+
+def see_unreadable(seen, program):
+    """The old store cannot be read, as where the disk fails; here a folder is in its place."""
+    with reading_room.Room(program) as room:
+        week = Week(seen, room, has_sums=False)
+        backup = week.monday()
+        week.done(takedown(13, 1, 2))
+        room.stop_desk()
+        room.store.unlink()
+        room.store.mkdir()
+        status, out, errors = week.house.run("desk-restore", backup)
+        seen.same("unreadable", (0, "", True), (status, errors, NOT_COMPARED in out))
+        seen.same("unreadable: its sums", SUMMED, left_alone(room.store))
+        week.reader.turn("unreadable: wednesday")
+        seen.same("unreadable: it is closed", {403}, week.reader.seen[("unreadable: wednesday", FILES[0])])
+        week.end()
+
+
+def see_not_started(seen, program):
+    """The desk does not start once the backup is in its place: the restore says so, and what it has restored stays."""
+    with reading_room.Room(program) as room:
+        week = Week(seen, room)
+        backup = week.monday()
+        week.done(takedown(13, 1, 2))
+        words = room.folder / "words"
+        words.write_text("--no-such-word")
+        status, out, errors = week.house.run("desk-restore", backup)
+        told = "commands since" in out, "the room is shut, and the store is the restored one" in errors
+        seen.same("not started", (1, True, True), (status, *told))
+        words.write_text("")
+        seen.same("not started: the old store is there", 1, len(list(room.folder.glob("set-aside-*/museum.sqlite"))))
+        subprocess.run([week.house.bin / "systemctl", "start", "desk.service"], check=True)
+        week.reader.turn("not started: wednesday")
+        seen.same("not started: it is closed", {403}, week.reader.seen[("not started: wednesday", FILES[0])])
+        week.end()
 
 
 def see_words(seen, program):
@@ -373,8 +463,11 @@ def main():
     words = sys.argv[1:]
     program = harness.program(words)
     seen = harness.Seen()
-    for see in (see_check_ahead, see_whole_week, see_given_up, see_cut_journal, see_words):
+    for has_sums in (True, False):
+        see_whole_week(seen, program, has_sums)
+    for see in (see_check_ahead, see_given_up, see_cut_journal, see_sums_since, see_unreadable, see_not_started):
         see(seen, program)
+    see_words(seen, program)
     see_kills(seen, program, int(words[1]) if len(words) > 1 else 150)
     sys.exit(seen.told())
 

@@ -6,8 +6,8 @@ You need Python 3 with its standard library alone, Linux, the rights of root, an
 systemd-container, which the script installs if they are missing. PROGRAM is ./desk of this repository where none is
 named. The Debian is kept in /var/tmp/desk-under-systemd for the next run, and no run changes it.
 
-What is looked at: what the page's commands give, also those that move, replace and erase a disk with a takedown; the
-files, the process and their rights; what a process in the place of the service may do; visits through nginx; a desk
+What is looked at: what the page's commands give, also those that move, replace and erase a disk with a takedown, and
+some of them typed wrongly or once more; the files, the process and their rights; what a process in the place of the service may do; visits through nginx; a desk
 that is killed, stopped, or ends by its count; a setting that is changed; an import; a store that cannot be opened; and
 the machine's next start, with a clock that is set late."""
 
@@ -36,9 +36,9 @@ SOCKET = "/run/desk/socket"
 IMAGES = (
     '{"images":[{"accession":12,"deed":7,"files":2,"kind":"cpm8"},{"accession":13,"deed":7,"files":3,"kind":"d64"}]}'
 )
-# After a command that starts the desk: until it listens, for who types is slower than a script.
+# After a command that starts the desk: until it answers, for who types is slower than a script.
 STARTS = re.compile("systemctl (re)?start desk")
-LISTENS = f"for _ in $(seq 300); do ss -lxH | grep -q ' {SOCKET} ' && break; sleep 0.1; done"
+ANSWERS = "for _ in $(seq 300); do curl -sf -o /dev/null http://127.0.0.1:8043/health && break; sleep 0.1; done"
 
 # Tables of a label, what is typed, and what it writes.
 STARTED = [
@@ -99,7 +99,7 @@ SETTING = [
     ("a visit with it", FILE, FIRST_LINE),
     ("the zone has its signs", ZONE, KATHMANDU),
 ]
-STORE, BACKUP = "/var/lib/desk/museum.sqlite", "/var/lib/desk/2*.sqlite"
+STORE, BACKUP = "/var/lib/desk/museum.sqlite", "$(ls -d /var/lib/desk/2*/museum.sqlite | tail -n 1)"
 AS_DESK = "runuser -u desk -- desk"
 KEY = "$(sed 's/^Desk-Key: //' /etc/desk/staff-key)"
 IMPORT = f"cd {HOME} && {AS_DESK} import --store {STORE} --key {KEY} --sheet"
@@ -111,6 +111,7 @@ STOPPED = [
     ("readers are told", STATUS, "502"),
     ("the page is there", STATUS.replace("/images", "/"), "200"),
     ("the page's backup opens", f"{SERVE_NONE} {BACKUP} | tail -n 1", "served 0"),
+    *((f"{path} has sums", f"od -An -tu1 -j 20 -N 1 {path} | tr -d ' '", "8") for path in (STORE, BACKUP)),
     ("an import", f"{IMPORT} images/shelf.csv", "12 done\n13 done\n14 done"),
     ("a sheet in the folder of root", f"{IMPORT} {HOME}/images/shelf.csv", "desk: device"),
     ("a store of root", f"cp {STORE} {OF_ROOT}; {SERVE_NONE} {OF_ROOT}; rm {OF_ROOT}", "desk: store"),
@@ -136,6 +137,26 @@ NEXT_START = [
     ("the clock was set late", *booted.CLOCK_SET),
     ("the desk has waited for that", *booted.AFTER_CLOCK),
 ]
+# What is typed in the shell of the page, after the page, and what that writes: a correction that sqlite3 refuses, and then
+# the right one; a way back and a backup, each once more; a correction that is given up.
+MOVES = "out && $as_desk sqlite3 -cmd 'PRAGMA foreign_keys = ON' $plain 'UPDATE image SET deed = %s WHERE acc = 15'"
+DEED = "$as_desk sqlite3 $store 'SELECT deed FROM image WHERE acc = 15'"
+BACKS_UP = re.compile(r"\$as_desk mkdir \$backup &&")
+MISTAKES = [
+    ("systemctl stop desk", ""),
+    (MOVES % 99, "done\nError: stepping, FOREIGN KEY constraint failed (19)"),
+    (MOVES % 7, ""),
+    ("back", "done"),
+    ("back", "ls: cannot access '/var/lib/desk/plain.sqlite': No such file or directory"),
+    ("cmp $store $backup/museum.sqlite; echo $?", "0"),
+    (f"systemctl start desk; {ANSWERS}", ""),
+    ("""$put $museum/deeds/30 -d '{"donor":"D. Later","signed":"2021-06-01"}'""", '{"done":true}'),
+    ("systemctl stop desk", ""),
+    ("{ %s; } 2>/dev/null; cmp -s $store-wal $backup/museum.sqlite-wal; echo $?", "1"),
+    ("take_out 15; take_out 15", "done"),
+    (f"rm ${{plain:?}}* && $as_desk mv $before/* ${{store%/*}} && {DEED}", "7"),
+    (f"systemctl start desk; {ANSWERS}", ""),
+]
 # What is tried, and how it ends in the place of the service, and for the same user outside of it.
 TRIED = [
     (">/var/lib/desk/tried", "done", "done"),
@@ -157,11 +178,21 @@ def see_page(seen, machine):
             continue
         came = shell.run(words, wanted)
         if STARTS.match(words):
-            machine.says(LISTENS)
+            machine.says(ANSWERS)
         if words == "systemctl status desk nginx":
             wanted, came = ["both run"], b"both run\n" if came.count(b"Active: active (running)") == 2 else came
         seen.same(f"{operating_page.BY_HAND}, line {number}: {words}", *operating_page.compared(wanted, came))
+    see_mistakes(seen, shell)
     shell.close()
+
+
+def see_mistakes(seen, shell):
+    """What else is typed in the shell of the page. A line of the page is typed once more in the place of a %s."""
+    again = next(words for _, _, words, _ in operating_page.commands(operating_page.BY_HAND) if BACKS_UP.match(words))
+    for words, wanted in MISTAKES:
+        typed = words.replace("%s", again)
+        came = shell.run(typed, []).decode(errors="replace").strip() if not shell.hangs else "(it hangs)"
+        seen.same(f"mistakes: {typed}", wanted, came)
 
 
 def see_cases(seen, machine, name, cases):

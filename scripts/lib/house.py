@@ -34,15 +34,15 @@ esac
 
 
 class House:
-    """A room with its tools."""
+    """A room with its tools. Its store has sums, as the package makes it, or none, as older ones made it."""
 
-    def __init__(self, room):
+    def __init__(self, room, has_sums=True):
         self.room, self.bin = room, room.folder / "bin"
         self.bin.mkdir()
         tool = self.bin / "systemctl"
         tool.write_text(SYSTEMCTL.format(folder=room.folder, program=room.program, socket=room.place))
         tool.chmod(0o755)
-        room.run("init", "--store", str(room.store), "--key", STAFF)
+        room.run("init", *(["--sums"] if has_sums else []), "--store", str(room.store), "--key", STAFF)
         (room.folder / "staff-key").write_text(f"Desk-Key: {STAFF}\n")
         self.start()
         room.start_nginx()

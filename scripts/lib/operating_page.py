@@ -19,6 +19,8 @@ BY_PACKAGE = re.compile(r"#+ .*, by the package$")
 COPIED = ("operate", "web", "images", "docs", "README.md")
 # What is not run: what proves, builds or measures for long, and what wants a network.
 LEFT_OUT = re.compile(r"bash \.ci/run|python3 bench/|rt |\(cd \S+ && rt |apt-get update|ssh ")
+# What installs packages is given longer than other commands, in seconds.
+LONG = 300
 # What a shell tells of its jobs, nginx tells an ordinary user of its line `user`, and debconf tells without a terminal.
 NOISE = re.compile(
     rb"^(\S*: line \d+: +\d+ Terminated|\[\d+\]|.*\[warn\].* the \"user\" directive |debconf: ).*\n", re.M
@@ -45,6 +47,14 @@ def commands(page):
         elif line.startswith("#"):
             of_package = "package" if BY_PACKAGE.match(line) else None
     return found
+
+
+def block_after(page, beginning):
+    """The commands of the first block of a page after the paragraph that begins so: of each its words, and the lines that
+    it gives."""
+    first = text(page).partition(f"\n{beginning}")[0].count("\n") + 2
+    fences = [number for number, line in enumerate(text(page).splitlines(), 1) if line == "```" and number > first]
+    return [(words, lines) for number, _, words, lines in commands(page) if fences[0] < number < fences[1]]
 
 
 class Shell:
@@ -74,7 +84,7 @@ class Shell:
         with self.lock:
             self.came = b""
         self.process.stdin.write(words.encode() + b"\necho '" + mark[:-1] + b"'\n")
-        end = time.monotonic() + LIMIT
+        end = time.monotonic() + (LONG if words.startswith("apt-get ") else LIMIT)
         while time.monotonic() < end and self.process.poll() is None:
             came = NOISE.sub(b"", self.came.replace(mark, b""))
             stays = re.search(r"&( \w+=\$!)?$", words) and not shows(wanted, came)

@@ -5,7 +5,7 @@ import booted
 
 APT = "DEBIAN_FRONTEND=noninteractive apt-get -y -qq --no-install-recommends"
 KEEP = "-o Dpkg::Options::=--force-confdef -o Dpkg::Options::=--force-confold"
-PROVED, PROGRAM = "/usr/share/doc/desk/proved", "/usr/bin/desk"
+PROVED, CHANGES, PROGRAM = "/usr/share/doc/desk/proved", "/usr/share/doc/desk/changelog.gz", "/usr/bin/desk"
 STAFF = "curl -s --max-time 20 -H @/etc/desk/staff-key"
 SITE = "desk.museum.example"
 VISIT = f"curl -sk --max-time 10 --resolve {SITE}:443:127.0.0.1 --resolve {SITE}:80:127.0.0.1"
@@ -14,6 +14,15 @@ TITLE = "grep -o '<title>.*</title>'"
 READERS, STAFFS = "<title>The reading room</title>", "<title>The staff's page</title>"
 RULE = '{"audiences":["public"],"select":{"all":true},"effect":"%s"}'
 OUTSIDE, INSIDE, DONE = "https://localhost", "http://127.0.0.1:8043", '{"done":true}'
+STORE, BACKUPS = "/var/lib/desk/museum.sqlite", "/var/backups/desk"
+# How many bytes of each page of a store's file are left alone: 8 for the sum, or none.
+SUMMED, PLAIN = "8", "0"
+
+
+def sums_of(path):
+    """What is typed to see that of a file, the last one where several have this path."""
+    return f"od -An -tu1 -j 20 -N 1 $(ls -d {path} | tail -n 1) | tr -d ' '"
+
 
 # Tables of a label, what is typed, and what it writes.
 INSTALLED = [
@@ -25,6 +34,7 @@ INSTALLED = [
     ("they start with the machine", "systemctl is-enabled desk desk-backup.timer", "enabled\nenabled"),
     ("the page, at once", f"{VISIT} {OUTSIDE}/ | {TITLE}", READERS),
     ("the desk", f"{VISIT} {OUTSIDE}/images", '{"images":[]}'),
+    ("its store has sums", sums_of(STORE), SUMMED),
     ("its health", f"{VISIT} {OUTSIDE}/health", DONE),
     ("the staff's page", f"curl -s http://127.0.0.1:8043/ | {TITLE}", STAFFS),
     ("where it listens", "stat -c '%U:%G %a %F' /run/desk/socket", "desk:www-data 660 socket"),
@@ -58,6 +68,11 @@ FILES = {
     "/var/log/desk": "root:www-data 750", "/var/log/desk/journal": "root:www-data 640",
     "/var/backups/desk": "root:root 700", "/run/desk": "desk:www-data 2750",
 }
+# What waits until no process of nginx has a journal open that was rotated away.
+IS_SHUT = (
+    "for _ in $(seq 300); do find /proc/[0-9]*/fd -lname '/var/log/desk/journal-*' 2>/dev/null | grep -q . || break; "
+    "sleep 0.1; done"
+)
 RIGHTS = [(name, f"stat -c '%U:%G %a' {name}", wanted) for name, wanted in FILES.items()]
 DAY = [
     (
@@ -101,6 +116,7 @@ DAY = [
         "systemctl start desk-backup; echo $?; ls /var/backups/desk/2*",
         "0\nchecks.json\ndeeds.json\nkeys.json\nmuseum.sqlite\nmuseum.sqlite-wal\ntakedowns.json",
     ),
+    ("it has sums", sums_of(f"{BACKUPS}/2*/museum.sqlite"), SUMMED),
     (
         "how long somebody waited",
         "journalctl -u desk-backup -o cat | grep -o 'readers did not wait'",
@@ -114,8 +130,8 @@ DAY = [
     ("a look: the certificate is new", "desk-look; echo $?", "0"),
     (
         "rotation of the journal",
-        "logrotate -f /etc/logrotate.d/desk; echo $?; sleep 1; "
-        f"{STAFF} -X DELETE http://127.0.0.1:8043/images/13/rules/1; wc -l </var/log/desk/journal; ls "
+        f"logrotate -f /etc/logrotate.d/desk; echo $?; {IS_SHUT}; "
+        f"{STAFF} -X DELETE http://127.0.0.1:8043/images/13/rules/1; sleep 1; wc -l </var/log/desk/journal; ls "
         "/var/log/desk/journal-* | wc -l; stat -c '%U:%G %a' /var/log/desk/journal",
         f"0\n{DONE}2\n1\nroot:www-data 640",
     ),
@@ -128,7 +144,7 @@ DAY = [
     (
         "rotation of nginx's logs",
         "logrotate -f /etc/logrotate.d/nginx; echo $?; sleep 1; "
-        f"{STAFF} -X PUT http://127.0.0.1:8043/images/13/rules/1 -d '{RULE % 'deny'}'; wc -l "
+        f"{STAFF} -X PUT http://127.0.0.1:8043/images/13/rules/1 -d '{RULE % 'deny'}'; sleep 1; wc -l "
         "</var/log/desk/journal",
         f"0\n{DONE}4",
     ),
@@ -146,6 +162,53 @@ RESTORED = [
     ("whose the store is", "stat -c '%U:%G %a' /var/lib/desk/museum.sqlite", "desk:desk 600"),
     ("the old store", "ls /var/lib/desk/set-aside-*/", "museum.sqlite\nmuseum.sqlite-wal"),
     ("nothing else is left", "ls /var/lib/desk | grep -vc '^museum.sqlite\\|^set-aside'", "0"),
+    ("it has sums", sums_of(STORE), SUMMED),
+]
+# A bit of the store flips while the desk serves. The service is left as failed after ten starts.
+FAILED = "for _ in $(seq 500); do systemctl is-failed --quiet desk && break; sleep 0.1; done; systemctl is-active desk"
+FLIPPED = [
+    (
+        "no backup is made, and it says why",
+        f"byte=$(od -An -tu1 -j 22528 -N 1 {STORE}); printf \"\\\\x$(printf %02x $((byte ^ 1)))\" | "
+        f"dd of={STORE} bs=1 seek=22528 conv=notrunc status=none; systemctl start desk-backup 2>/dev/null; echo $?; "
+        f"ls {BACKUPS} | wc -l; journalctl -u desk-backup -o cat | sed -n 's|.*does not open .*/tested-[^/]*/||p'",
+        "1\n1\nmuseum.sqlite: desk: store",
+    ),
+    ("readers notice nothing", f"{VISIT} {CODE} https://{SITE}/images/13", "200"),
+    ("the desk does not start again", f"systemctl restart desk 2>/dev/null; echo $?; {FAILED}", "1\nfailed"),
+    ("a look finds it", "desk-look; echo $?", "the desk does not answer: nginx says 503\n1"),
+    (
+        "a restore",
+        f"desk-restore $(ls -d {BACKUPS}/2*) >/root/restored; echo $?; grep -c 'were done again' /root/restored; "
+        "grep -c 'is not compared, since it does not open' /root/restored",
+        "0\n1\n1",
+    ),
+    ("the room is open", f"{VISIT} https://{SITE}/health", DONE),
+    ("the takedown", f"{VISIT} https://{SITE}/images/13/files/2", '{"error":"denied","rule":"T13.1"}'),
+    ("the store has sums", sums_of(STORE), SUMMED),
+]
+# The package is installed again while the store is out for a correction.
+OUT = [
+    (
+        "no store is made, and the key stays",
+        f"systemctl stop desk; mkdir /root/out; mv {STORE}* /root/out; sha256sum /etc/desk/staff-key >/root/key; "
+        f"dpkg -i /root/desk_*.deb 2>&1 | grep -c 'there is no store: put it back'; ls {STORE}* 2>/dev/null; "
+        "sha256sum -c --quiet /root/key; echo $?",
+        "1\n0",
+    ),
+    ("it is back", "mv /root/out/* /var/lib/desk; systemctl start desk; echo $?", "0"),
+    ("the takedown", f"{VISIT} https://{SITE}/images/13/files/2", '{"error":"denied","rule":"T13.1"}'),
+]
+# sqlite3 reads the store, and takes its log away.
+READ = [
+    (
+        "what it reads",
+        f"{APT} install sqlite3 >/dev/null 2>&1; systemctl stop desk; runuser -u desk -- sqlite3 {STORE} 'SELECT count(*) "
+        f"FROM rule WHERE band = 0'; ls {STORE}*",
+        f"1\n{STORE}",
+    ),
+    ("the desk starts at once", "systemctl start desk; echo $?; systemctl show -p NRestarts --value desk", "0\n0"),
+    ("the takedown", f"{VISIT} https://{SITE}/images/13/files/2", '{"error":"denied","rule":"T13.1"}'),
 ]
 FAILS = [
     ("start waits until it listens", f"systemctl restart desk; {VISIT} https://{SITE}/health", DONE),
@@ -235,7 +298,17 @@ def rule(audiences, select, effect, until="null"):
     return f'{{"audiences":[{names}],"until":{until},"select":{{{select}}},"effect":"{effect}"}}'
 
 
+# An older version made the store without sums, and so does this one where nobody asks for them.
+WITHOUT = [
+    (
+        "a store without sums",
+        f"umask 077; systemctl stop desk; rm {STORE}*; runuser -u desk -- desk init --store {STORE} "
+        f"--key $(sed 's/^Desk-Key: //' /etc/desk/staff-key); systemctl start desk; {sums_of(STORE)}",
+        f"done\n{PLAIN}",
+    ),
+]
 BEFORE = [
+    *WITHOUT,
     DAY[0],
     (
         "two deeds",
@@ -323,7 +396,12 @@ def kept(label, folder, other):
 
 UPGRADED = [
     ("both are active", "systemctl is-active desk nginx", "active\nactive"),
-    ("the program that runs", "cmp /proc/$(systemctl show -p MainPID --value desk)/exe /usr/bin/desk; echo $?", "0"),
+    (
+        "the program that runs",
+        "exe=/proc/$(systemctl show -p MainPID --value desk)/exe; readlink $exe; cmp $exe /usr/bin/desk; echo $?",
+        "/usr/bin/desk\n0",
+    ),
+    ("the store has no sums, as before", sums_of(STORE), PLAIN),
     (
         "what is not the package's",
         "dpkg --verify desk | sort",
@@ -348,6 +426,7 @@ GOES_ON = [
     ),
     *STANDS,
     kept("all answers after the restore", "/root/restored-to", "/root/before"),
+    ("the store has no sums, as before", sums_of(STORE), PLAIN),
     ("another disk", put("15/d64/7", "museum.d64"), DONE),
     ("the takedown is dropped", sent(("DELETE", "/images/13/rules/1", "")), DONE),
     (
@@ -368,6 +447,25 @@ GOES_ON = [
         "0\n1",
     ),
     ("a look", "desk-look; echo $?", "0"),
+]
+# Once the page's commands have given the store sums: what the desk answers is in /root/plain.
+NOW_SUMMED = [
+    ("the store has them", sums_of(STORE), SUMMED),
+    kept("all answers", "/root/summed", "/root/plain"),
+    (
+        "a restore of a backup without sums",
+        f"desk-restore $(ls -d {BACKUPS}/2* | tail -n 1) >/root/restored; echo $?; grep -c '^only' /root/restored; "
+        f"{sums_of(f'{BACKUPS}/2*/museum.sqlite')}",
+        f"0\n0\n{PLAIN}",
+    ),
+    ("the store has sums all the same", sums_of(STORE), SUMMED),
+    kept("all answers after the restore", "/root/summed-restored", "/root/plain"),
+    ("whose the store is", f"stat -c '%U:%G %a' {STORE} {STORE}-wal", "desk:desk 600\ndesk:desk 600"),
+    (
+        "a backup has sums",
+        f"sleep 1; systemctl start desk-backup; echo $?; {sums_of(f'{BACKUPS}/2*/museum.sqlite')}",
+        f"0\n{SUMMED}",
+    ),
 ]
 NEXT_START = [
     ("both are active", "sleep 5; systemctl is-active desk nginx", "active\nactive"),
