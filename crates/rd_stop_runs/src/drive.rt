@@ -5,7 +5,7 @@ ghost use Rattle.sqlite_disk.specs.Disk.{CountsFault, Cut, Holds, Torn, Mixed};
 ghost use Rattle.sqlite_disk.specs.Refusal.{finds_no_room};
 
 use crate::bytes::{resize, write_over};
-use crate::steps::{Step, keep_part, note_length, note_write};
+use crate::steps::{Step, apply_all, keep_part, note_length, note_write};
 use rand_pcg::Pcg32;
 use sqlite_disk::{Disk, Tally, digest_of};
 use std::alloc::{AllocError, Global};
@@ -88,12 +88,12 @@ impl Drive {
 
     /// What a crash leaves that loses nothing.
     pub(crate) fn kept(&self) -> Result<Vec<u8>, AllocError> {
-        self.bytes.clone()
+        Vec::from_slice(*self.bytes.allocator(), self.bytes.as_slice())
     }
 
     /// What a crash leaves that loses all changes since the last sync.
     pub(crate) fn lost(&self) -> Result<Vec<u8>, AllocError> {
-        self.synced.clone()
+        Vec::from_slice(*self.synced.allocator(), self.synced.as_slice())
     }
 
     /// What a crash leaves that keeps a part of them. Draws say which.
@@ -103,7 +103,7 @@ impl Drive {
         } else {
             0
         };
-        let mut file = self.synced.clone()?;
+        let mut file = self.lost()?;
         keep_part(&mut file, self.steps.as_slice(), any_from, draws)?;
         Ok(file)
     }
@@ -146,17 +146,16 @@ fn set_length(file: &mut Vec<u8>, steps: &mut Vec<Step>, len: usize) -> Result<(
     resize(file, len)
 }
 
-/// Takes the bytes of a file as those that it has synced, unless it forgets them.
+/// Makes the changes of a file in what it has synced, unless it forgets them.
 fn settle(
     is_forgetful: bool,
     synced: &mut Vec<u8>,
     steps: &mut Vec<Step>,
-    bytes: &[u8],
 ) -> Result<(), AllocError> {
     if is_forgetful {
         return Ok(());
     }
-    *synced = Vec::from_slice(*synced.allocator(), bytes)?;
+    apply_all(synced, steps.as_slice())?;
     steps.clear();
     Ok(())
 }
@@ -243,12 +242,7 @@ impl Disk for Drive {
         self.calls = self.calls.saturating_add(1);
         self.syncs = self.syncs.saturating_add(1);
         self.is_usable = false;
-        let done = settle(
-            self.is_forgetful,
-            &mut self.synced,
-            &mut self.steps,
-            &self.bytes,
-        );
+        let done = settle(self.is_forgetful, &mut self.synced, &mut self.steps);
         count(done, &mut self.faults)?;
         self.is_usable = true;
         Ok(())

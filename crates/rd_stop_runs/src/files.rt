@@ -103,8 +103,8 @@ impl Pair {
     /// The same bytes.
     pub(crate) fn copy(&self) -> Result<Pair, AllocError> {
         Ok(Pair {
-            log: self.log.clone()?,
-            db: self.db.clone()?,
+            log: Vec::from_slice(*self.log.allocator(), self.log.as_slice())?,
+            db: Vec::from_slice(*self.db.allocator(), self.db.as_slice())?,
         })
     }
 

@@ -45,6 +45,14 @@ fn apply(file: &mut Vec<u8>, step: &Step) -> Result<(), AllocError> {
     }
 }
 
+/// Makes changes in a file.
+pub(crate) fn apply_all(file: &mut Vec<u8>, steps: &[Step]) -> Result<(), AllocError> {
+    for step in steps {
+        apply(file, step)?;
+    }
+    Ok(())
+}
+
 /// Cuts a file to a length, or fills it with zeros, or neither, as a draw says.
 fn resize_or_not(file: &mut Vec<u8>, len: usize, draws: &mut Pcg32) -> Result<(), AllocError> {
     if is_drawn(draws) {
@@ -96,9 +104,7 @@ fn apply_front(file: &mut Vec<u8>, step: &Step, draws: &mut Pcg32) -> Result<(),
 /// Makes the first changes in a file, as many as a draw says, and the front of the one after them.
 fn keep_front(file: &mut Vec<u8>, steps: &[Step], draws: &mut Pcg32) -> Result<(), AllocError> {
     let count = draws.next_u32() as usize % (steps.len() + 1);
-    for step in &steps[..count] {
-        apply(file, step)?;
-    }
+    apply_all(file, &steps[..count])?;
     match steps.get(count) {
         Some(step) => apply_front(file, step, draws),
         None => Ok(()),
