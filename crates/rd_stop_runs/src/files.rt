@@ -48,6 +48,11 @@ pub(crate) fn are_settled(files: &Drives) -> bool {
     files.db.inner().is_settled() && files.log.inner().is_settled()
 }
 
+/// Whether two files hold what they were made with: no change, and no sync of one.
+pub(crate) fn are_untouched(files: &Drives) -> bool {
+    syncs_of(files) == 0 && are_settled(files)
+}
+
 /// A stop: of which file, and how many of its calls go through before.
 #[derive(Clone, Copy)]
 pub(crate) struct Stop {

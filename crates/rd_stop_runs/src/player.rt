@@ -1,7 +1,7 @@
 //! Runs whose files stop at each of their calls, one file after the other.
 
 use crate::drive::Sort;
-use crate::files::{Drives, File, Pair, Stop, syncs_of};
+use crate::files::{Drives, File, Pair, Stop, are_untouched, syncs_of};
 use crate::leavings::{Kept, Left, leavings};
 use crate::outcomes::{Counts, Outcome, Stopped, outcome_of};
 use crate::running::{Ending, Ran, Report, carry_out};
@@ -276,9 +276,20 @@ impl<'a> Player<'a> {
         Ok(())
     }
 
+    /// Judges what a crash leaves of files that the run left as they were: what the database holds before it.
+    fn judge_untouched(&mut self, rt: &HostRuntime, stopped: &Stopped<'_>) -> Result<()> {
+        let before = self.states.first().context("no states")?;
+        let outcome = self.judged(rt, stopped, Kept::Nothing, before)?;
+        self.counts.count(Kept::Nothing, outcome);
+        Ok(())
+    }
+
     /// Judges a run under a stop, and each thing that a crash may leave then.
     fn judge(&mut self, rt: &HostRuntime, stopped: &Stopped<'_>) -> Result<()> {
         self.judge_run(rt, stopped)?;
+        if are_untouched(&stopped.ran.files) {
+            return self.judge_untouched(rt, stopped);
+        }
         let all = leavings(rt.alloc(), &stopped.ran.files, &mut self.draws)?;
         self.judge_each(rt, stopped, all.as_slice())
     }
