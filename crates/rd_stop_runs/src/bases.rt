@@ -11,7 +11,7 @@ use rd_fakes::desk::{into_connection, into_store, made, migrate};
 use rd_policy::Audience;
 use rd_samples::rules::{CLOSED, OPEN, TAKEDOWN};
 use rd_store::Store;
-use sqlite::{Alter, Connection, Error};
+use sqlite::{Alter, Connection, Error, Options};
 use std::alloc::Global;
 
 /// The number from which the bases make the salts of their logs.
@@ -101,12 +101,22 @@ const THIRD_DEED: &[&str] = &[
 ];
 
 /// Connects to the database in two files. Where they are new, its pages get sums if that is asked for.
-fn connection(alloc: Global, pair: &Pair, new_has_sums: bool) -> Result<Connection<FilesStore>> {
+fn connection_with(
+    alloc: Global,
+    pair: &Pair,
+    how: Options,
+    new_has_sums: bool,
+) -> Result<Connection<FilesStore>> {
     let files = pair.files(alloc, Sort::AnyBytes, None)?;
-    match connect(alloc, files, options(SALT, USUAL_FRAMES), new_has_sums) {
+    match connect(alloc, files, how, new_has_sums) {
         Ok(conn) => Ok(conn),
         Err((error, _)) => bail!("no database: {error}"),
     }
+}
+
+/// The same, with room in memory for the pages of a base.
+fn connection(alloc: Global, pair: &Pair, new_has_sums: bool) -> Result<Connection<FilesStore>> {
+    connection_with(alloc, pair, options(SALT, USUAL_FRAMES), new_has_sums)
 }
 
 /// The desk that is made over a connection.
@@ -268,10 +278,13 @@ fn first_version(alloc: Global) -> Result<Pair> {
     logged(after_statements(alloc, &first, THIRD_DEED)?)
 }
 
-/// The store of the desk with an image, a takedown of it, and another key of the staff, in files at which nothing stops.
-pub(crate) fn standing_store(alloc: Global) -> Result<Store<FilesStore>> {
-    let files = with_takedown(alloc)?;
-    Ok(into_store(standing_desk(alloc, &files)?))
+/// The store of the desk in two files at which nothing stops, to read it.
+pub(crate) fn standing_store(alloc: Global, pair: &Pair) -> Result<Store<FilesStore>> {
+    let conn = connection_with(alloc, pair, pair.options(SALT), false)?;
+    match migrate(alloc, conn) {
+        Ok(store) => Ok(store),
+        Err((fault, _)) => bail!("no desk: {}", words_of_open(fault)),
+    }
 }
 
 pub(crate) fn files_of(alloc: Global, base: Base) -> Result<Pair> {

@@ -140,8 +140,17 @@ impl Pair {
     }
 
     /// How many pages both hold at most.
-    pub(crate) fn pages(&self) -> usize {
+    fn pages(&self) -> usize {
         pages_in(self.log.len(), self.db.len())
+    }
+
+    /// How a connection reads both without a change. Only their own pages have room in memory, since making room takes
+    /// time.
+    pub(crate) fn options(&self, salt: u64) -> Options {
+        Options {
+            cache_pages: self.pages(),
+            ..options(salt, USUAL_FRAMES)
+        }
     }
 
     /// Files in memory with these bytes, of a sort and under a stop.

@@ -27,7 +27,7 @@ mod steps;
 use anyhow::{Context, Result};
 use bases::files_of;
 use files::Pair;
-use player::play_on;
+use player::{Start, play_on};
 use rand_pcg::Pcg32;
 use runs::{DRAWN_RUNS, RUNS, Run};
 use std::env;
@@ -41,21 +41,30 @@ fn seed(rt: &HostRuntime) -> Result<u64> {
 
 /// Plays a run from the files of its base, on files of each of its sorts. Gives whether what came is
 /// what was wanted. Each time has draws of its own.
-fn play(rt: &HostRuntime, run: &Run, base: &Pair, seed: u64) -> Result<bool> {
+fn play(rt: &HostRuntime, run: &Run, base: &Pair, source: &Pair, seed: u64) -> Result<bool> {
     let mut is_right = true;
     for (number, sort) in run.sorts.iter().enumerate() {
         let draws = Pcg32::new(seed, number as u64);
-        if !play_on(rt, run, *sort, base, draws)? {
+        let sort = *sort;
+        let start = Start {
+            run,
+            sort,
+            base,
+            source,
+        };
+        if !play_on(rt, start, draws)? {
             is_right = false;
         }
     }
     Ok(is_right)
 }
 
-/// Makes the files of a run's base, and plays it. Gives whether what came is what was wanted.
+/// Makes the files of a run's base and those from which it copies, and plays it. Gives whether what came is what was
+/// wanted.
 fn play_from_base(rt: &HostRuntime, run: &Run, seed: u64) -> Result<bool> {
     let base = files_of(rt.alloc(), run.base).context(run.name)?;
-    play(rt, run, &base, seed)
+    let source = files_of(rt.alloc(), run.source).context(run.name)?;
+    play(rt, run, &base, &source, seed)
 }
 
 /// Plays runs, each with draws of its own, by its number. Gives whether what came is what was wanted.

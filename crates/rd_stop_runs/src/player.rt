@@ -14,10 +14,12 @@ use std::alloc::Global;
 
 /// A run on files of a sort, and the files from which it starts.
 #[derive(Clone, Copy)]
-struct Start<'a> {
-    run: &'a Run,
-    sort: Sort,
-    base: &'a Pair,
+pub(crate) struct Start<'a> {
+    pub(crate) run: &'a Run,
+    pub(crate) sort: Sort,
+    pub(crate) base: &'a Pair,
+    /// The files from which it copies a desk, if it copies one.
+    pub(crate) source: &'a Pair,
 }
 
 impl Start<'_> {
@@ -35,13 +37,14 @@ impl Start<'_> {
     /// The run under a stop.
     fn stopped(&self, alloc: Global, stop: Stop) -> Result<Ran> {
         let files = self.base.files(alloc, self.sort, Some(stop))?;
-        carry_out(alloc, self.run, self.run.action, files)
+        carry_out(alloc, self.run, self.run.action, self.source, files)
     }
 
     /// The run with its first changes alone, and without a stop.
     fn ran(&self, alloc: Global, changes: usize) -> Result<Ran> {
         let files = self.base.files(alloc, self.sort, None)?;
-        let ran = carry_out(alloc, self.run, self.run.action.first(changes), files)?;
+        let action = self.run.action.first(changes);
+        let ran = carry_out(alloc, self.run, action, self.source, files)?;
         check_done(&ran.report, changes)?;
         Ok(ran)
     }
@@ -381,14 +384,7 @@ fn played(rt: &HostRuntime, start: Start<'_>, draws: Pcg32) -> Result<bool> {
     player.play(rt)
 }
 
-/// Plays a run from the files of its base, on files of a sort. Gives whether what came is what was
-/// wanted. An error names the run.
-pub(crate) fn play_on(
-    rt: &HostRuntime,
-    run: &Run,
-    sort: Sort,
-    base: &Pair,
-    draws: Pcg32,
-) -> Result<bool> {
-    played(rt, Start { run, sort, base }, draws).context(run.name)
+/// Plays a run. Gives whether what came is what was wanted. An error names the run.
+pub(crate) fn play_on(rt: &HostRuntime, start: Start<'_>, draws: Pcg32) -> Result<bool> {
+    played(rt, start, draws).context(start.run.name)
 }

@@ -4,7 +4,7 @@ use crate::bases::standing_store;
 use crate::commands::Command;
 use crate::copies::copy;
 use crate::desk::{desk_of, status_of, words_of_create, words_of_open};
-use crate::files::{Drives, FilesStore, close, connect, into_files, options, pages_of};
+use crate::files::{Drives, FilesStore, Pair, close, connect, into_files, options, pages_of};
 use crate::museum::{Written, accession_of, import, put_staff_key};
 use crate::runs::{Action, Run};
 use anyhow::{Result, bail};
@@ -123,8 +123,12 @@ fn run_second<S: Alter + Drop>(alloc: Global, conn: Connection<S>) -> Result<Act
 }
 
 /// Copies a desk from other files, at which nothing stops.
-fn run_copy(alloc: Global, conn: Connection<FilesStore>) -> Result<Acted<FilesStore>> {
-    let mut from = standing_store(alloc)?;
+fn run_copy(
+    alloc: Global,
+    source: &Pair,
+    conn: Connection<FilesStore>,
+) -> Result<Acted<FilesStore>> {
+    let mut from = standing_store(alloc, source)?;
     match copy(alloc, &mut from, conn) {
         Ok(store) => ended(alloc, Ending::Done, 1, "done", into_connection(store)),
         Err((fault, conn)) => {
@@ -135,8 +139,12 @@ fn run_copy(alloc: Global, conn: Connection<FilesStore>) -> Result<Acted<FilesSt
 }
 
 /// Copies a desk from other files to where one stands.
-fn run_copy_to_desk(alloc: Global, conn: Connection<FilesStore>) -> Result<Acted<FilesStore>> {
-    let mut from = standing_store(alloc)?;
+fn run_copy_to_desk(
+    alloc: Global,
+    source: &Pair,
+    conn: Connection<FilesStore>,
+) -> Result<Acted<FilesStore>> {
+    let mut from = standing_store(alloc, source)?;
     match copy(alloc, &mut from, conn) {
         Ok(store) => ended(alloc, Ending::Other, 1, "done", into_connection(store)),
         Err((fault, conn)) => {
@@ -360,12 +368,17 @@ fn run_staff_key<S: Alter + Drop>(alloc: Global, conn: Connection<S>) -> Result<
     Ok(Acted { report, conn })
 }
 
-/// Does what an action says.
-fn act(alloc: Global, action: Action, conn: Connection<FilesStore>) -> Result<Acted<FilesStore>> {
+/// Does what an action says. The source is what it copies a desk from, if it copies one.
+fn act(
+    alloc: Global,
+    action: Action,
+    source: &Pair,
+    conn: Connection<FilesStore>,
+) -> Result<Acted<FilesStore>> {
     match action {
         Action::Create | Action::CreateWithSums => run_create(alloc, conn),
-        Action::Copy => run_copy(alloc, conn),
-        Action::CopyToDesk => run_copy_to_desk(alloc, conn),
+        Action::Copy => run_copy(alloc, source, conn),
+        Action::CopyToDesk => run_copy_to_desk(alloc, source, conn),
         Action::CreateSecond => run_second(alloc, conn),
         Action::Migrate => run_migrate(alloc, conn),
         Action::Ask(commands) => run_commands(alloc, conn, commands),
@@ -399,10 +412,11 @@ fn left(conn: Connection<FilesStore>, is_closed: bool) -> Drives {
 fn act_and_leave(
     alloc: Global,
     action: Action,
+    source: &Pair,
     conn: Connection<FilesStore>,
     is_closed: bool,
 ) -> Result<Ran> {
-    let Acted { report, conn } = act(alloc, action, conn)?;
+    let Acted { report, conn } = act(alloc, action, source, conn)?;
     let files = left(conn, is_closed);
     Ok(Ran { report, files })
 }
@@ -417,11 +431,17 @@ fn options_for(run: &Run, files: &Drives) -> Options {
 }
 
 /// Connects to the database in two files, does what an action of a run says, and closes the files if
-/// the run does.
-pub(crate) fn carry_out(alloc: Global, run: &Run, action: Action, files: Drives) -> Result<Ran> {
+/// the run does. The source is what it copies a desk from, if it copies one.
+pub(crate) fn carry_out(
+    alloc: Global,
+    run: &Run,
+    action: Action,
+    source: &Pair,
+    files: Drives,
+) -> Result<Ran> {
     let how = options_for(run, &files);
     match connect(alloc, files, how, action.asks_sums()) {
-        Ok(conn) => act_and_leave(alloc, action, conn, run.is_closed),
+        Ok(conn) => act_and_leave(alloc, action, source, conn, run.is_closed),
         Err((error, files)) => unconnected(alloc, error, files),
     }
 }

@@ -15,8 +15,7 @@ pub(crate) enum Action {
     Create,
     /// Makes a desk each of whose pages ends in a sum.
     CreateWithSums,
-    /// Makes a desk with an image, a takedown of it, two keys of the staff and one of the room: a copy of one that stands in
-    /// other files.
+    /// Makes a desk: a copy of one that stands in other files.
     Copy,
     /// The same where a desk stands.
     CopyToDesk,
@@ -102,6 +101,8 @@ pub(crate) struct Run {
     /// The sorts of files on which it is played.
     pub(crate) sorts: &'static [Sort],
     pub(crate) base: Base,
+    /// The database from which it copies a desk, if it copies one.
+    pub(crate) source: Base,
     pub(crate) action: Action,
     pub(crate) stops: Stops,
     /// How many pages the log holds when a commit copies it into the database before it writes.
@@ -142,6 +143,7 @@ const MADE: Run = Run {
     name: "a desk is made",
     sorts: BOTH,
     base: Base::Empty,
+    source: Base::Empty,
     action: Action::Create,
     stops: Stops::Each,
     frames: 1,
@@ -179,6 +181,7 @@ const DEED_PUT: Run = Run {
 /// A desk is copied: an image, a takedown of it, and keys.
 const COPIED: Run = Run {
     name: "a desk is copied",
+    source: Base::Takedown,
     action: Action::Copy,
     question: "SELECT rank FROM rule UNION ALL SELECT acc FROM found UNION ALL SELECT num FROM deed UNION ALL SELECT audience FROM badge WHERE audience = 1",
     before: "empty\n",
@@ -477,6 +480,7 @@ pub(crate) const RUNS: &[Run] = &[
         name: "no desk is copied to where one stands",
         sorts: TWICE,
         base: Base::Desk,
+        source: Base::Takedown,
         action: Action::CopyToDesk,
         question: "SELECT rank FROM rule ORDER BY rank",
         before: "version 2\n10\n20\n",

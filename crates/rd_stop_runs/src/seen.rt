@@ -2,12 +2,12 @@
 
 use crate::desk::words_of_open;
 use crate::drive::Sort;
-use crate::files::{Pair, USUAL_FRAMES, connect, options};
+use crate::files::{Pair, connect};
 use anyhow::Result;
 use rd_fakes::desk::{create, into_connection, migrate};
 use rd_played::{answer_of, contents_of};
 use rd_store::{OpenFault, Store};
-use sqlite::{Alter, Connection, Error, Options};
+use sqlite::{Alter, Connection, Error};
 use std::alloc::{AllocError, Global};
 
 /// The number from which a database that is opened again makes the salts of its log.
@@ -49,15 +49,6 @@ fn reason<S: Alter + Drop>(fault: OpenFault, conn: Connection<S>) -> &'static st
     match fault {
         OpenFault::NotADesk => without_desk(conn),
         OpenFault::Version | OpenFault::Inconsistent | OpenFault::Sql => words_of_open(fault),
-    }
-}
-
-/// How a connection reads and writes a database in two files that is opened again. Only its own pages
-/// have room in memory, since making room takes time.
-fn options_for(pair: &Pair) -> Options {
-    Options {
-        cache_pages: pair.pages(),
-        ..options(SALT, USUAL_FRAMES)
     }
 }
 
@@ -139,7 +130,7 @@ impl Seen {
     /// What the database in two files of a sort holds.
     pub(crate) fn of(alloc: Global, pair: &Pair, sort: Sort, question: &str) -> Result<Seen> {
         let files = pair.files(alloc, sort, None)?;
-        match connect(alloc, files, options_for(pair), false) {
+        match connect(alloc, files, pair.options(SALT), false) {
             Ok(conn) => Seen::migrated(alloc, conn, question),
             Err((error, _)) => Seen::unconnected(alloc, error),
         }
