@@ -29,7 +29,7 @@ use bases::files_of;
 use files::Pair;
 use player::{Start, play_on};
 use rand_pcg::Pcg32;
-use runs::{DRAWN_RUNS, RUNS, Run};
+use runs::{MORE_RUNS, RUNS, Run};
 use std::env;
 use std::process::ExitCode;
 
@@ -94,14 +94,14 @@ fn status(is_right: bool) -> ExitCode {
     }
 }
 
-/// Plays the runs that stop at each call. Prints the seed, and a line for each run and each sort of files.
+/// Plays the runs of the first program. Prints the seed, and a line for each run and each sort of files.
 /// Where something else came than what was wanted, the status is 1. It fails if no seed is given, if memory
 /// runs out, and if it cannot write its output.
 pub fn play_each(rt: &HostRuntime) -> Result<ExitCode> {
     Ok(status(play_with_seed(rt, RUNS)?))
 }
 
-/// Plays the runs whose stops are drawn. It prints and fails as `play_each` does.
-pub fn play_drawn(rt: &HostRuntime) -> Result<ExitCode> {
-    Ok(status(play_with_seed(rt, DRAWN_RUNS)?))
+/// Plays the run whose stops are drawn, and the copies. It prints and fails as `play_each` does.
+pub fn play_more(rt: &HostRuntime) -> Result<ExitCode> {
+    Ok(status(play_with_seed(rt, MORE_RUNS)?))
 }

@@ -470,6 +470,21 @@ pub(crate) const RUNS: &[Run] = &[
         base: Base::Summed,
         ..STAFF_KEY_PUT
     },
+];
+
+/// The runs of the second program: the one with too many calls for a stop at each, and the copies. Here, too, a new one
+/// stands at the end.
+pub(crate) const MORE_RUNS: &[Run] = &[
+    Run {
+        name: "forty images are imported",
+        action: Action::Import(40),
+        stops: Stops::Drawn(100),
+        is_closed: true,
+        question: "SELECT count(*), min(acc), max(acc) FROM found",
+        before: "version 2\n0|NULL|NULL\n",
+        after: "version 2\n40|21|60\n",
+        ..IMPORTED
+    },
     COPIED,
     Run {
         name: "a desk is copied to where tables were dropped",
@@ -488,15 +503,3 @@ pub(crate) const RUNS: &[Run] = &[
         ..MADE
     },
 ];
-
-/// The runs with too many calls for a stop at each. Here, too, a new one stands at the end.
-pub(crate) const DRAWN_RUNS: &[Run] = &[Run {
-    name: "forty images are imported",
-    action: Action::Import(40),
-    stops: Stops::Drawn(100),
-    is_closed: true,
-    question: "SELECT count(*), min(acc), max(acc) FROM found",
-    before: "version 2\n0|NULL|NULL\n",
-    after: "version 2\n40|21|60\n",
-    ..IMPORTED
-}];

@@ -5,7 +5,7 @@
 use anyhow::Result;
 use std::process::ExitCode;
 
-/// Plays the runs that stop at each call.
+/// Plays the runs that stop at each call, but for the copies.
 fn main(rt: HostRuntime) -> Result<ExitCode> {
     rd_stop_runs::play_each(&rt)
 }
