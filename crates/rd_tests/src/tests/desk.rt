@@ -1,9 +1,6 @@
 mod bodies;
 mod cases;
-mod checks;
-mod days;
 mod images;
-mod limits;
 mod refused;
 mod requests;
 mod state;

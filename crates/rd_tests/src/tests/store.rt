@@ -1,16 +1,11 @@
-mod checks;
 mod creating;
 mod files;
-mod found;
-mod images;
-mod keys;
 mod lists;
 mod refused;
-mod rules;
 mod steps;
 mod told;
+mod values;
 
-use rd_fakes::desk::new_store;
 use rd_policy::{Audience, Rule, is_day, is_scope};
 use rd_store::{Outcome, Store, StoreFault, is_donor};
 use sqlite::{Alter, Connection, Error, MemStore};
@@ -73,14 +68,6 @@ const MARKED: Given = (Picture::Marked, 7, Digest::Other);
 /// The CP/M image with one file, under deed 7.
 const CPM: Given = (Picture::Hello, 7, Digest::Other);
 
-/// Puts deed 7, and images 12, 14 and 15 under it.
-const SHELVE: &[Step<'static>] = &[
-    Step::Does(Call::PutDeed(7, "A. Curator", 18_020), DONE),
-    Step::Does(Call::PutImage(12, PROGRAM), DONE),
-    Step::Does(Call::PutImage(14, LOOPED), DONE),
-    Step::Does(Call::PutImage(15, CPM), DONE),
-];
-
 /// Puts deeds 7 and 8, a key for the room, two rules of deed 7, and image 12 under it.
 const FILL: &[Step<'static>] = &[
     Step::Does(Call::PutDeed(7, "A. Curator", 18_020), DONE),
@@ -122,20 +109,6 @@ fn assert_filled<S: Alter>(
     desk: &mut Store<S>,
 ) -> Result<(), Fail> {
     assert_steps(rt, alloc, desk, "what was put", FILLED)
-}
-
-/// A new desk, filled.
-fn filled(rt: &impl Abort, alloc: Global) -> Result<Desk, Fail> {
-    let mut desk = new_store(alloc)?;
-    fill(rt, alloc, &mut desk)?;
-    Ok(desk)
-}
-
-/// A new desk with three images.
-fn shelved(rt: &impl Abort, alloc: Global) -> Result<Desk, Fail> {
-    let mut desk = new_store(alloc)?;
-    assert_steps(rt, alloc, &mut desk, "images", SHELVE)?;
-    Ok(desk)
 }
 
 fn run(conn: &mut Connection<MemStore>, sql: &str) -> Result<usize, Error> {

@@ -8,12 +8,11 @@ use super::images::{HELLO_15, MARKED_12, NewImage, PROGRAM_12, Picture, QUOTED_1
 use super::requests::Ask;
 use super::state::{desk_with, reply_to};
 use crate::tests::keys::{NOBODY, PUBLIC, STAFF};
-use rd_desk::{Body, Contents, Form};
-use rd_geometry::{Items, Kind, NoMemory, Text};
+use rd_desk::{Body, Form};
+use rd_geometry::NoMemory;
 use rd_samples::cpm::{FILE, NewEntry};
 use rd_samples::days::{AFTER, BEFORE};
 use rd_samples::{like, table};
-use rd_volume::Found;
 use std::alloc::{AllocError, Global};
 use std::process::Abort;
 use std::test::Fail;
@@ -73,28 +72,6 @@ const OTHERS: &[(&str, Visit)] = table![
     ("a table", (PUBLIC, AFTER, Ask::Catalogue, FILE_OF_12));
     ("a survey", (STAFF, AFTER, Ask::Survey(12), SURVEY_OF_12));
     ("a command that is done", (STAFF, AFTER, Ask::DropKey("nobody"), DONE));
-];
-
-/// A file of one unit of an image of so many bytes: its name, the kind, the bytes, whether it is of the class that is
-/// served, its faults, the unit and how many bytes it holds, and how many bytes are lent, if it can be.
-type Lent = (&'static str, Kind, usize, bool, u8, u16, u16, Option<usize>);
-
-const LENT: &[Lent] = table![
-    ("the last block of a 1541 disk", Kind::D64, 174_848, true, 0, 682, 254, Some(254));
-    ("the last sector of a CP/M disk", Kind::Cpm8, 256_256, true, 0, 1_949, 128, Some(128));
-    ("the last block of an image with error bytes", Kind::D64e, 175_531, true, 0, 682, 254, Some(254));
-    ("error bytes are no block", Kind::D64e, 175_531, true, 0, 683, 254, None);
-    ("an image without its error bytes", Kind::D64e, 174_848, true, 0, 0, 254, None);
-    ("error bytes that the kind does not have", Kind::D64, 175_531, true, 0, 0, 254, None);
-    ("a block that reads with an error", Kind::D64e, 175_531, true, 16, 0, 254, None);
-    ("a block of which no byte is used", Kind::D64, 174_848, true, 0, 0, 0, Some(0));
-    ("a byte less than an image", Kind::D64, 174_847, true, 0, 0, 254, None);
-    ("an image of another kind", Kind::D64, 256_256, true, 0, 0, 254, None);
-    ("a class that is listed only", Kind::D64, 174_848, false, 0, 0, 254, None);
-    ("a fault", Kind::D64, 174_848, true, 4, 0, 254, None);
-    ("a block past the last", Kind::D64, 174_848, true, 0, 683, 254, None);
-    ("a sector past the last", Kind::Cpm8, 256_256, true, 0, 1_950, 128, None);
-    ("more bytes than a block holds", Kind::D64, 174_848, true, 0, 0, 255, None);
 ];
 
 /// Adds where the slices of a run begin, and how many bytes each has.
@@ -162,25 +139,6 @@ fn assert_served(rt: &impl Abort, alloc: Global, case: &Served) -> Result<(), Fa
     Ok(())
 }
 
-fn assert_lent(rt: &impl Abort, alloc: Global, case: &Lent) -> Result<(), Fail> {
-    let (label, kind, size, served_class, faults, unit, last_len, wanted) = *case;
-    let file = Found {
-        slot: 0,
-        name: Text::of(String::new(alloc)),
-        ty: Text::of(String::new(alloc)),
-        user: None,
-        served_class,
-        size: None,
-        faults,
-        units: Items::of(Vec::from_slice(alloc, &[unit])?),
-        last_len,
-    };
-    let image = Items::of(vec![in alloc; 0u8; size]?);
-    let lent = Contents::of(kind, image, file).map(|contents| contents.len());
-    assert_eq!(rt; lent, wanted, "{label}");
-    Ok(())
-}
-
 #[test]
 fn the_pieces_of_a_file_are_slices_of_its_image(rt: HostRuntime) -> Result<(), Fail> {
     for case in SERVED {
@@ -197,14 +155,6 @@ fn any_other_body_is_one_piece(rt: HostRuntime) -> Result<(), Fail> {
         let reply = reply_to(&rt, alloc, &mut desk, (*key, *seconds, *ask))?;
         assert_eq!(rt; pieces_of(&reply.body), 1, "{label}");
         assert_eq!(rt; told(alloc, &reply)?, wanted_of(alloc, *wanted)?, "{label}");
-    }
-    Ok(())
-}
-
-#[test]
-fn contents_are_lent_of_a_sound_file_alone(rt: HostRuntime) -> Result<(), Fail> {
-    for case in LENT {
-        assert_lent(&rt, rt.alloc(), case)?;
     }
     Ok(())
 }

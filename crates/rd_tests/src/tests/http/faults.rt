@@ -1,14 +1,12 @@
-//! Runs of visits of which reads or writes fail, or whose moment has no day, and requests that are cut.
+//! Runs of visits of which reads or writes fail, or whose moment has no day.
 
-use super::cases::{
-    BAD_HEAD, Came, DONE, FRAMING, NO_DEED, Visit, assert_visits, filled_desk, text_of,
-};
-use super::doors::{out_of, run};
+use super::cases::{Came, DONE, NO_DEED, Visit, assert_visits, filled_desk};
+use super::doors::run;
 use crate::tests::desks::new_desk;
 use crate::tests::keys::STAFF;
 use rd_fakes::desk::Memory;
-use rd_fakes::wire::{Plan, Visitors, WHOLE, add_visit, new_door};
-use rd_http::{Ended, MemoryDoor, Served};
+use rd_fakes::wire::{Plan, Visitors, WHOLE};
+use rd_http::{Ended, Served};
 use rd_samples::days::AFTER;
 use rd_samples::{like, table};
 use std::alloc::{AllocError, Global};
@@ -112,15 +110,6 @@ fn assert_failing(rt: &impl Abort, alloc: Global, desk: &mut Memory) -> Result<(
     assert_visits(rt, alloc, desk, STANDS)
 }
 
-/// A door of visits at which only the front of a request comes: at each one byte more.
-fn door_of_fronts(alloc: Global) -> Result<MemoryDoor, Fail> {
-    let mut visits = Vec::new(alloc);
-    for n in 0..REQUEST.len() {
-        add_visit(&mut visits, AFTER, Vec::from_slice(alloc, &REQUEST[..n])?)?;
-    }
-    Ok(new_door(alloc, visits)?)
-}
-
 #[test]
 fn a_run_ends_as_it_says(rt: HostRuntime) -> Result<(), Fail> {
     let mut desk = new_desk(rt.alloc())?;
@@ -134,20 +123,4 @@ fn a_run_ends_as_it_says(rt: HostRuntime) -> Result<(), Fail> {
 fn each_read_and_each_write_may_fail(rt: HostRuntime) -> Result<(), Fail> {
     let mut desk = filled_desk(&rt, rt.alloc())?;
     assert_failing(&rt, rt.alloc(), &mut desk)
-}
-
-#[test]
-fn a_request_may_be_cut_anywhere(rt: HostRuntime) -> Result<(), Fail> {
-    let alloc = rt.alloc();
-    let mut desk = new_desk(alloc)?;
-    let mut door = door_of_fronts(alloc)?;
-    assert_eq!(rt;
-        run(alloc, &mut door, &mut desk, 102),
-        served!(102, 0, 0, Count)
-    );
-    for n in 0..102 {
-        let wanted = if n < 60 { BAD_HEAD } else { FRAMING };
-        assert_eq!(rt; out_of(alloc, &door, n)?, text_of(alloc, wanted)?, "{n}");
-    }
-    assert_visits(&rt, alloc, &mut desk, NONE)
 }

@@ -1,10 +1,8 @@
-//! Making a desk, and giving its connection back.
+//! Where no desk is made.
 
-use super::steps::{Case, Digest, Question, Start, Step, assert_cases};
-use super::{assert_filled, filled, run};
+use super::run;
 use crate::tests::tables::number;
-use rd_fakes::desk::{into_connection, new_connection, opened};
-use rd_policy::Audience;
+use rd_fakes::desk::new_connection;
 use rd_samples::keys::ROOM_DIGEST;
 use rd_store::{CreateFault, Refused, Store};
 use sqlite::{Connection, MemStore};
@@ -22,30 +20,6 @@ fn refusal(
         Ok(_) => Err(Fail::new("a desk")),
         Err(Refused { fault, conn }) => Ok((fault, conn)),
     }
-}
-
-const NEW: &[Case] = &[Case {
-    label: "a new desk has its staff key",
-    start: Start::New,
-    steps: &[
-        Step::Tells(Question::AudienceOf(Digest::Staff, Some(Audience::Staff))),
-        Step::Tells(Question::AudienceOf(Digest::Room, None)),
-        Step::Tells(Question::Deed(7, None)),
-    ],
-}];
-
-#[test]
-fn a_new_desk_has_its_staff_key(rt: HostRuntime) -> Result<(), Fail> {
-    assert_cases(&rt, rt.alloc(), NEW)
-}
-
-#[test]
-fn a_desk_that_stands_is_kept(rt: HostRuntime) -> Result<(), Fail> {
-    let desk = filled(&rt, rt.alloc())?;
-    let (fault, conn) = refusal(&rt, into_connection(desk))?;
-    assert_eq!(rt; fault, CreateFault::Exists);
-    let mut again = opened(rt.alloc(), conn)?;
-    assert_filled(&rt, rt.alloc(), &mut again)
 }
 
 /// What stands in a database, and why no desk is made beside it.

@@ -2,15 +2,14 @@
 
 use super::lists::{has_deeds, has_keys, has_latest_check, rules_at};
 use super::told::{Told, are_told, is_told};
-use super::{Desk, OTHER_DIGEST, filled, put_check, put_deed, put_rule, shelved};
-use rd_fakes::desk::new_store;
+use super::{OTHER_DIGEST, put_check, put_deed, put_rule};
 use rd_geometry::{Kind, NoMemory};
 use rd_policy::{Audience, Audiences, Band, Effect, Rule, is_scope};
-use rd_samples::cbm::{add_marks, crossed, formatted, full, looped, mixed, one_program, put_mark};
-use rd_samples::cpm::{hello, scattered};
+use rd_samples::cbm::{add_marks, formatted, looped, mixed, one_program, put_mark};
+use rd_samples::cpm::hello;
 use rd_samples::keys::{PROGRAM_DIGEST, ROOM_DIGEST, STAFF_DIGEST};
 use rd_samples::like;
-use rd_samples::rules::{CLOSED, Files, NOT_STAFF, NewRule, OPEN, TAKEDOWN, rule_of};
+use rd_samples::rules::{CLOSED, Files, NewRule, OPEN, TAKEDOWN, rule_of};
 use rd_store::{Accession, DeedRow, ImageRow, Indexed, Outcome, Rulebook, Store, StoreFault};
 use rd_volume::Found;
 use sqlite::Alter;
@@ -39,20 +38,14 @@ pub(super) enum Picture {
     Looped,
     /// The 1541 image without files.
     Formatted,
-    /// The 1541 image with three programs, of which two share a block.
-    Crossed,
     /// The 1541 image with a relative file, a separator and a program that was never closed.
     Mixed,
-    /// The 1541 image with a program of all blocks.
-    Full,
     /// The 1541 image with one program, and error bytes that tell of no error.
     Marked,
     /// The same, but that a block of the program reads with an error.
     Unread,
     /// The CP/M image with one file.
     Hello,
-    /// The CP/M image with a file of all blocks.
-    Scattered,
 }
 
 /// An image: its bytes, its deed and its digest.
@@ -77,22 +70,10 @@ pub(super) enum Named {
     Open,
     /// Of a deed, rank 10: closed to all but the staff until 2030.
     Closed,
-    /// Of a deed, rank 10: the files of user 2 are listed.
-    Listed,
     /// Of an accession, rank 1: the file at slot 0 is closed to all but the staff.
     Takedown,
-    /// Of an accession, rank 9,999: the same.
-    LastTakedown,
-    /// Of a deed, rank 1: the file at slot 9,999 is closed from the first day on.
-    BySlot,
     /// Of a deed, rank 2: the files that begin with HE are listed for the room.
     ByPrefix,
-    /// Of a deed, rank 3: the files of user 15 are open until the last day.
-    ByUser,
-    /// Of a deed, rank 4: the files without a type are closed to all but the staff.
-    ByKind,
-    /// Of a deed, rank 9,999: open to everyone on the day before 1970.
-    ByDays,
 }
 
 /// A rule and its deed or accession.
@@ -183,19 +164,16 @@ fn bytes_of(alloc: Global, picture: Picture) -> Result<Vec<u8>, NoMemory> {
         Picture::Program => one_program(alloc),
         Picture::Looped => looped(alloc),
         Picture::Formatted => formatted(alloc),
-        Picture::Crossed => crossed(alloc),
         Picture::Mixed => mixed(alloc),
-        Picture::Full => full(alloc),
         Picture::Marked => marked(alloc, 1),
         Picture::Unread => marked(alloc, 5),
         Picture::Hello => hello(alloc),
-        Picture::Scattered => scattered(alloc),
     }
 }
 
 fn kind_of(picture: Picture) -> Kind {
     match picture {
-        Picture::Hello | Picture::Scattered => Kind::Cpm8,
+        Picture::Hello => Kind::Cpm8,
         Picture::Marked | Picture::Unread => Kind::D64e,
         _ => Kind::D64,
     }
@@ -212,24 +190,10 @@ fn new_rule(named: Named) -> NewRule {
     match named {
         Named::Open => OPEN,
         Named::Closed => CLOSED,
-        Named::Listed => {
-            like!(NewRule, OPEN, rank: 10, files: Files::User(2), effect: Effect::List)
-        }
         Named::Takedown => TAKEDOWN,
-        Named::LastTakedown => like!(NewRule, TAKEDOWN, rank: 9_999),
-        Named::BySlot => {
-            like!(NewRule, OPEN, rank: 1, from: Some(-719_162), files: Files::Slot(9_999), effect: Effect::Deny)
-        }
         Named::ByPrefix => {
             like!(NewRule, OPEN, rank: 2, audiences: ROOM_ALONE, files: Files::Prefix("HE"), effect: Effect::List)
         }
-        Named::ByUser => {
-            like!(NewRule, OPEN, rank: 3, until: Some(2_932_896), files: Files::User(15))
-        }
-        Named::ByKind => {
-            like!(NewRule, OPEN, rank: 4, audiences: NOT_STAFF, files: Files::Kind(""), effect: Effect::Deny)
-        }
-        Named::ByDays => like!(NewRule, OPEN, rank: 9_999, from: Some(-1), until: Some(0)),
     }
 }
 
@@ -638,42 +602,6 @@ pub(super) fn assert_steps<S: Alter>(
 ) -> Result<(), Fail> {
     for (n, step) in steps.iter().enumerate() {
         assert_step(rt, alloc, desk, label, n, step)?;
-    }
-    Ok(())
-}
-
-/// A desk at the beginning of a case.
-#[derive(Clone, Copy)]
-pub(super) enum Start {
-    /// It has one staff key.
-    New,
-    /// It has what `FILL` puts.
-    Filled,
-    /// It has what `SHELVE` puts: three images.
-    Shelved,
-}
-
-/// A desk, and steps of it.
-#[derive(Clone, Copy)]
-pub(super) struct Case {
-    pub(super) label: &'static str,
-    pub(super) start: Start,
-    pub(super) steps: &'static [Step<'static>],
-}
-
-pub(super) fn started(rt: &impl Abort, alloc: Global, start: Start) -> Result<Desk, Fail> {
-    match start {
-        Start::New => Ok(new_store(alloc)?),
-        Start::Filled => filled(rt, alloc),
-        Start::Shelved => shelved(rt, alloc),
-    }
-}
-
-/// The steps of all these cases answer what they have to.
-pub(super) fn assert_cases(rt: &impl Abort, alloc: Global, cases: &[Case]) -> Result<(), Fail> {
-    for case in cases {
-        let mut desk = started(rt, alloc, case.start)?;
-        assert_steps(rt, alloc, &mut desk, case.label, case.steps)?;
     }
     Ok(())
 }

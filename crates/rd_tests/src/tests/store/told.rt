@@ -60,28 +60,6 @@ pub(super) const HELLO_TXT: Told = Told {
     ..HELLO
 };
 
-/// The programs of the image with crossed ones.
-pub(super) const A: Told = Told {
-    name: "A",
-    faults: 8,
-    ..LOOP
-};
-
-pub(super) const B: Told = Told {
-    slot: 1,
-    name: "B",
-    ..A
-};
-
-pub(super) const C: Told = Told {
-    slot: 2,
-    name: "C",
-    size: Some(2),
-    units: &[(338, 1)],
-    last_len: 2,
-    ..HELLO
-};
-
 /// A relative file.
 pub(super) const DATA: Told = Told {
     name: "DATA",
@@ -105,24 +83,6 @@ pub(super) const LOST: Told = Told {
     name: "LOST",
     faults: 1,
     ..LOOP
-};
-
-/// The program of all blocks of a 1541 disk.
-pub(super) const LONG: Told = Told {
-    name: "LONG",
-    size: Some(172_974),
-    units: &[(0, 357), (359, 324)],
-    last_len: 254,
-    ..HELLO
-};
-
-/// The file of all blocks of a CP/M disk.
-pub(super) const FILE: Told = Told {
-    name: "FILE",
-    ty: "",
-    size: Some(246_784),
-    units: &[(16, 1_928)],
-    ..HELLO_TXT
 };
 
 /// What follows the units of a run; `None` where others stand there.
