@@ -82,9 +82,10 @@ class Place:
         """A text with what its places in braces stand for here."""
         return text.format(desk=self.work / "desk", store=self.now / "museum.sqlite", port=self.port, work=self.work)
 
-    def run(self, words, at=None, image=None):
-        """How a command ends, with the growth of number `at` refused if there is one, and an image as its input."""
-        settings = {**os.environ, "TMPDIR": str(self.own)}
+    def run(self, words, at=None, image=None, more=()):
+        """How a command ends, with the growth of number `at` refused if there is one, an image as its input, and more
+        variables in its environment."""
+        settings = {**os.environ, "TMPDIR": str(self.own), **dict(more)}
         if at is not None:
             refuser = str(self.work / "refuse.so")
             settings |= {"REFUSE_AT": str(at), "REFUSED_MARK": str(self.mark), "LD_PRELOAD": refuser}
@@ -187,12 +188,13 @@ class Dumps:
 
 @dataclasses.dataclass(frozen=True)
 class Test:
-    """A test of a crate passes."""
+    """A test of a crate passes, or one plan of it."""
 
     words: tuple
+    more: tuple = ()
 
     def fault(self, place, _dumps, at):
-        ran = place.run(self.words, at)
+        ran = place.run(self.words, at, more=self.more)
         lines = (ran.output + ran.errors).decode(errors="replace").splitlines()
         return None if ran.status == 0 else lines[-1] if lines else ran.odd()
 
@@ -326,11 +328,29 @@ class Sweeps(harness.Seen):
             if not names:
                 self.fails(f"{crate} has no built test of refused memory")
             for name in names:
-                self.sweep(f"{crate} {name}", Test((tests, name)))
+                plans = plans_of(tests, name)
+                if not plans:
+                    self.fails(f"{crate} {name} has no plan")
+                for plan in plans:
+                    self.sweep(" ".join((crate, name, *plan.values())), Test((tests, name), tuple(plan.items())))
 
     def sweep_program(self):
         for name, trial in PROGRAM:
             self.sweep(name, trial)
+
+
+def plans_of(tests, name):
+    """What names each plan of a test in its environment: one after the other, until the test says that it has no more."""
+    if not name.endswith("::plans_when_memory_is_refused"):
+        return [{}]
+    plans = []
+    for number in range(100):
+        plan = {"REFUSED_PLAN": f"{number:02}"}
+        ran = subprocess.run([tests, name], capture_output=True, text=True, env={**os.environ, **plan})
+        if ran.returncode and "no plan has this number" in ran.stdout + ran.stderr:
+            break
+        plans.append(plan)
+    return plans
 
 
 PROGRAM = [

@@ -2,6 +2,7 @@ mod desk;
 mod desks;
 mod http;
 mod keys;
+mod plans;
 mod store;
 mod tables;
 

@@ -11,6 +11,7 @@ use super::requests::{Ask, request_of};
 use super::state::{GIVEN, answer};
 use crate::tests::desks::{assert_tables, new_desk_again};
 use crate::tests::keys::{Key, NOBODY, PUBLIC, ROOM, STAFF};
+use crate::tests::plans::{asked, is_asked};
 use rd_desk::{Reply, Request};
 use rd_fakes::desk::Memory;
 use rd_geometry::NoMemory;
@@ -22,11 +23,12 @@ use std::alloc::Global;
 use std::process::Abort;
 use std::test::Fail;
 
-/// A visit of a desk that is given what some commands put, and visits of it afterwards.
+/// What a desk is given, visits of which at most one changes it, and then comes last, and visits of the desk afterwards.
 #[derive(Clone, Copy)]
 struct Plan {
+    label: &'static str,
     given: &'static [Ask],
-    visit: Visit,
+    visits: &'static [Visit],
     then: &'static [Visit],
 }
 
@@ -51,18 +53,28 @@ fn wanted_again(alloc: Global, wanted: Wanted) -> Result<Told, NoMemory> {
     }
 }
 
-/// A desk with one staff key, which has these commands done.
-fn made(rt: &impl Abort, alloc: Global, commands: &[Ask]) -> Result<Memory, Fail> {
+/// A desk with one staff key, which has what a plan gives it.
+fn made(rt: &impl Abort, alloc: Global, plan: &Plan) -> Result<Memory, Fail> {
     let mut desk = new_desk_again(rt, alloc)?;
-    for command in commands {
+    for command in plan.given {
         let visit = (STAFF, AFTER, *command, DONE);
-        assert_reply(rt, alloc, &mut desk, visit)?;
+        assert_reply(rt, alloc, &mut desk, plan.label, visit)?;
     }
     Ok(desk)
 }
 
-fn assert_told(rt: &impl Abort, alloc: Global, reply: &Reply, wanted: Wanted) -> Result<(), Fail> {
-    assert_eq!(rt; told_again(alloc, reply)?, wanted_again(alloc, wanted)?);
+fn assert_told(
+    rt: &impl Abort,
+    alloc: Global,
+    label: &str,
+    reply: &Reply,
+    wanted: Wanted,
+) -> Result<(), Fail> {
+    assert_eq!(rt;
+        told_again(alloc, reply)?,
+        wanted_again(alloc, wanted)?,
+        "{label}"
+    );
     Ok(())
 }
 
@@ -71,6 +83,7 @@ fn assert_reply(
     rt: &impl Abort,
     alloc: Global,
     desk: &mut Memory,
+    label: &str,
     (key, seconds, ask, wanted): Visit,
 ) -> Result<(), Fail> {
     let request = request_again(alloc, key, ask)?;
@@ -78,7 +91,7 @@ fn assert_reply(
     if reply.status == 503 {
         reply = answer(rt, alloc, desk, seconds, &request);
     }
-    assert_told(rt, alloc, &reply, wanted)
+    assert_told(rt, alloc, label, &reply, wanted)
 }
 
 /// A visit gets the expected reply at once.
@@ -86,71 +99,63 @@ fn assert_at_once(
     rt: &impl Abort,
     alloc: Global,
     desk: &mut Memory,
+    label: &str,
     (key, seconds, ask, wanted): Visit,
 ) -> Result<(), Fail> {
     let request = request_of(alloc, key, ask)?;
     let reply = answer(rt, alloc, desk, seconds, &request);
-    assert_told(rt, alloc, &reply, wanted)
+    assert_told(rt, alloc, label, &reply, wanted)
 }
 
-/// The visit of a plan, made once more, gets the expected reply at once, and changes what it has to.
+/// A visit of a plan, made once more, gets the expected reply at once, and changes what it has to.
 fn assert_once_more(
     rt: &impl Abort,
     alloc: Global,
     mut desk: Memory,
     plan: &Plan,
+    visit: Visit,
 ) -> Result<Memory, Fail> {
-    assert_at_once(rt, alloc, &mut desk, plan.visit)?;
-    let mut kept = made(rt, alloc, plan.given)?;
-    assert_at_once(rt, alloc, &mut kept, plan.visit)?;
+    assert_at_once(rt, alloc, &mut desk, plan.label, visit)?;
+    let mut kept = made(rt, alloc, plan)?;
+    assert_at_once(rt, alloc, &mut kept, plan.label, visit)?;
     assert_tables(rt, alloc, desk, kept)
 }
 
-/// The first visit of a plan gets the expected reply, or that of a desk that is unavailable and changes nothing.
+/// A visit of a plan gets the expected reply, or that of a desk that is unavailable and changes nothing.
 /// Then the same visit, made once more, gets the expected reply, and changes what it has to.
 fn assert_first(
     rt: &impl Abort,
     alloc: Global,
     mut desk: Memory,
     plan: &Plan,
+    visit: Visit,
 ) -> Result<Memory, Fail> {
-    let (key, seconds, ask, wanted) = plan.visit;
+    let (key, seconds, ask, wanted) = visit;
     let request = request_again(alloc, key, ask)?;
     let reply = answer(rt, alloc, &mut desk, seconds, &request);
     if reply.status != 503 {
-        assert_told(rt, alloc, &reply, wanted)?;
+        assert_told(rt, alloc, plan.label, &reply, wanted)?;
         return Ok(desk);
     }
-    assert_told(rt, alloc, &reply, UNAVAILABLE)?;
-    let kept = made(rt, alloc, plan.given)?;
+    assert_told(rt, alloc, plan.label, &reply, UNAVAILABLE)?;
+    let kept = made(rt, alloc, plan)?;
     let desk = assert_tables(rt, alloc, desk, kept)?;
-    assert_once_more(rt, alloc, desk, plan)
+    assert_once_more(rt, alloc, desk, plan, visit)
+}
+
+/// What a desk is given, and the visits of a plan: of which the last may change the desk, and no other one does.
+fn visited(rt: &impl Abort, alloc: Global, plan: &Plan) -> Result<Memory, Fail> {
+    let mut desk = made(rt, alloc, plan)?;
+    for visit in plan.visits {
+        desk = assert_first(rt, alloc, desk, plan, *visit)?;
+    }
+    Ok(desk)
 }
 
 fn assert_plan(rt: &impl Abort, alloc: Global, plan: &Plan) -> Result<(), Fail> {
-    let desk = made(rt, alloc, plan.given)?;
-    let mut desk = assert_first(rt, alloc, desk, plan)?;
+    let mut desk = visited(rt, alloc, plan)?;
     for visit in plan.then {
-        assert_reply(rt, alloc, &mut desk, *visit)?;
-    }
-    Ok(())
-}
-
-/// Visits of one desk, of which none changes anything, get the replies that are wanted.
-fn assert_visits_again(
-    rt: &impl Abort,
-    alloc: Global,
-    given: &'static [Ask],
-    visits: &[Visit],
-) -> Result<(), Fail> {
-    let mut desk = made(rt, alloc, given)?;
-    for visit in visits {
-        let plan = Plan {
-            given,
-            visit: *visit,
-            then: &[],
-        };
-        desk = assert_first(rt, alloc, desk, &plan)?;
+        assert_reply(rt, alloc, &mut desk, plan.label, *visit)?;
     }
     Ok(())
 }
@@ -160,57 +165,42 @@ const DEED: Ask = Ask::PutDeed(7, "A. Curator", 18_020);
 const HELD: &[Ask] = &[DEED, Ask::PutRule(OPEN), Ask::PutImage(PROGRAM_12)];
 
 const IMAGES: Plan = Plan {
+    label: "images",
     given: HELD,
-    visit: (PUBLIC, AFTER, Ask::Images, ONE_IMAGE),
+    visits: &[(PUBLIC, AFTER, Ask::Images, ONE_IMAGE)],
     then: &[],
 };
-
-#[test]
-fn images_when_memory_is_refused(rt: HostRuntime) -> Result<(), Fail> {
-    assert_plan(&rt, rt.alloc(), &IMAGES)
-}
 
 const LISTING: Plan = Plan {
+    label: "a listing",
     given: HELD,
-    visit: (PUBLIC, AFTER, Ask::Listing(12), ALL_OF_12),
+    visits: &[(PUBLIC, AFTER, Ask::Listing(12), ALL_OF_12)],
     then: &[],
 };
-
-#[test]
-fn a_listing_when_memory_is_refused(rt: HostRuntime) -> Result<(), Fail> {
-    assert_plan(&rt, rt.alloc(), &LISTING)
-}
 
 const BYTES: Plan = Plan {
+    label: "bytes",
     given: HELD,
-    visit: (PUBLIC, AFTER, Ask::Bytes(12, 0), HELLO),
+    visits: &[(PUBLIC, AFTER, Ask::Bytes(12, 0), HELLO)],
     then: &[],
 };
-
-#[test]
-fn bytes_when_memory_is_refused(rt: HostRuntime) -> Result<(), Fail> {
-    assert_plan(&rt, rt.alloc(), &BYTES)
-}
 
 const DENIAL: Plan = Plan {
+    label: "a denial",
     given: &[DEED, Ask::PutRule(CLOSED), Ask::PutImage(PROGRAM_12)],
-    visit: (PUBLIC, BEFORE, Ask::Bytes(12, 0), UNTIL_2030),
+    visits: &[(PUBLIC, BEFORE, Ask::Bytes(12, 0), UNTIL_2030)],
     then: &[],
 };
 
-#[test]
-fn a_denial_when_memory_is_refused(rt: HostRuntime) -> Result<(), Fail> {
-    assert_plan(&rt, rt.alloc(), &DENIAL)
-}
-
 const CATALOGUE: Plan = Plan {
+    label: "a catalogue",
     given: &[
         DEED,
         Ask::PutRule(OPEN),
         Ask::PutImage(QUOTED_18),
         Ask::PutImage(LOOPED_14),
     ],
-    visit: (
+    visits: &[(
         PUBLIC,
         AFTER,
         Ask::Catalogue,
@@ -220,119 +210,78 @@ const CATALOGUE: Plan = Plan {
             r#"18,7,d64,0,,"HI%A0""",PRG,0,,R7.20,read"#,
             r#"18,7,d64,1,,A\B,PRG,0,,R7.20,read"#,
         ]),
-    ),
+    )],
     then: &[],
 };
-
-#[test]
-fn a_catalogue_when_memory_is_refused(rt: HostRuntime) -> Result<(), Fail> {
-    assert_plan(&rt, rt.alloc(), &CATALOGUE)
-}
 
 const SURVEY: Plan = Plan {
+    label: "a survey",
     given: HELD,
-    visit: (STAFF, AFTER, Ask::Survey(12), SURVEY_OF_12),
+    visits: &[(STAFF, AFTER, Ask::Survey(12), SURVEY_OF_12)],
     then: &[],
 };
 
-#[test]
-fn a_survey_when_memory_is_refused(rt: HostRuntime) -> Result<(), Fail> {
-    assert_plan(&rt, rt.alloc(), &SURVEY)
-}
-
 const CHECK: Plan = Plan {
+    label: "a check",
     given: HELD,
-    visit: (STAFF, AFTER, Ask::Check(12), SOUND),
+    visits: &[(STAFF, AFTER, Ask::Check(12), SOUND)],
     then: &[(STAFF, AFTER, Ask::Check(12), SOUND)],
 };
 
-#[test]
-fn a_check_when_memory_is_refused(rt: HostRuntime) -> Result<(), Fail> {
-    assert_plan(&rt, rt.alloc(), &CHECK)
-}
-
 /// The image has error bytes, so that all is asked for that one without them asks for, and more.
 const PUT_IMAGE: Plan = Plan {
+    label: "an image",
     given: &[DEED, Ask::PutRule(OPEN)],
-    visit: (STAFF, AFTER, Ask::PutImage(MARKED_12), DONE),
+    visits: &[(STAFF, AFTER, Ask::PutImage(MARKED_12), DONE)],
     then: &[(PUBLIC, AFTER, Ask::Bytes(12, 0), HELLO)],
 };
 
-#[test]
-fn an_image_when_memory_is_refused(rt: HostRuntime) -> Result<(), Fail> {
-    assert_plan(&rt, rt.alloc(), &PUT_IMAGE)
-}
-
 const PUT_DEED: Plan = Plan {
+    label: "a deed",
     given: &[],
-    visit: (STAFF, AFTER, DEED, DONE),
+    visits: &[(STAFF, AFTER, DEED, DONE)],
     then: &[(STAFF, AFTER, Ask::PutRule(OPEN), DONE)],
 };
 
-#[test]
-fn a_deed_when_memory_is_refused(rt: HostRuntime) -> Result<(), Fail> {
-    assert_plan(&rt, rt.alloc(), &PUT_DEED)
-}
-
 const PUT_RULE: Plan = Plan {
+    label: "a rule",
     given: HELD,
-    visit: (STAFF, AFTER, Ask::PutRule(CLOSED), DONE),
+    visits: &[(STAFF, AFTER, Ask::PutRule(CLOSED), DONE)],
     then: &[(PUBLIC, BEFORE, Ask::Bytes(12, 0), UNTIL_2030)],
 };
 
-#[test]
-fn a_rule_when_memory_is_refused(rt: HostRuntime) -> Result<(), Fail> {
-    assert_plan(&rt, rt.alloc(), &PUT_RULE)
-}
-
 const DROP_RULE: Plan = Plan {
+    label: "a rule dropped",
     given: &[
         DEED,
         Ask::PutRule(OPEN),
         Ask::PutImage(PROGRAM_12),
         Ask::PutRule(TAKEDOWN),
     ],
-    visit: (STAFF, AFTER, Ask::DropRule(Band::Takedown, 12, 1), DONE),
+    visits: &[(STAFF, AFTER, Ask::DropRule(Band::Takedown, 12, 1), DONE)],
     then: &[(PUBLIC, AFTER, Ask::Bytes(12, 0), HELLO)],
 };
 
-#[test]
-fn a_rule_dropped_when_memory_is_refused(rt: HostRuntime) -> Result<(), Fail> {
-    assert_plan(&rt, rt.alloc(), &DROP_RULE)
-}
-
 const PUT_KEY: Plan = Plan {
+    label: "a key",
     given: &[],
-    visit: (STAFF, AFTER, Ask::PutKey("hello", Audience::Room), DONE),
+    visits: &[(STAFF, AFTER, Ask::PutKey("hello", Audience::Room), DONE)],
     then: &[(ROOM, AFTER, Ask::Unread, STAFF_ONLY)],
 };
 
-#[test]
-fn a_key_when_memory_is_refused(rt: HostRuntime) -> Result<(), Fail> {
-    assert_plan(&rt, rt.alloc(), &PUT_KEY)
-}
-
 const DROP_KEY: Plan = Plan {
+    label: "a key dropped",
     given: &[Ask::PutKey("hello", Audience::Room)],
-    visit: (STAFF, AFTER, Ask::DropKey("hello"), DONE),
+    visits: &[(STAFF, AFTER, Ask::DropKey("hello"), DONE)],
     then: &[(ROOM, AFTER, Ask::Unread, UNKNOWN_KEY)],
 };
 
-#[test]
-fn a_key_dropped_when_memory_is_refused(rt: HostRuntime) -> Result<(), Fail> {
-    assert_plan(&rt, rt.alloc(), &DROP_KEY)
-}
-
 const UNREAD: Plan = Plan {
+    label: "a body that was not read",
     given: &[],
-    visit: (STAFF, AFTER, Ask::Unread, BAD_BODY),
+    visits: &[(STAFF, AFTER, Ask::Unread, BAD_BODY)],
     then: &[],
 };
-
-#[test]
-fn a_body_that_was_not_read_when_memory_is_refused(rt: HostRuntime) -> Result<(), Fail> {
-    assert_plan(&rt, rt.alloc(), &UNREAD)
-}
 
 /// What a caller may ask, before the file is open and after.
 const OPENING: &[Visit] = &[
@@ -346,11 +295,6 @@ const OPENING: &[Visit] = &[
     (PUBLIC, BEFORE, Ask::Catalogue, NO_FILES),
     (STAFF, AFTER, Ask::Survey(12), SURVEY_OF_12),
 ];
-
-#[test]
-fn questions_when_memory_is_refused(rt: HostRuntime) -> Result<(), Fail> {
-    assert_visits_again(&rt, rt.alloc(), GIVEN, OPENING)
-}
 
 /// A desk on which one accession is taken down, and another has a deed without rules.
 const TAKEN: &[Ask] = &[
@@ -375,11 +319,6 @@ const VERDICTS: &[Visit] = &[
     (PUBLIC, AFTER, Ask::Listing(99), NO_ACCESSION),
     (STAFF, AFTER, Ask::Bytes(12, 1), NO_FILE),
 ];
-
-#[test]
-fn verdicts_when_memory_is_refused(rt: HostRuntime) -> Result<(), Fail> {
-    assert_visits_again(&rt, rt.alloc(), TAKEN, VERDICTS)
-}
 
 /// What stands on a desk of which accession 12 is taken down.
 const STAFF_LISTS: &[Visit] = &[
@@ -415,15 +354,11 @@ const STAFF_LISTS: &[Visit] = &[
     (NOBODY, AFTER, Ask::Keys, UNKNOWN_KEY),
 ];
 
-#[test]
-fn staff_lists_when_memory_is_refused(rt: HostRuntime) -> Result<(), Fail> {
-    assert_visits_again(&rt, rt.alloc(), TAKEN, STAFF_LISTS)
-}
-
 /// The latest checks, before accession 12 was checked and after.
 const LATEST_CHECKS: Plan = Plan {
+    label: "latest checks",
     given: HELD,
-    visit: (
+    visits: &[(
         STAFF,
         AFTER,
         Ask::Checks,
@@ -431,7 +366,7 @@ const LATEST_CHECKS: Plan = Plan {
             200,
             r#"{"checks":[{"accession":12,"day":null,"outcome":null}]}"#,
         ),
-    ),
+    )],
     then: &[
         (STAFF, AFTER, Ask::Check(12), SOUND),
         (
@@ -445,11 +380,6 @@ const LATEST_CHECKS: Plan = Plan {
         ),
     ],
 };
-
-#[test]
-fn latest_checks_when_memory_is_refused(rt: HostRuntime) -> Result<(), Fail> {
-    assert_plan(&rt, rt.alloc(), &LATEST_CHECKS)
-}
 
 /// The first line of a table of verdicts.
 const VERDICT_COLUMNS: &str =
@@ -520,11 +450,6 @@ const REHEARSALS: &[Visit] = &[
     (ROOM, AFTER, Ask::RehearseRule(NEW_YEAR, OPEN), STAFF_ONLY),
 ];
 
-#[test]
-fn rehearsals_when_memory_is_refused(rt: HostRuntime) -> Result<(), Fail> {
-    assert_visits_again(&rt, rt.alloc(), TAKEN, REHEARSALS)
-}
-
 const CONFLICT: Wanted = Wanted::Json(409, r#"{"error":"conflict"}"#);
 
 const NO_DEED: Wanted = Wanted::Json(404, r#"{"error":"no-deed"}"#);
@@ -542,11 +467,6 @@ const REPEATS: &[Visit] = table![
     (STAFF, AFTER, Ask::PutImage(like!(NewImage, PROGRAM_12, deed: 9)), NO_DEED);
 ];
 
-#[test]
-fn images_again_when_memory_is_refused(rt: HostRuntime) -> Result<(), Fail> {
-    assert_visits_again(&rt, rt.alloc(), HELD, REPEATS)
-}
-
 const RULED: &[Ask] = &[DEED, Ask::PutRule(OPEN)];
 
 /// The same of a desk without an image.
@@ -562,7 +482,71 @@ const COMMANDS: &[Visit] = table![
     (STAFF, AFTER, Ask::Check(12), NO_ACCESSION);
 ];
 
+/// A script tries each of them alone, by its place.
+const PLANS: &[Plan] = &[
+    IMAGES,
+    LISTING,
+    BYTES,
+    DENIAL,
+    CATALOGUE,
+    SURVEY,
+    CHECK,
+    PUT_IMAGE,
+    PUT_DEED,
+    PUT_RULE,
+    DROP_RULE,
+    PUT_KEY,
+    DROP_KEY,
+    UNREAD,
+    Plan {
+        label: "questions",
+        given: GIVEN,
+        visits: OPENING,
+        then: &[],
+    },
+    Plan {
+        label: "verdicts",
+        given: TAKEN,
+        visits: VERDICTS,
+        then: &[],
+    },
+    Plan {
+        label: "staff lists",
+        given: TAKEN,
+        visits: STAFF_LISTS,
+        then: &[],
+    },
+    LATEST_CHECKS,
+    Plan {
+        label: "rehearsals",
+        given: TAKEN,
+        visits: REHEARSALS,
+        then: &[],
+    },
+    Plan {
+        label: "images again",
+        given: HELD,
+        visits: REPEATS,
+        then: &[],
+    },
+    Plan {
+        label: "commands again",
+        given: RULED,
+        visits: COMMANDS,
+        then: &[],
+    },
+];
+
 #[test]
-fn commands_again_when_memory_is_refused(rt: HostRuntime) -> Result<(), Fail> {
-    assert_visits_again(&rt, rt.alloc(), RULED, COMMANDS)
+fn plans_when_memory_is_refused(rt: HostRuntime) -> Result<(), Fail> {
+    let asked = asked(&rt);
+    let mut is_tried = false;
+    for (number, plan) in PLANS.iter().enumerate() {
+        if is_asked(asked, number) {
+            assert_plan(&rt, rt.alloc(), plan)?;
+            is_tried = true;
+        }
+    }
+    assert!(rt; is_tried, "no plan has this number");
+    Ok(())
 }

@@ -10,6 +10,7 @@ use super::cases::{
 use super::doors::{out_of, run};
 use crate::tests::desks::{assert_tables, new_desk_again};
 use crate::tests::keys::STAFF;
+use crate::tests::plans::{asked, is_asked};
 use rd_fakes::desk::Memory;
 use rd_fakes::wire::{add_visit, door_of, new_door};
 use rd_geometry::NoMemory;
@@ -155,19 +156,22 @@ fn assert_first(
     desk: &mut Memory,
     plan: &Plan,
 ) -> Result<Left, Fail> {
-    let (_, seconds, came, wanted) = plan.visit;
+    let (label, seconds, came, wanted) = plan.visit;
     let wanted = text_again(alloc, wanted)?;
     let (result, out) = visit(alloc, desk, seconds, came)?;
     if let Err(fault) = result {
-        assert_eq!(rt; fault, WireFault::Write);
-        assert!(rt; out != wanted && wanted.as_str().starts_with(out.as_str()));
+        assert_eq!(rt; fault, WireFault::Write, "{label}");
+        assert!(rt;
+            out != wanted && wanted.as_str().starts_with(out.as_str()),
+            "{label}"
+        );
         return Ok(Left::Cut);
     }
     if out == wanted {
         return Ok(Left::Replied);
     }
-    assert!(rt; !plan.is_fixed);
-    assert_eq!(rt; out, text_again(alloc, UNAVAILABLE)?);
+    assert!(rt; !plan.is_fixed, "{label}");
+    assert_eq!(rt; out, text_again(alloc, UNAVAILABLE)?, "{label}");
     Ok(Left::Unavailable)
 }
 
@@ -281,41 +285,16 @@ const LISTING: Plan = Plan {
     is_fixed: false,
 };
 
-#[test]
-fn a_listing_when_memory_is_refused(rt: HostRuntime) -> Result<(), Fail> {
-    assert_plan(&rt, rt.alloc(), &LISTING)
-}
-
 const FILE: Plan = like!(Plan, LISTING, visit: ("file", AFTER, FOR_HELLO, HELLO));
-
-#[test]
-fn a_file_when_memory_is_refused(rt: HostRuntime) -> Result<(), Fail> {
-    assert_plan(&rt, rt.alloc(), &FILE)
-}
 
 const CATALOGUE: Plan =
     like!(Plan, LISTING, visit: ("catalogue", AFTER, get!("/catalogue"), ROW_OF_12));
 
-#[test]
-fn the_catalogue_when_memory_is_refused(rt: HostRuntime) -> Result<(), Fail> {
-    assert_plan(&rt, rt.alloc(), &CATALOGUE)
-}
-
 const SURVEY: Plan =
     like!(Plan, LISTING, visit: ("survey", AFTER, Came::Asked("GET /images/12/survey", STAFF, ""), SURVEY_OF_12));
 
-#[test]
-fn a_survey_when_memory_is_refused(rt: HostRuntime) -> Result<(), Fail> {
-    assert_plan(&rt, rt.alloc(), &SURVEY)
-}
-
 const CHECK: Plan =
     like!(Plan, LISTING, visit: ("check", AFTER, Came::Asked("POST /images/12/check", STAFF, ""), SOUND));
-
-#[test]
-fn a_check_when_memory_is_refused(rt: HostRuntime) -> Result<(), Fail> {
-    assert_plan(&rt, rt.alloc(), &CHECK)
-}
 
 const TAKE_DOWN: Visit = (
     "takedown",
@@ -329,11 +308,6 @@ const TAKE_DOWN: Visit = (
 );
 
 const TAKEDOWN: Plan = like!(Plan, LISTING, visit: TAKE_DOWN, after: TAKEN_DOWN);
-
-#[test]
-fn a_rule_when_memory_is_refused(rt: HostRuntime) -> Result<(), Fail> {
-    assert_plan(&rt, rt.alloc(), &TAKEDOWN)
-}
 
 const PUT_9: Visit = (
     "deed",
@@ -349,11 +323,6 @@ const PUT_9: Visit = (
 const DEED: Plan =
     like!(Plan, LISTING, given: &[], visit: PUT_9, question: Came::Asked("DELETE /deeds/9/rules/1", STAFF, ""), before: NO_DEED, after: DONE);
 
-#[test]
-fn a_deed_when_memory_is_refused(rt: HostRuntime) -> Result<(), Fail> {
-    assert_plan(&rt, rt.alloc(), &DEED)
-}
-
 const PUT_12: Visit = (
     "image",
     AFTER,
@@ -367,50 +336,20 @@ const PUT_12: Visit = (
 const IMAGE: Plan =
     like!(Plan, LISTING, given: &[PUT_9], visit: PUT_12, before: NO_ACCESSION, after: NO_RULE);
 
-#[test]
-fn an_image_when_memory_is_refused(rt: HostRuntime) -> Result<(), Fail> {
-    assert_plan(&rt, rt.alloc(), &IMAGE)
-}
-
 const BODY: Plan =
     like!(Plan, DEED, visit: ("body", AFTER, Came::Asked("PUT /deeds/9", STAFF, r#"{"donor":"D","signed":"2021-01-32"}"#), BAD_BODY), after: NO_DEED);
-
-#[test]
-fn a_bad_body_when_memory_is_refused(rt: HostRuntime) -> Result<(), Fail> {
-    assert_plan(&rt, rt.alloc(), &BODY)
-}
 
 /// The body ends one byte before its length.
 const SHORT: Plan =
     like!(Plan, BODY, visit: ("short", AFTER, Came::Text("PUT /deeds/9 HTTP/1.1\r\nDesk-Key: abc\r\nContent-Length: 5\r\n\r\nhell"), FRAMING));
 
-#[test]
-fn a_short_body_when_memory_is_refused(rt: HostRuntime) -> Result<(), Fail> {
-    assert_plan(&rt, rt.alloc(), &SHORT)
-}
-
 const PATH: Plan = like!(Plan, BODY, visit: ("path", AFTER, get!("/images/012"), NO_ROUTE));
-
-#[test]
-fn a_path_when_memory_is_refused(rt: HostRuntime) -> Result<(), Fail> {
-    assert_plan(&rt, rt.alloc(), &PATH)
-}
 
 const HEAD: Plan =
     like!(Plan, BODY, visit: ("head", AFTER, with!("Host: desk\r\n"), BAD_HEAD), is_fixed: true);
 
-#[test]
-fn a_bad_head_when_memory_is_refused(rt: HostRuntime) -> Result<(), Fail> {
-    assert_plan(&rt, rt.alloc(), &HEAD)
-}
-
 const LENGTH: Plan =
     like!(Plan, HEAD, visit: ("length", AFTER, with!("Content-Length: +5\r\n\r\nhello"), FRAMING));
-
-#[test]
-fn a_length_when_memory_is_refused(rt: HostRuntime) -> Result<(), Fail> {
-    assert_plan(&rt, rt.alloc(), &LENGTH)
-}
 
 const ONE_IMAGE: Wanted = reply!(
     "200 OK",
@@ -419,44 +358,19 @@ const ONE_IMAGE: Wanted = reply!(
 
 const IMAGES: Plan = like!(Plan, LISTING, visit: ("images", AFTER, get!("/images"), ONE_IMAGE));
 
-#[test]
-fn the_images_when_memory_is_refused(rt: HostRuntime) -> Result<(), Fail> {
-    assert_plan(&rt, rt.alloc(), &IMAGES)
-}
-
 const NO_IMAGES: Wanted = reply!("200 OK", r#"{"images":[]}"#);
 
 const NONE: Plan =
     like!(Plan, LISTING, given: GIVEN, visit: ("no images", BEFORE, get!("/images"), NO_IMAGES));
 
-#[test]
-fn no_images_when_memory_is_refused(rt: HostRuntime) -> Result<(), Fail> {
-    assert_plan(&rt, rt.alloc(), &NONE)
-}
-
 const DENIED: Plan = like!(Plan, NONE, visit: ("denied", BEFORE, FOR_HELLO, CLOSED));
-
-#[test]
-fn a_denial_when_memory_is_refused(rt: HostRuntime) -> Result<(), Fail> {
-    assert_plan(&rt, rt.alloc(), &DENIED)
-}
 
 const CLOSED_LISTING: Plan = like!(Plan, NONE, visit: ("closed", BEFORE, get!("/images/12"), reply!(
     "200 OK",
     r#"{"accession":12,"deed":7,"files":[],"kind":"d64"}"#
 )));
 
-#[test]
-fn an_empty_listing_when_memory_is_refused(rt: HostRuntime) -> Result<(), Fail> {
-    assert_plan(&rt, rt.alloc(), &CLOSED_LISTING)
-}
-
 const SAME: Plan = like!(Plan, LISTING, visit: HELD_IMAGE);
-
-#[test]
-fn the_same_image_when_memory_is_refused(rt: HostRuntime) -> Result<(), Fail> {
-    assert_plan(&rt, rt.alloc(), &SAME)
-}
 
 const CONFLICT: Wanted = reply!("409 Conflict", r#"{"error":"conflict"}"#);
 
@@ -475,42 +389,17 @@ const PUT_10: Visit = (
     DONE,
 );
 
-#[test]
-fn another_image_when_memory_is_refused(rt: HostRuntime) -> Result<(), Fail> {
-    assert_plan(&rt, rt.alloc(), &ANOTHER)
-}
-
 const DIFFERS: Plan =
     like!(Plan, IMAGE, visit: ("digest", AFTER, Came::Image("PUT /accessions/12/d64/9/ba7816bf8f01cfea414140de5dae2223b00361a396177a9cb410ff61f20015ad", Picture::Program), reply!("422 Unprocessable Content", r#"{"error":"digest-differs"}"#)), after: NO_ACCESSION);
-
-#[test]
-fn another_digest_when_memory_is_refused(rt: HostRuntime) -> Result<(), Fail> {
-    assert_plan(&rt, rt.alloc(), &DIFFERS)
-}
 
 const SIZE: Plan =
     like!(Plan, DIFFERS, visit: ("size", AFTER, Came::Image("PUT /accessions/12/cpm8/9/ee352834e06f2b572e65490eb845939724cc38542aed18acdf81eded76912afb", Picture::Program), reply!("422 Unprocessable Content", r#"{"error":"wrong-size"}"#)));
 
-#[test]
-fn another_size_when_memory_is_refused(rt: HostRuntime) -> Result<(), Fail> {
-    assert_plan(&rt, rt.alloc(), &SIZE)
-}
-
 const MISSING: Plan =
     like!(Plan, DIFFERS, given: &[], visit: ("no deed", AFTER, Came::Image("PUT /accessions/12/d64/9/ee352834e06f2b572e65490eb845939724cc38542aed18acdf81eded76912afb", Picture::Program), NO_DEED));
 
-#[test]
-fn an_image_without_a_deed_when_memory_is_refused(rt: HostRuntime) -> Result<(), Fail> {
-    assert_plan(&rt, rt.alloc(), &MISSING)
-}
-
 const DROPPED: Plan =
     like!(Plan, LISTING, given: &[HELD_DEED, HELD_RULE, HELD_IMAGE, TAKE_DOWN], visit: ("drop", AFTER, Came::Asked("DELETE /images/12/rules/1", STAFF, ""), DONE), before: TAKEN_DOWN);
-
-#[test]
-fn a_rule_dropped_when_memory_is_refused(rt: HostRuntime) -> Result<(), Fail> {
-    assert_plan(&rt, rt.alloc(), &DROPPED)
-}
 
 const UNKNOWN_KEY: Wanted = reply!(
     "401 Unauthorized",
@@ -540,122 +429,103 @@ const KEY: Plan = Plan {
     is_fixed: false,
 };
 
-#[test]
-fn a_key_when_memory_is_refused(rt: HostRuntime) -> Result<(), Fail> {
-    assert_plan(&rt, rt.alloc(), &KEY)
-}
-
 const NO_KEY: Plan =
     like!(Plan, KEY, given: &[PUT_KEY], visit: ("no key", AFTER, Came::Asked("DELETE /badges/2cf24dba5fb0a30e26e83b2ac5b9e29e1b161e5c1fa7425e73043362938b9824", STAFF, ""), DONE), before: STAFF_ONLY, after: UNKNOWN_KEY);
-
-#[test]
-fn a_key_dropped_when_memory_is_refused(rt: HostRuntime) -> Result<(), Fail> {
-    assert_plan(&rt, rt.alloc(), &NO_KEY)
-}
 
 /// The reading room asks for what is for the staff.
 const ROOM: Plan =
     like!(Plan, NO_KEY, visit: ("room", AFTER, Came::Asked("GET /images/12/survey", Some("hello"), ""), STAFF_ONLY), after: STAFF_ONLY);
 
-#[test]
-fn a_question_of_the_staff_when_memory_is_refused(rt: HostRuntime) -> Result<(), Fail> {
-    assert_plan(&rt, rt.alloc(), &ROOM)
-}
-
 const LAST_KEY: Plan =
     like!(Plan, DEED, visit: ("last key", AFTER, Came::Asked("DELETE /badges/ba7816bf8f01cfea414140de5dae2223b00361a396177a9cb410ff61f20015ad", STAFF, ""), CONFLICT), after: NO_DEED);
-
-#[test]
-fn the_last_key_when_memory_is_refused(rt: HostRuntime) -> Result<(), Fail> {
-    assert_plan(&rt, rt.alloc(), &LAST_KEY)
-}
 
 const NOBODY: Plan =
     like!(Plan, BODY, visit: ("nobody", AFTER, Came::Asked("GET /images", Some("nobody"), ""), UNKNOWN_KEY));
 
-#[test]
-fn an_unknown_key_when_memory_is_refused(rt: HostRuntime) -> Result<(), Fail> {
-    assert_plan(&rt, rt.alloc(), &NOBODY)
-}
-
 const METHOD: Plan =
     like!(Plan, BODY, visit: ("method", AFTER, Came::Text("POST /images HTTP/1.1\r\n\r\n"), reply!("405 Method Not Allowed", "Allow: GET\r\n", r#"{"error":"method"}"#)));
-
-#[test]
-fn another_method_when_memory_is_refused(rt: HostRuntime) -> Result<(), Fail> {
-    assert_plan(&rt, rt.alloc(), &METHOD)
-}
 
 const DEEDS: Plan =
     like!(Plan, LISTING, visit: ("the deeds", AFTER, Came::Asked("GET /staff/deeds", STAFF, ""), reply!("200 OK", r#"{"deeds":[{"accessions":1,"deed":7,"donor":"A. Curator","rules":[{"audiences":["public"],"effect":"read","from":null,"rank":20,"select":{"all":true},"until":null}],"signed":"2019-05-04"}]}"#)));
 
-#[test]
-fn the_deeds_when_memory_is_refused(rt: HostRuntime) -> Result<(), Fail> {
-    assert_plan(&rt, rt.alloc(), &DEEDS)
-}
-
 const NO_TAKEDOWNS: Plan =
     like!(Plan, LISTING, visit: ("the takedowns", AFTER, Came::Asked("GET /staff/takedowns", STAFF, ""), reply!("200 OK", r#"{"takedowns":[]}"#)));
-
-#[test]
-fn the_takedowns_when_memory_is_refused(rt: HostRuntime) -> Result<(), Fail> {
-    assert_plan(&rt, rt.alloc(), &NO_TAKEDOWNS)
-}
 
 const KEYS: Plan =
     like!(Plan, LISTING, visit: ("the keys", AFTER, Came::Asked("GET /staff/keys", STAFF, ""), reply!("200 OK", r#"{"keys":[{"audience":"staff","digest":"ba7816bf8f01cfea414140de5dae2223b00361a396177a9cb410ff61f20015ad"}]}"#)));
 
-#[test]
-fn the_keys_when_memory_is_refused(rt: HostRuntime) -> Result<(), Fail> {
-    assert_plan(&rt, rt.alloc(), &KEYS)
-}
-
 const CHECKS: Plan =
     like!(Plan, LISTING, visit: ("the latest checks", AFTER, Came::Asked("GET /staff/checks", STAFF, ""), reply!("200 OK", r#"{"checks":[{"accession":12,"day":null,"outcome":null}]}"#)));
-
-#[test]
-fn the_latest_checks_when_memory_is_refused(rt: HostRuntime) -> Result<(), Fail> {
-    assert_plan(&rt, rt.alloc(), &CHECKS)
-}
 
 const VERDICTS: Plan =
     like!(Plan, LISTING, visit: ("the verdicts", AFTER, Came::Asked("GET /staff/verdicts/2030-01-01", STAFF, ""), csv!("157", "accession,deed,kind,slot,user,name,type,size,faults,public,public_rule,room,room_rule,staff,staff_rule\n12,7,d64,0,,HELLO,PRG,258,,read,R7.20,deny,D0,deny,D0\n")));
 
-#[test]
-fn the_verdicts_when_memory_is_refused(rt: HostRuntime) -> Result<(), Fail> {
-    assert_plan(&rt, rt.alloc(), &VERDICTS)
-}
-
 const REHEARSED: Plan =
     like!(Plan, LISTING, visit: ("a takedown rehearsed", AFTER, Came::Asked("PUT /staff/rehearsals/2030-01-01/images/12/rules/1", STAFF, r#"{"audiences":["public"],"effect":"deny","select":{"prefix":"HELLO"}}"#), csv!("103", "accession,slot,name,audience,effect,rule,then_effect,then_rule\n12,0,HELLO,public,read,R7.20,deny,T12.1\n")));
-
-#[test]
-fn a_takedown_rehearsed_when_memory_is_refused(rt: HostRuntime) -> Result<(), Fail> {
-    assert_plan(&rt, rt.alloc(), &REHEARSED)
-}
 
 const DROP_REHEARSED: Plan =
     like!(Plan, LISTING, visit: ("a rule dropped in a rehearsal", AFTER, Came::Asked("DELETE /staff/rehearsals/2030-01-01/deeds/7/rules/20", STAFF, ""), csv!("100", "accession,slot,name,audience,effect,rule,then_effect,then_rule\n12,0,HELLO,public,read,R7.20,deny,D0\n")));
 
-#[test]
-fn a_rule_dropped_in_a_rehearsal_when_memory_is_refused(rt: HostRuntime) -> Result<(), Fail> {
-    assert_plan(&rt, rt.alloc(), &DROP_REHEARSED)
-}
-
 const BAD_REHEARSAL: Plan =
     like!(Plan, LISTING, visit: ("a rehearsal with a bad body", AFTER, Came::Asked("PUT /staff/rehearsals/2030-01-01/deeds/7/rules/20", STAFF, r#"{"audiences":[]}"#), BAD_BODY));
-
-#[test]
-fn a_rehearsal_with_a_bad_body_when_memory_is_refused(rt: HostRuntime) -> Result<(), Fail> {
-    assert_plan(&rt, rt.alloc(), &BAD_REHEARSAL)
-}
 
 const NO_DATE: Plan =
     like!(Plan, LISTING, visit: ("verdicts of no date", AFTER, Came::Asked("GET /staff/verdicts/2030-02-30", STAFF, ""), NO_ROUTE));
 
+/// A script tries each of them alone, by its place.
+const PLANS: &[Plan] = &[
+    LISTING,
+    FILE,
+    CATALOGUE,
+    SURVEY,
+    CHECK,
+    TAKEDOWN,
+    DEED,
+    IMAGE,
+    BODY,
+    SHORT,
+    PATH,
+    HEAD,
+    LENGTH,
+    IMAGES,
+    NONE,
+    DENIED,
+    CLOSED_LISTING,
+    SAME,
+    ANOTHER,
+    DIFFERS,
+    SIZE,
+    MISSING,
+    DROPPED,
+    KEY,
+    NO_KEY,
+    ROOM,
+    LAST_KEY,
+    NOBODY,
+    METHOD,
+    DEEDS,
+    NO_TAKEDOWNS,
+    KEYS,
+    CHECKS,
+    VERDICTS,
+    REHEARSED,
+    DROP_REHEARSED,
+    BAD_REHEARSAL,
+    NO_DATE,
+];
+
 #[test]
-fn verdicts_of_no_date_when_memory_is_refused(rt: HostRuntime) -> Result<(), Fail> {
-    assert_plan(&rt, rt.alloc(), &NO_DATE)
+fn plans_when_memory_is_refused(rt: HostRuntime) -> Result<(), Fail> {
+    let asked = asked(&rt);
+    let mut is_tried = false;
+    for (number, plan) in PLANS.iter().enumerate() {
+        if is_asked(asked, number) {
+            assert_plan(&rt, rt.alloc(), plan)?;
+            is_tried = true;
+        }
+    }
+    assert!(rt; is_tried, "no plan has this number");
+    Ok(())
 }
 
 /// A door of two visits that ask for the program, before it is open and after.

@@ -8,7 +8,8 @@ use super::steps::{
 use super::told::{HELLO, HELLO_TXT, LOOP};
 use super::{CPM, Desk, LOOPED, MARKED, PROGRAM, run};
 use crate::tests::desks::new_store_again;
-use crate::tests::tables::{first_tables_of, number, others_of, tables_of};
+use crate::tests::plans::{asked, is_asked};
+use crate::tests::tables::{first_tables_of, others_of, tables_of};
 use rd_fakes::desk::{create, into_connection, migrate, open, opened};
 use rd_geometry::{Kind, NoMemory};
 use rd_policy::{Audience, Band};
@@ -93,7 +94,7 @@ fn assert_next(
     rt: &impl Abort,
     alloc: Global,
     mut desk: Desk,
-    steps: &[Step<'_>],
+    (label, steps): (&str, &[Step<'_>]),
     (n, step): (usize, &Step<'_>),
 ) -> Result<Desk, Fail> {
     let first = taken(rt, alloc, &mut desk, step);
@@ -102,25 +103,30 @@ fn assert_next(
     }
     assert!(rt;
         matches!(&first, Err(NoMemory) | Ok(Err(StoreFault::Sql))),
-        "step {n}"
+        "{label}: step {n}"
     );
     let mut desk = assert_kept(rt, alloc, desk, steps, n)?;
     assert_eq!(rt;
         taken(rt, alloc, &mut desk, step)?,
         Ok(true),
-        "step {n} again"
+        "{label}: step {n} again"
     );
     assert_kept(rt, alloc, desk, steps, n.saturating_add(1))
 }
 
 /// From a new desk on, each step answers as it must. A step at which memory is refused is taken once more. Steps are
 /// counted from 0.
-fn assert_steps_again(rt: &impl Abort, alloc: Global, steps: &[Step<'_>]) -> Result<Desk, Fail> {
+fn assert_steps_again(
+    rt: &impl Abort,
+    alloc: Global,
+    label: &str,
+    steps: &[Step<'_>],
+) -> Result<(), Fail> {
     let mut desk = new_store_again(rt, alloc)?;
     for (n, step) in steps.iter().enumerate() {
-        desk = assert_next(rt, alloc, desk, steps, (n, step))?;
+        desk = assert_next(rt, alloc, desk, (label, steps), (n, step))?;
     }
-    Ok(desk)
+    Ok(())
 }
 
 const PUT_DEED: Step<'static> = Step::Does(Call::PutDeed(7, "A. Curator", 18_020), DONE);
@@ -134,12 +140,6 @@ const DEEDS: &[Step<'static>] = &[
     PUT_DEED,
     Step::Tells(Question::Deed(7, Some(("A. Curator", 18_020)))),
 ];
-
-#[test]
-fn deeds_when_memory_is_refused(rt: HostRuntime) -> Result<(), Fail> {
-    assert_steps_again(&rt, rt.alloc(), DEEDS)?;
-    Ok(())
-}
 
 /// Puts what the staff may list, and asks for all of it.
 const LISTS: &[Step<'static>] = &[
@@ -161,12 +161,6 @@ const LISTS: &[Step<'static>] = &[
     Step::Tells(Question::LatestCheck(13, None)),
 ];
 
-#[test]
-fn lists_when_memory_is_refused(rt: HostRuntime) -> Result<(), Fail> {
-    assert_steps_again(&rt, rt.alloc(), LISTS)?;
-    Ok(())
-}
-
 /// Puts an image, and asks for it in each way.
 const IMAGE: &[Step<'static>] = &[
     PUT_DEED,
@@ -177,12 +171,6 @@ const IMAGE: &[Step<'static>] = &[
     Step::Tells(Question::Accessions(&[12])),
     Step::Tells(Question::Register(&[(12, COMMODORE)])),
 ];
-
-#[test]
-fn an_image_when_memory_is_refused(rt: HostRuntime) -> Result<(), Fail> {
-    assert_steps_again(&rt, rt.alloc(), IMAGE)?;
-    Ok(())
-}
 
 const PUT_MARKED: Step<'static> = Step::Does(Call::PutImage(13, MARKED), DONE);
 
@@ -196,12 +184,6 @@ const WITH_ERROR_BYTES: &[Step<'static>] = &[
     Step::Tells(Question::Register(&[(13, WITH_MARKS)])),
     Step::Tells(Question::Files(13, &[HELLO])),
 ];
-
-#[test]
-fn an_image_with_error_bytes_when_memory_is_refused(rt: HostRuntime) -> Result<(), Fail> {
-    assert_steps_again(&rt, rt.alloc(), WITH_ERROR_BYTES)?;
-    Ok(())
-}
 
 /// Puts an image, the same again, and images that are not taken in; asks for the image, and for the one in memory.
 const IMAGES: &[Step<'static>] = &[
@@ -218,12 +200,6 @@ const IMAGES: &[Step<'static>] = &[
     Step::Tells(Question::ImageAgain(12, Some(PROGRAM))),
     Step::Tells(Question::ImageAgain(12, Some(PROGRAM))),
 ];
-
-#[test]
-fn an_image_again_when_memory_is_refused(rt: HostRuntime) -> Result<(), Fail> {
-    assert_steps_again(&rt, rt.alloc(), IMAGES)?;
-    Ok(())
-}
 
 /// A CP/M disk under deed 7.
 const CONTROL_PROGRAM: Accession = Accession {
@@ -254,12 +230,6 @@ const FILES: &[Step<'static>] = &[
     Step::Does(Call::PutImage(14, LOOPED), DONE),
     Step::Tells(Question::Files(14, &[LOOP])),
 ];
-
-#[test]
-fn files_when_memory_is_refused(rt: HostRuntime) -> Result<(), Fail> {
-    assert_steps_again(&rt, rt.alloc(), FILES)?;
-    Ok(())
-}
 
 /// Puts rules and a takedown, asks for them, and drops some.
 const RULES: &[Step<'static>] = &[
@@ -294,12 +264,6 @@ const RULES: &[Step<'static>] = &[
     Step::Does(Call::PutRule(Named::Open, 9), MISSING),
 ];
 
-#[test]
-fn rules_when_memory_is_refused(rt: HostRuntime) -> Result<(), Fail> {
-    assert_steps_again(&rt, rt.alloc(), RULES)?;
-    Ok(())
-}
-
 /// Puts two rules, and drops them, each twice.
 const DROPPED: &[Step<'static>] = &[
     PUT_DEED,
@@ -313,12 +277,6 @@ const DROPPED: &[Step<'static>] = &[
     Step::Does(Call::DropRule(Band::Deed, 9, 20), MISSING),
     Step::Tells(Question::RulesFor(12, &[])),
 ];
-
-#[test]
-fn dropped_rules_when_memory_is_refused(rt: HostRuntime) -> Result<(), Fail> {
-    assert_steps_again(&rt, rt.alloc(), DROPPED)?;
-    Ok(())
-}
 
 /// Puts desk keys, and drops some; the last one of the staff stays.
 const KEYS: &[Step<'static>] = &[
@@ -335,12 +293,6 @@ const KEYS: &[Step<'static>] = &[
     Step::Tells(Question::AudienceOf(Digest::Staff, None)),
 ];
 
-#[test]
-fn keys_when_memory_is_refused(rt: HostRuntime) -> Result<(), Fail> {
-    assert_steps_again(&rt, rt.alloc(), KEYS)?;
-    Ok(())
-}
-
 /// Puts an image, and what checks of it found on a day.
 const CHECKED: &[Step<'static>] = &[
     PUT_DEED,
@@ -348,24 +300,34 @@ const CHECKED: &[Step<'static>] = &[
     Step::Does(Call::PutCheck(12, 18_021, Outcome::Sound), DONE),
     Step::Does(Call::PutCheck(12, 18_021, Outcome::Changed), DONE),
     Step::Does(Call::PutCheck(13, 18_021, Outcome::Sound), MISSING),
+    Step::Tells(Question::LatestCheck(12, Some((18_021, Outcome::Changed)))),
 ];
 
-/// The number that a query gives, asked for again where memory was refused.
-fn number_again(conn: &mut Connection<MemStore>, sql: &str) -> Result<i64, Error> {
-    match number(conn, sql) {
-        Ok(number) => Ok(number),
-        Err(_) => number(conn, sql),
-    }
-}
-
-/// Asks what was found of image 12 on day 18,021, by its number in the tables.
-const OUTCOME: &str = "SELECT outcome FROM checked WHERE acc = 12 AND day = 18021";
+/// A script tries each of them alone, by its place.
+const PLANS: &[(&str, &[Step<'static>])] = &[
+    ("deeds", DEEDS),
+    ("lists", LISTS),
+    ("an image", IMAGE),
+    ("an image with error bytes", WITH_ERROR_BYTES),
+    ("an image again", IMAGES),
+    ("files", FILES),
+    ("rules", RULES),
+    ("dropped rules", DROPPED),
+    ("keys", KEYS),
+    ("checks", CHECKED),
+];
 
 #[test]
-fn checks_when_memory_is_refused(rt: HostRuntime) -> Result<(), Fail> {
-    let desk = assert_steps_again(&rt, rt.alloc(), CHECKED)?;
-    let mut conn = into_connection(desk);
-    assert_eq!(rt; number_again(&mut conn, OUTCOME)?, 1);
+fn plans_when_memory_is_refused(rt: HostRuntime) -> Result<(), Fail> {
+    let asked = asked(&rt);
+    let mut is_tried = false;
+    for (number, (label, steps)) in PLANS.iter().enumerate() {
+        if is_asked(asked, number) {
+            assert_steps_again(&rt, rt.alloc(), label, *steps)?;
+            is_tried = true;
+        }
+    }
+    assert!(rt; is_tried, "no plan has this number");
     Ok(())
 }
 
