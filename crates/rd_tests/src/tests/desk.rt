@@ -1,4 +1,3 @@
-mod bodies;
 mod cases;
 mod images;
 mod refused;

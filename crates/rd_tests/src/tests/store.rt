@@ -1,4 +1,3 @@
-mod creating;
 mod files;
 mod lists;
 mod refused;

@@ -1,16 +1,13 @@
 //! Images of disks, and the accessions at which they are put.
 
 use rd_geometry::{Kind, NoMemory};
-use rd_samples::bytes::put;
 use rd_samples::cbm::{
-    DIRECTORY, NewCbmEntry, PROGRAM, add_marks, formatted, full, looped, one_program, put_cbm_entry,
+    DIRECTORY, NewCbmEntry, PROGRAM, add_marks, formatted, looped, mixed, one_program,
+    put_cbm_entry,
 };
-use rd_samples::cpm::{NewEntry, hello, with_entries};
+use rd_samples::cpm::{filled, hello};
 use rd_samples::like;
 use std::alloc::Global;
-
-/// Bytes that are written over those of an image, each from a place on.
-pub(super) type Patches = &'static [(usize, &'static [u8])];
 
 /// The bytes of an image, by what is on the disk.
 #[derive(Clone, Copy)]
@@ -25,14 +22,12 @@ pub(super) enum Picture {
     Quoted,
     /// A CP/M disk with `HELLO.TXT` of one record.
     Hello,
-    /// The disk with the program `HELLO`, with these bytes over its own.
-    Altered(Patches),
-    /// The disk with the program `HELLO` and with error bytes, which tell of no error but for these bytes over its own.
-    Marked(Patches),
-    /// A 1541 disk with the program `LONG`, which has all blocks that files can have, with these bytes over its own.
-    Full(Patches),
-    /// A CP/M disk with these entries from slot 0 on, and then these bytes.
-    Cpm(&'static [NewEntry<'static>], Patches),
+    /// The disk with the program `HELLO` and with error bytes, which tell of no error.
+    Marked,
+    /// A 1541 disk with a relative file, a separator and a program that was never closed.
+    Mixed,
+    /// A CP/M disk whose bytes are all 1, with one file of several faults.
+    Ones,
 }
 
 /// An image to be put.
@@ -58,11 +53,8 @@ pub(super) const PROGRAM_12: NewImage = NewImage {
 /// The same under deed 8.
 pub(super) const PROGRAM_13: NewImage = like!(NewImage, PROGRAM_12, acc: 13, deed: 8);
 
-/// Error bytes that tell of no error.
-const NO_ERROR: Picture = Picture::Marked(&[]);
-
 pub(super) const MARKED_12: NewImage =
-    like!(NewImage, PROGRAM_12, kind: Kind::D64e, bytes: NO_ERROR, digest: NO_ERROR);
+    like!(NewImage, PROGRAM_12, kind: Kind::D64e, bytes: Picture::Marked, digest: Picture::Marked);
 
 pub(super) const LOOPED_14: NewImage =
     like!(NewImage, PROGRAM_12, acc: 14, bytes: Picture::Looped, digest: Picture::Looped);
@@ -70,8 +62,14 @@ pub(super) const LOOPED_14: NewImage =
 pub(super) const HELLO_15: NewImage =
     like!(NewImage, PROGRAM_12, acc: 15, kind: Kind::Cpm8, bytes: Picture::Hello, digest: Picture::Hello);
 
+pub(super) const MIXED_16: NewImage =
+    like!(NewImage, PROGRAM_12, acc: 16, bytes: Picture::Mixed, digest: Picture::Mixed);
+
 pub(super) const QUOTED_18: NewImage =
     like!(NewImage, PROGRAM_12, acc: 18, bytes: Picture::Quoted, digest: Picture::Quoted);
+
+pub(super) const ONES_19: NewImage =
+    like!(NewImage, PROGRAM_12, acc: 19, kind: Kind::Cpm8, bytes: Picture::Ones, digest: Picture::Ones);
 
 const QUOTE: NewCbmEntry<'static> = like!(NewCbmEntry, PROGRAM, name: b"HI\xa0\"");
 
@@ -84,38 +82,9 @@ fn quoted(alloc: Global) -> Result<Vec<u8>, NoMemory> {
     Ok(image)
 }
 
-pub(super) fn put_patches(image: &mut [u8], patches: &[(usize, &[u8])]) {
-    for (place, bytes) in patches {
-        put(image, *place, *bytes);
-    }
-}
-
-fn altered(alloc: Global, patches: &[(usize, &[u8])]) -> Result<Vec<u8>, NoMemory> {
-    let mut image = one_program(alloc)?;
-    put_patches(&mut image, patches);
-    Ok(image)
-}
-
-fn marked(alloc: Global, patches: &[(usize, &[u8])]) -> Result<Vec<u8>, NoMemory> {
+fn marked(alloc: Global) -> Result<Vec<u8>, NoMemory> {
     let mut image = one_program(alloc)?;
     add_marks(&mut image)?;
-    put_patches(&mut image, patches);
-    Ok(image)
-}
-
-fn full_with(alloc: Global, patches: &[(usize, &[u8])]) -> Result<Vec<u8>, NoMemory> {
-    let mut image = full(alloc)?;
-    put_patches(&mut image, patches);
-    Ok(image)
-}
-
-fn with_cpm_entries(
-    alloc: Global,
-    entries: &[NewEntry<'_>],
-    patches: &[(usize, &[u8])],
-) -> Result<Vec<u8>, NoMemory> {
-    let mut image = with_entries(alloc, entries)?;
-    put_patches(&mut image, patches);
     Ok(image)
 }
 
@@ -132,9 +101,8 @@ pub(super) fn bytes_of(alloc: Global, picture: Picture) -> Result<Vec<u8>, NoMem
         Picture::Looped => looped(alloc),
         Picture::Quoted => quoted(alloc),
         Picture::Hello => hello(alloc),
-        Picture::Altered(patches) => altered(alloc, patches),
-        Picture::Marked(patches) => marked(alloc, patches),
-        Picture::Full(patches) => full_with(alloc, patches),
-        Picture::Cpm(entries, patches) => with_cpm_entries(alloc, entries, patches),
+        Picture::Marked => marked(alloc),
+        Picture::Mixed => mixed(alloc),
+        Picture::Ones => filled(alloc, 1),
     }
 }
