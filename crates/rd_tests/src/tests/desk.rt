@@ -3,4 +3,3 @@ mod images;
 mod refused;
 mod requests;
 mod state;
-mod texts;

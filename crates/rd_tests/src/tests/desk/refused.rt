@@ -6,7 +6,10 @@ use super::cases::{
     NO_IMAGES, NO_RULE, NONE_OF_12, ONE_IMAGE, SOUND, STAFF_ONLY, SURVEY_OF_12, TAKEN_DOWN, Told,
     UNAVAILABLE, UNKNOWN_KEY, UNTIL_2030, Visit, Wanted, told, wanted_of,
 };
-use super::images::{LOOPED_14, MARKED_12, NewImage, PROGRAM_12, PROGRAM_13, Picture, QUOTED_18};
+use super::images::{
+    HELLO_15, LOOPED_14, MARKED_12, MIXED_16, NewImage, ONES_19, PROGRAM_12, PROGRAM_13, Picture,
+    QUOTED_18,
+};
 use super::requests::{Ask, request_of};
 use super::state::{GIVEN, answer};
 use crate::tests::desks::{assert_tables, new_desk_again};
@@ -15,7 +18,7 @@ use crate::tests::plans::{asked, is_asked};
 use rd_desk::{Reply, Request};
 use rd_fakes::desk::Memory;
 use rd_geometry::NoMemory;
-use rd_policy::{Audience, Band};
+use rd_policy::{Audience, Band, Effect};
 use rd_samples::days::{AFTER, BEFORE, OPENING as NEW_YEAR};
 use rd_samples::rules::{CLOSED, NewRule, OPEN, TAKEDOWN};
 use rd_samples::{like, table};
@@ -192,27 +195,44 @@ const DENIAL: Plan = Plan {
     then: &[],
 };
 
-const CATALOGUE: Plan = Plan {
-    label: "a catalogue",
-    given: &[
-        DEED,
-        Ask::PutRule(OPEN),
-        Ask::PutImage(QUOTED_18),
-        Ask::PutImage(LOOPED_14),
-    ],
-    visits: &[(
-        PUBLIC,
-        AFTER,
-        Ask::Catalogue,
-        Wanted::Table(&[
-            COLUMNS,
-            "14,7,d64,0,,LOOP,PRG,,loop,R7.20,read",
-            r#"18,7,d64,0,,"HI%A0""",PRG,0,,R7.20,read"#,
-            r#"18,7,d64,1,,A\B,PRG,0,,R7.20,read"#,
-        ]),
-    )],
-    then: &[],
-};
+/// Disks with files of each kind, with faults, with names that are quoted, and with a takedown that lists.
+const TOLD: &[Ask] = table![
+    Ask::PutDeed(7, "J. \"Jo\" M\u{fc}ller", 18_020);
+    Ask::PutRule(OPEN);
+    Ask::PutImage(QUOTED_18);
+    Ask::PutImage(LOOPED_14);
+    Ask::PutImage(HELLO_15);
+    Ask::PutImage(MIXED_16);
+    Ask::PutImage(ONES_19);
+    Ask::PutRule(like!(NewRule, TAKEDOWN, scope: 14, effect: Effect::List));
+];
+
+/// What is told of them.
+const TEXTS: &[Visit] = table![
+    (PUBLIC, AFTER, Ask::Images, Wanted::Json(200, r#"{"images":[{"accession":14,"deed":7,"files":1,"kind":"d64"},{"accession":15,"deed":7,"files":1,"kind":"cpm8"},{"accession":16,"deed":7,"files":3,"kind":"d64"},{"accession":18,"deed":7,"files":2,"kind":"d64"},{"accession":19,"deed":7,"files":1,"kind":"cpm8"}]}"#));
+    (PUBLIC, AFTER, Ask::Listing(14), Wanted::Json(200, r#"{"accession":14,"deed":7,"files":[{"effect":"list","faults":["loop"],"name":"LOOP","rule":"T14.1","size":null,"slot":0,"type":"PRG","user":null}],"kind":"d64"}"#));
+    (PUBLIC, AFTER, Ask::Listing(15), Wanted::Json(200, r#"{"accession":15,"deed":7,"files":[{"effect":"read","faults":[],"name":"HELLO.TXT","rule":"R7.20","size":128,"slot":0,"type":"TXT","user":0}],"kind":"cpm8"}"#));
+    (PUBLIC, AFTER, Ask::Listing(18), Wanted::Json(200, r#"{"accession":18,"deed":7,"files":[{"effect":"read","faults":[],"name":"HI%A0\"","rule":"R7.20","size":0,"slot":0,"type":"PRG","user":null},{"effect":"read","faults":[],"name":"A\\B","rule":"R7.20","size":0,"slot":1,"type":"PRG","user":null}],"kind":"d64"}"#));
+    (PUBLIC, AFTER, Ask::Listing(19), Wanted::Json(200, r#"{"accession":19,"deed":7,"files":[{"effect":"read","faults":["duplicate","gap","crossed"],"name":"%01%01%01%01%01%01%01%01.%01%01%01","rule":"R7.20","size":null,"slot":0,"type":"%01%01%01","user":1}],"kind":"cpm8"}"#));
+    (PUBLIC, AFTER, Ask::Bytes(14, 0), Wanted::Json(403, r#"{"error":"denied","rule":"T14.1"}"#));
+    (STAFF, AFTER, Ask::Bytes(14, 0), Wanted::Json(422, r#"{"error":"faulty","faults":["loop"]}"#));
+    (PUBLIC, AFTER, Ask::Bytes(15, 0), Wanted::File(&[("HELLO FROM CP/M\r\n", 1), ("\u{1a}", 111)]));
+    (PUBLIC, AFTER, Ask::Bytes(16, 0), Wanted::Json(422, r#"{"error":"listed-only"}"#));
+    (PUBLIC, AFTER, Ask::Bytes(18, 0), Wanted::File(&[]));
+    (PUBLIC, AFTER, Ask::Bytes(19, 0), Wanted::Json(422, r#"{"error":"faulty","faults":["duplicate","gap","crossed"]}"#));
+    (STAFF, AFTER, Ask::Survey(15), Wanted::Json(200, "{\"accession\":15,\"deed\":7,\"directory\":\"end\",\"donor\":\"J. \\\"Jo\\\" M\u{fc}ller\",\"faulty\":0,\"files\":1,\"kind\":\"cpm8\",\"label\":\"\",\"map\":null,\"served\":1,\"signed\":\"2019-05-04\",\"size_differs\":0}"));
+    (PUBLIC, AFTER, Ask::Catalogue, Wanted::Table(&[
+        COLUMNS,
+        "14,7,d64,0,,LOOP,PRG,,loop,T14.1,list",
+        "15,7,cpm8,0,0,HELLO.TXT,TXT,128,,R7.20,read",
+        "16,7,d64,0,,DATA,REL,,,R7.20,read",
+        "16,7,d64,1,,--------,DEL,,,R7.20,read",
+        "16,7,d64,2,,LOST,PRG,,not-closed,R7.20,read",
+        r#"18,7,d64,0,,"HI%A0""",PRG,0,,R7.20,read"#,
+        r#"18,7,d64,1,,A\B,PRG,0,,R7.20,read"#,
+        "19,7,cpm8,0,1,%01%01%01%01%01%01%01%01.%01%01%01,%01%01%01,,duplicate gap crossed,R7.20,read",
+    ]));
+];
 
 const SURVEY: Plan = Plan {
     label: "a survey",
@@ -488,7 +508,12 @@ const PLANS: &[Plan] = &[
     LISTING,
     BYTES,
     DENIAL,
-    CATALOGUE,
+    Plan {
+        label: "texts",
+        given: TOLD,
+        visits: TEXTS,
+        then: &[],
+    },
     SURVEY,
     CHECK,
     PUT_IMAGE,
