@@ -40,14 +40,9 @@ pub(super) fn new_store_again(rt: &impl Abort, alloc: Global) -> Result<Store<Me
     create_again(rt, connection_again(alloc)?)
 }
 
-/// A desk with one staff key, and with clocks by a rule.
-pub(super) fn new_desk_by(alloc: Global, rule: &str) -> Result<Memory, Fail> {
-    Ok(desk_over(new_store(alloc)?, rule)?)
-}
-
 /// A desk with one staff key, and with the clocks of central Europe.
 pub(super) fn new_desk(alloc: Global) -> Result<Memory, Fail> {
-    new_desk_by(alloc, CENTRAL)
+    Ok(desk_over(new_store(alloc)?, CENTRAL)?)
 }
 
 /// The same. What memory is refused for is tried once more.

@@ -27,7 +27,7 @@ const NAMES: &str = "SELECT name FROM sqlite_master ORDER BY name";
 const DESKS: &str = "SELECT count(*) FROM sqlite_master WHERE name = 'desk'";
 
 /// The rows that a question gives.
-pub(super) fn rows(conn: &mut Connection<MemStore>, sql: &str) -> Result<Vec<Row>, Error> {
+fn rows(conn: &mut Connection<MemStore>, sql: &str) -> Result<Vec<Row>, Error> {
     conn.query_all(sql, &[])
 }
 

@@ -93,7 +93,7 @@ pub(super) const FILE_OF_12: Wanted = Wanted::Table(&[COLUMNS, LINE_12]);
 pub(super) type Told = (u16, Form, usize, String);
 
 /// The bytes of the body of a reply.
-pub(super) fn sent(alloc: Global, reply: &Reply) -> Result<Vec<u8>, NoMemory> {
+fn sent(alloc: Global, reply: &Reply) -> Result<Vec<u8>, NoMemory> {
     let mut bytes = Vec::new(alloc);
     for piece in reply.body.pieces() {
         bytes.extend_from_slice(piece)?;

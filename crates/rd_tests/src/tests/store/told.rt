@@ -42,13 +42,6 @@ pub(super) const LOOP: Told = Told {
     ..HELLO
 };
 
-/// The program at slot 0 of the image with one, where a block of it reads with an error.
-pub(super) const HELLO_UNREAD: Told = Told {
-    name: "HELLO",
-    faults: 16,
-    ..LOOP
-};
-
 /// The file of the CP/M image with one.
 pub(super) const HELLO_TXT: Told = Told {
     name: "HELLO.TXT",
