@@ -458,16 +458,12 @@ fn assert_fault(
     Ok(())
 }
 
-fn assert_faults(rt: &impl Abort, alloc: Global, cases: &[(&str, OpenFault)]) -> Result<(), Fail> {
-    for case in cases {
-        assert_fault(rt, alloc, *case)?;
-    }
-    Ok(())
-}
-
 #[test]
 fn no_desk_when_memory_is_refused(rt: HostRuntime) -> Result<(), Fail> {
-    assert_faults(&rt, rt.alloc(), UNSOUND)
+    for case in UNSOUND {
+        assert_fault(&rt, rt.alloc(), *case)?;
+    }
+    Ok(())
 }
 
 /// The database of a desk of version 1.

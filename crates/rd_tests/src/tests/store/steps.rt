@@ -290,10 +290,6 @@ pub(super) fn answer<S: Alter>(
     })
 }
 
-fn deed<S: Alter>(desk: &mut Store<S>, num: u32) -> Result<Option<DeedRow>, StoreFault> {
-    desk.deed(num)
-}
-
 pub(super) fn is_deed(found: Option<&DeedRow>, wanted: Option<(&str, i32)>) -> bool {
     match (found, wanted) {
         (Some(deed), Some((donor, signed))) => {
@@ -309,7 +305,7 @@ fn has_deed<S: Alter>(
     num: u32,
     wanted: Option<(&str, i32)>,
 ) -> Result<bool, StoreFault> {
-    let found = deed(desk, num)?;
+    let found = desk.deed(num)?;
     Ok(is_deed(found.as_ref(), wanted))
 }
 
@@ -363,24 +359,13 @@ fn has_accession<S: Alter>(
     Ok(desk.accession(acc)? == wanted)
 }
 
-fn accessions<S: Alter>(alloc: Global, desk: &mut Store<S>) -> Result<Vec<u32>, StoreFault> {
-    desk.accessions(alloc)
-}
-
 fn has_accessions<S: Alter>(
     alloc: Global,
     desk: &mut Store<S>,
     wanted: &[u32],
 ) -> Result<bool, StoreFault> {
-    let found = accessions(alloc, desk)?;
+    let found = desk.accessions(alloc)?;
     Ok(found.as_slice() == wanted)
-}
-
-fn register<S: Alter>(
-    alloc: Global,
-    desk: &mut Store<S>,
-) -> Result<Vec<(u32, Accession)>, StoreFault> {
-    desk.register(alloc)
 }
 
 fn has_register<S: Alter>(
@@ -388,15 +373,8 @@ fn has_register<S: Alter>(
     desk: &mut Store<S>,
     wanted: &[(u32, Accession)],
 ) -> Result<bool, StoreFault> {
-    let found = register(alloc, desk)?;
+    let found = desk.register(alloc)?;
     Ok(found.as_slice() == wanted)
-}
-
-fn audience_of<S: Alter>(
-    desk: &mut Store<S>,
-    digest: &[u8; 32],
-) -> Result<Option<Audience>, StoreFault> {
-    desk.audience_of(digest)
 }
 
 fn has_audience<S: Alter>(
@@ -404,7 +382,7 @@ fn has_audience<S: Alter>(
     digest: Digest,
     wanted: Option<Audience>,
 ) -> Result<bool, StoreFault> {
-    Ok(audience_of(desk, digest_of(digest))? == wanted)
+    Ok(desk.audience_of(digest_of(digest))? == wanted)
 }
 
 fn rules_for<S: Alter>(
@@ -487,27 +465,14 @@ fn has_batch<S: Alter>(
     Ok(found.len() == wanted.len())
 }
 
-fn files<S: Alter>(alloc: Global, desk: &mut Store<S>, acc: u32) -> Result<Vec<Found>, StoreFault> {
-    desk.found(alloc, acc)
-}
-
 fn has_files<S: Alter>(
     alloc: Global,
     desk: &mut Store<S>,
     acc: u32,
     wanted: &[Told],
 ) -> Result<bool, StoreFault> {
-    let found = files(alloc, desk, acc)?;
+    let found = desk.found(alloc, acc)?;
     Ok(are_told(found.as_slice(), wanted))
-}
-
-fn file_at<S: Alter>(
-    alloc: Global,
-    desk: &mut Store<S>,
-    acc: u32,
-    slot: u16,
-) -> Result<Option<Found>, StoreFault> {
-    desk.found_at(alloc, acc, slot)
 }
 
 fn is_file(found: Option<&Found>, wanted: Option<&Told>) -> bool {
@@ -525,7 +490,7 @@ fn has_file_at<S: Alter>(
     slot: u16,
     wanted: Option<Told>,
 ) -> Result<bool, StoreFault> {
-    let found = file_at(alloc, desk, acc, slot)?;
+    let found = desk.found_at(alloc, acc, slot)?;
     Ok(is_file(found.as_ref(), wanted.as_ref()))
 }
 
