@@ -22,10 +22,10 @@ fn connection_again(alloc: Global) -> Result<Connection<MemStore>, NoMemory> {
     }
 }
 
-/// The store that is made over a connection, at the second time where memory was refused at the first, which left no
+/// The store of a new desk with one staff key. What memory is refused for is tried once more: the first time leaves no
 /// table.
-fn create_again(rt: &impl Abort, conn: Connection<MemStore>) -> Result<Store<MemStore>, Fail> {
-    match create(conn) {
+pub(super) fn new_store_again(rt: &impl Abort, alloc: Global) -> Result<Store<MemStore>, Fail> {
+    match create(connection_again(alloc)?) {
         Ok(store) => Ok(store),
         Err((fault, mut conn)) => {
             assert_eq!(rt; fault, CreateFault::Sql);
@@ -33,11 +33,6 @@ fn create_again(rt: &impl Abort, conn: Connection<MemStore>) -> Result<Store<Mem
             Ok(made(conn)?)
         }
     }
-}
-
-/// The store of a new desk with one staff key. What memory is refused for is tried once more.
-pub(super) fn new_store_again(rt: &impl Abort, alloc: Global) -> Result<Store<MemStore>, Fail> {
-    create_again(rt, connection_again(alloc)?)
 }
 
 /// A desk with one staff key, and with the clocks of central Europe.

@@ -1,6 +1,6 @@
 //! What the tables behind a desk hold, in words.
 
-use sqlite::{Connection, Error, MemStore, Row};
+use sqlite::{Connection, Error, MemStore};
 use std::alloc::Global;
 use std::test::Fail;
 
@@ -26,11 +26,6 @@ const NAMES: &str = "SELECT name FROM sqlite_master ORDER BY name";
 /// Asks how many tables `desk` stand.
 const DESKS: &str = "SELECT count(*) FROM sqlite_master WHERE name = 'desk'";
 
-/// The rows that a question gives.
-fn rows(conn: &mut Connection<MemStore>, sql: &str) -> Result<Vec<Row>, Error> {
-    conn.query_all(sql, &[])
-}
-
 /// The number that a question gives.
 pub(super) fn number(conn: &mut Connection<MemStore>, sql: &str) -> Result<i64, Error> {
     conn.query_row(sql, &[])?.get(0)
@@ -38,7 +33,7 @@ pub(super) fn number(conn: &mut Connection<MemStore>, sql: &str) -> Result<i64, 
 
 /// The rows that a question gives, in words.
 fn words_of(alloc: Global, conn: &mut Connection<MemStore>, sql: &str) -> Result<String, Fail> {
-    let rows = rows(conn, sql)?;
+    let rows = conn.query_all(sql, &[])?;
     Ok(format!(in alloc; "{rows:?}\n")?)
 }
 
