@@ -1,7 +1,8 @@
 #!/usr/bin/env python3
 """scripts/open-with-sqlite3.py [PROGRAM]: has desk make a store, reads it with the shell sqlite3, and has desk open it
 again after VACUUM, and after ANALYZE, whose tables it refuses until they are dropped. Then tables, views and triggers
-named desk: what the program says where it is to open them, and to make a desk beside them.
+named desk: what the program says where it is to open them, and to make a desk beside them. At last desk checks the
+image, of which it reads each byte.
 
 The store has what the visits of crates/rd_trials/data/filled-desk.trial put. PROGRAM is ./desk of this repository where
 none is named. Run as root, it installs Debian's sqlite3 where it is missing."""
@@ -134,8 +135,9 @@ class Stage:
             self.seen.same(f"{label}: {asked}", wanted, shell(self.store, asked))
         path = str(self.folder / "image")
         shell(self.store, f"SELECT writefile('{path}', bytes) FROM image")
-        wanted = f"{digest(harness.bytes_of(path))}\n"
-        self.seen.same(f"{label}: the digest", wanted, shell(self.store, "SELECT lower(hex(digest)) FROM image"))
+        came = digest(harness.bytes_of(path))
+        self.seen.same(f"{label}: the image", digest(trials.image("program.image")), came)
+        self.seen.same(f"{label}: the digest", f"{came}\n", shell(self.store, "SELECT lower(hex(digest)) FROM image"))
 
     def opens(self, label):
         """desk opens the store, and each question tells what the visits put."""
@@ -186,6 +188,12 @@ def see_trigger(stage):
     stage.opens("without the trigger")
 
 
+def see_check(stage):
+    """The image is sound, and the check is recorded."""
+    stage.seen.same("check", (0, "12 sound\n", ""), stage.run("check", "--acc", "12", *KEY, *AT, *ZONE))
+    stage.seen.same("the check", "12|21915|0\n", shell(stage.store, "SELECT acc, day, outcome FROM checked"))
+
+
 def see_others(stage):
     for n, (label, made, opening, making) in enumerate(OTHERS):
         store = str(stage.folder / f"other-{n}.sqlite")
@@ -202,7 +210,7 @@ def main():
         stage.make()
         stage.has_rows("made")
         stage.opens("made")
-        for see in (see_statistics, see_trigger, see_others):
+        for see in (see_statistics, see_trigger, see_others, see_check):
             see(stage)
     return seen.told()
 
