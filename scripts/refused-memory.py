@@ -1,15 +1,17 @@
 #!/usr/bin/env python3
-"""scripts/refused-memory.py [--jobs N] [PROGRAM]: runs each test of refused memory, and commands of the program itself, once for
-each growth of memory that the test or command asks for, with that growth refused, until a run asks for no more.
+"""scripts/refused-memory.py [--jobs N] [PROGRAM]: runs each test of refused memory, and commands of the program itself,
+once for each growth of memory that the test or command asks for, with that growth refused, until a run asks for no
+more.
 
 N runs go on at a time, four without it. PROGRAM is a built desk, that of this repository where none is named; the tests
 are those that were built beside it, or those of this repository where it lies by itself. You need Linux, Python 3.11
 with its standard library alone, gcc with the C library's headers, the shell sqlite3, and built tests: `rt test` in
 crates/rd_policy_tests, crates/rd_disk_tests, crates/rd_tests and crates/rd_main.
 
-A test has to pass with each growth refused. A command has to do its work, or to say that memory was refused and leave
-the store as it was; a second run then does the work. What a store holds is what sqlite3 dumps of it: wal_pages.py says
-when a dump that was made before is that of another store too."""
+A test has to pass with each growth refused, and a test of plans with each plan by itself: its line has the number of
+the plan, which is its place in PLANS of the test's file, from 00 on. A command has to do its work, or to say that
+memory was refused and leave the store as it was; a second run then does the work. What a store holds is what sqlite3
+dumps of it: wal_pages.py says when a dump that was made before is that of another store too."""
 
 import argparse
 import collections
