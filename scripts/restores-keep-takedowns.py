@@ -145,6 +145,13 @@ class Week:
         self.flip(14)
         self.reader.turn("tuesday night")
 
+    def closed_since(self):
+        """Monday's backup, after which one takedown comes."""
+        backup = self.monday()
+        self.reader.turn("tuesday")
+        self.done(takedown(13, 1, 2))
+        return backup
+
     def flip(self, accession):
         """One bit of a disk flips in the store. With sums the desk does not open it again; without them only a check of
         that disk finds it."""
@@ -216,6 +223,17 @@ def see_refused(seen, week, backup, label, words, *options):
     seen.same(f"{label}: nothing is left", [], list(week.room.folder.glob("restored-*")))
 
 
+def see_closed(seen, week, label):
+    """On Wednesday the file is closed that Tuesday's takedown has closed."""
+    week.reader.turn(f"{label}: wednesday")
+    seen.same(f"{label}: it is closed", {403}, week.reader.seen[(f"{label}: wednesday", FILES[0])])
+
+
+def see_summed(seen, week, label):
+    """The restored store has sums, also where the backup has none."""
+    seen.same(f"{label}: its sums", SUMMED, left_alone(week.room.store))
+
+
 def see_whole_week(seen, program, has_sums):
     """The restore with all that it needs, after two that lack a disk."""
     with reading_room.Room(program) as room:
@@ -279,9 +297,7 @@ def see_cut_journal(seen, program):
     ]
     with reading_room.Room(program) as room:
         week = Week(seen, room)
-        backup = week.monday()
-        week.reader.turn("tuesday")
-        week.done(takedown(13, 1, 2))
+        backup = week.closed_since()
         week.reader.turn("tuesday night")
         kept = room.folder / "kept"
         kept.mkdir()
@@ -290,9 +306,8 @@ def see_cut_journal(seen, program):
             (room.folder / "journal").write_bytes(b"".join(change(journal)))
             status, out, errors = week.house.run("desk-restore", backup)
             seen.same(f"{label}", (0, "", True), (status, errors, words in out))
-            week.reader.turn(f"{label}: wednesday")
-            seen.same(f"{label}: it is closed", {403}, week.reader.seen[(f"{label}: wednesday", FILES[0])])
-            seen.same(f"{label}: its sums", SUMMED, left_alone(room.store))
+            see_summed(seen, week, label)
+            see_closed(seen, week, label)
         week.end()
 
 
@@ -300,8 +315,7 @@ def see_sums_since(seen, program):
     """A backup without sums, of a museum that has them now: the restore gives it sums, and keeps the takedown."""
     with reading_room.Room(program) as room:
         week = Week(seen, room, has_sums=False)
-        backup = week.monday()
-        week.done(takedown(13, 1, 2))
+        backup = week.closed_since()
         room.stop_desk()
         older = room.folder / "older"
         older.mkdir()
@@ -313,10 +327,9 @@ def see_sums_since(seen, program):
         week.reader.turn("tuesday night")
         status, out, errors = week.house.run("desk-restore", backup)
         seen.same("sums since: the restore", (0, "", True), (status, errors, "commands since" in out))
-        seen.same("sums since: its sums", SUMMED, left_alone(room.store))
+        see_summed(seen, week, "sums since")
         seen.same("sums since: the store and its log alone", 2, len(list(room.folder.glob("*.sqlite*"))))
-        week.reader.turn("sums since: wednesday")
-        seen.same("sums since: it is closed", {403}, week.reader.seen[("sums since: wednesday", FILES[0])])
+        see_closed(seen, week, "sums since")
         seen.same("sums since: the other files", {200}, week.reader.seen[("sums since: wednesday", FILES[3])])
         week.end()
 
@@ -357,8 +370,7 @@ def see_kills(seen, program, count):
     chance = random.Random(5)
     with reading_room.Room(program) as room:
         week = Week(seen, room)
-        backup = week.monday()
-        week.done(takedown(13, 1, 2))
+        backup = week.closed_since()
         week.reader.turn("tuesday night")
         senders = [Takedowns(room, ranks) for ranks in (range(10, 5000), range(5000, 9999))]
         for sender in senders:
@@ -409,16 +421,14 @@ def see_unreadable(seen, program):
     """The old store cannot be read, as where the disk fails; here a folder is in its place."""
     with reading_room.Room(program) as room:
         week = Week(seen, room, has_sums=False)
-        backup = week.monday()
-        week.done(takedown(13, 1, 2))
+        backup = week.closed_since()
         room.stop_desk()
         room.store.unlink()
         room.store.mkdir()
         status, out, errors = week.house.run("desk-restore", backup)
         seen.same("unreadable", (0, "", True), (status, errors, NOT_COMPARED in out))
-        seen.same("unreadable: its sums", SUMMED, left_alone(room.store))
-        week.reader.turn("unreadable: wednesday")
-        seen.same("unreadable: it is closed", {403}, week.reader.seen[("unreadable: wednesday", FILES[0])])
+        see_summed(seen, week, "unreadable")
+        see_closed(seen, week, "unreadable")
         week.end()
 
 
@@ -426,8 +436,7 @@ def see_not_started(seen, program):
     """The desk does not start once the backup is in its place: the restore says so, and what it has restored stays."""
     with reading_room.Room(program) as room:
         week = Week(seen, room)
-        backup = week.monday()
-        week.done(takedown(13, 1, 2))
+        backup = week.closed_since()
         words = room.folder / "words"
         words.write_text("--no-such-word")
         status, out, errors = week.house.run("desk-restore", backup)
@@ -436,8 +445,7 @@ def see_not_started(seen, program):
         words.write_text("")
         seen.same("not started: the old store is there", 1, len(list(room.folder.glob("set-aside-*/museum.sqlite"))))
         subprocess.run([week.house.bin / "systemctl", "start", "desk.service"], check=True)
-        week.reader.turn("not started: wednesday")
-        seen.same("not started: it is closed", {403}, week.reader.seen[("not started: wednesday", FILES[0])])
+        see_closed(seen, week, "not started")
         week.end()
 
 
