@@ -562,16 +562,25 @@ const PLANS: &[Plan] = &[
     },
 ];
 
-#[test]
-fn plans_when_memory_is_refused(rt: HostRuntime) -> Result<(), Fail> {
-    let asked = asked(&rt);
+/// Tries each plan, or the one that is asked for by its number.
+fn assert_plans(
+    rt: &impl Abort,
+    alloc: Global,
+    asked: Option<usize>,
+    plans: &[Plan],
+) -> Result<(), Fail> {
     let mut is_tried = false;
-    for (number, plan) in PLANS.iter().enumerate() {
+    for (number, plan) in plans.iter().enumerate() {
         if is_asked(asked, number) {
-            assert_plan(&rt, rt.alloc(), plan)?;
+            assert_plan(rt, alloc, plan)?;
             is_tried = true;
         }
     }
     assert!(rt; is_tried, "no plan has this number");
     Ok(())
+}
+
+#[test]
+fn plans_when_memory_is_refused(rt: HostRuntime) -> Result<(), Fail> {
+    assert_plans(&rt, rt.alloc(), asked(&rt), PLANS)
 }
