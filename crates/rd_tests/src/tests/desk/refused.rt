@@ -14,7 +14,6 @@ use super::requests::{Ask, request_of};
 use super::state::{GIVEN, answer};
 use crate::tests::desks::{assert_tables, new_desk_again};
 use crate::tests::keys::{Key, NOBODY, PUBLIC, ROOM, STAFF};
-use crate::tests::plans::{asked, is_asked};
 use rd_desk::{Reply, Request};
 use rd_fakes::desk::Memory;
 use rd_geometry::NoMemory;
@@ -502,85 +501,156 @@ const COMMANDS: &[Visit] = table![
     (STAFF, AFTER, Ask::Check(12), NO_ACCESSION);
 ];
 
-/// A script tries each of them alone, by its place.
-const PLANS: &[Plan] = &[
-    IMAGES,
-    LISTING,
-    BYTES,
-    DENIAL,
-    Plan {
-        label: "texts",
-        given: TOLD,
-        visits: TEXTS,
-        then: &[],
-    },
-    SURVEY,
-    CHECK,
-    PUT_IMAGE,
-    PUT_DEED,
-    PUT_RULE,
-    DROP_RULE,
-    PUT_KEY,
-    DROP_KEY,
-    UNREAD,
-    Plan {
-        label: "questions",
-        given: GIVEN,
-        visits: OPENING,
-        then: &[],
-    },
-    Plan {
-        label: "verdicts",
-        given: TAKEN,
-        visits: VERDICTS,
-        then: &[],
-    },
-    Plan {
-        label: "staff lists",
-        given: TAKEN,
-        visits: STAFF_LISTS,
-        then: &[],
-    },
-    LATEST_CHECKS,
-    Plan {
-        label: "rehearsals",
-        given: TAKEN,
-        visits: REHEARSALS,
-        then: &[],
-    },
-    Plan {
-        label: "images again",
-        given: HELD,
-        visits: REPEATS,
-        then: &[],
-    },
-    Plan {
-        label: "commands again",
-        given: RULED,
-        visits: COMMANDS,
-        then: &[],
-    },
-];
-
-/// Tries each plan, or the one that is asked for by its number.
-fn assert_plans(
-    rt: &impl Abort,
-    alloc: Global,
-    asked: Option<usize>,
-    plans: &[Plan],
-) -> Result<(), Fail> {
-    let mut is_tried = false;
-    for (number, plan) in plans.iter().enumerate() {
-        if is_asked(asked, number) {
-            assert_plan(rt, alloc, plan)?;
-            is_tried = true;
-        }
-    }
-    assert!(rt; is_tried, "no plan has this number");
-    Ok(())
+#[test]
+fn images_when_memory_is_refused(rt: HostRuntime) -> Result<(), Fail> {
+    assert_plan(&rt, rt.alloc(), &IMAGES)
 }
 
 #[test]
-fn plans_when_memory_is_refused(rt: HostRuntime) -> Result<(), Fail> {
-    assert_plans(&rt, rt.alloc(), asked(&rt), PLANS)
+fn a_listing_when_memory_is_refused(rt: HostRuntime) -> Result<(), Fail> {
+    assert_plan(&rt, rt.alloc(), &LISTING)
+}
+
+#[test]
+fn bytes_when_memory_is_refused(rt: HostRuntime) -> Result<(), Fail> {
+    assert_plan(&rt, rt.alloc(), &BYTES)
+}
+
+#[test]
+fn a_denial_when_memory_is_refused(rt: HostRuntime) -> Result<(), Fail> {
+    assert_plan(&rt, rt.alloc(), &DENIAL)
+}
+
+const ALL_TEXTS: Plan = Plan {
+    label: "texts",
+    given: TOLD,
+    visits: TEXTS,
+    then: &[],
+};
+
+#[test]
+fn texts_when_memory_is_refused(rt: HostRuntime) -> Result<(), Fail> {
+    assert_plan(&rt, rt.alloc(), &ALL_TEXTS)
+}
+
+#[test]
+fn a_survey_when_memory_is_refused(rt: HostRuntime) -> Result<(), Fail> {
+    assert_plan(&rt, rt.alloc(), &SURVEY)
+}
+
+#[test]
+fn a_check_when_memory_is_refused(rt: HostRuntime) -> Result<(), Fail> {
+    assert_plan(&rt, rt.alloc(), &CHECK)
+}
+
+#[test]
+fn an_image_when_memory_is_refused(rt: HostRuntime) -> Result<(), Fail> {
+    assert_plan(&rt, rt.alloc(), &PUT_IMAGE)
+}
+
+#[test]
+fn a_deed_when_memory_is_refused(rt: HostRuntime) -> Result<(), Fail> {
+    assert_plan(&rt, rt.alloc(), &PUT_DEED)
+}
+
+#[test]
+fn a_rule_when_memory_is_refused(rt: HostRuntime) -> Result<(), Fail> {
+    assert_plan(&rt, rt.alloc(), &PUT_RULE)
+}
+
+#[test]
+fn a_rule_dropped_when_memory_is_refused(rt: HostRuntime) -> Result<(), Fail> {
+    assert_plan(&rt, rt.alloc(), &DROP_RULE)
+}
+
+#[test]
+fn a_key_when_memory_is_refused(rt: HostRuntime) -> Result<(), Fail> {
+    assert_plan(&rt, rt.alloc(), &PUT_KEY)
+}
+
+#[test]
+fn a_key_dropped_when_memory_is_refused(rt: HostRuntime) -> Result<(), Fail> {
+    assert_plan(&rt, rt.alloc(), &DROP_KEY)
+}
+
+#[test]
+fn a_body_that_was_not_read_when_memory_is_refused(rt: HostRuntime) -> Result<(), Fail> {
+    assert_plan(&rt, rt.alloc(), &UNREAD)
+}
+
+const QUESTIONS: Plan = Plan {
+    label: "questions",
+    given: GIVEN,
+    visits: OPENING,
+    then: &[],
+};
+
+#[test]
+fn questions_when_memory_is_refused(rt: HostRuntime) -> Result<(), Fail> {
+    assert_plan(&rt, rt.alloc(), &QUESTIONS)
+}
+
+const DAYS: Plan = Plan {
+    label: "verdicts",
+    given: TAKEN,
+    visits: VERDICTS,
+    then: &[],
+};
+
+#[test]
+fn verdicts_when_memory_is_refused(rt: HostRuntime) -> Result<(), Fail> {
+    assert_plan(&rt, rt.alloc(), &DAYS)
+}
+
+const LISTS: Plan = Plan {
+    label: "staff lists",
+    given: TAKEN,
+    visits: STAFF_LISTS,
+    then: &[],
+};
+
+#[test]
+fn staff_lists_when_memory_is_refused(rt: HostRuntime) -> Result<(), Fail> {
+    assert_plan(&rt, rt.alloc(), &LISTS)
+}
+
+#[test]
+fn latest_checks_when_memory_is_refused(rt: HostRuntime) -> Result<(), Fail> {
+    assert_plan(&rt, rt.alloc(), &LATEST_CHECKS)
+}
+
+const REHEARSED: Plan = Plan {
+    label: "rehearsals",
+    given: TAKEN,
+    visits: REHEARSALS,
+    then: &[],
+};
+
+#[test]
+fn rehearsals_when_memory_is_refused(rt: HostRuntime) -> Result<(), Fail> {
+    assert_plan(&rt, rt.alloc(), &REHEARSED)
+}
+
+const IMAGES_AGAIN: Plan = Plan {
+    label: "images again",
+    given: HELD,
+    visits: REPEATS,
+    then: &[],
+};
+
+#[test]
+fn images_again_when_memory_is_refused(rt: HostRuntime) -> Result<(), Fail> {
+    assert_plan(&rt, rt.alloc(), &IMAGES_AGAIN)
+}
+
+const COMMANDS_AGAIN: Plan = Plan {
+    label: "commands again",
+    given: RULED,
+    visits: COMMANDS,
+    then: &[],
+};
+
+#[test]
+fn commands_again_when_memory_is_refused(rt: HostRuntime) -> Result<(), Fail> {
+    assert_plan(&rt, rt.alloc(), &COMMANDS_AGAIN)
 }

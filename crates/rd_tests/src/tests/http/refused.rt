@@ -10,7 +10,6 @@ use super::cases::{
 use super::doors::{out_of, run};
 use crate::tests::desks::{assert_tables, new_desk_again};
 use crate::tests::keys::STAFF;
-use crate::tests::plans::{asked, is_asked};
 use rd_fakes::desk::Memory;
 use rd_fakes::wire::{add_visit, door_of, new_door};
 use rd_geometry::NoMemory;
@@ -472,69 +471,194 @@ const BAD_REHEARSAL: Plan =
 const NO_DATE: Plan =
     like!(Plan, LISTING, visit: ("verdicts of no date", AFTER, Came::Asked("GET /staff/verdicts/2030-02-30", STAFF, ""), NO_ROUTE));
 
-/// A script tries each of them alone, by its place.
-const PLANS: &[Plan] = &[
-    LISTING,
-    FILE,
-    CATALOGUE,
-    SURVEY,
-    CHECK,
-    TAKEDOWN,
-    DEED,
-    IMAGE,
-    BODY,
-    SHORT,
-    PATH,
-    HEAD,
-    LENGTH,
-    IMAGES,
-    NONE,
-    DENIED,
-    CLOSED_LISTING,
-    SAME,
-    ANOTHER,
-    DIFFERS,
-    SIZE,
-    MISSING,
-    DROPPED,
-    KEY,
-    NO_KEY,
-    ROOM,
-    LAST_KEY,
-    NOBODY,
-    METHOD,
-    DEEDS,
-    NO_TAKEDOWNS,
-    KEYS,
-    CHECKS,
-    VERDICTS,
-    REHEARSED,
-    DROP_REHEARSED,
-    BAD_REHEARSAL,
-    NO_DATE,
-];
-
-/// Tries each plan, or the one that is asked for by its number.
-fn assert_plans(
-    rt: &impl Abort,
-    alloc: Global,
-    asked: Option<usize>,
-    plans: &[Plan],
-) -> Result<(), Fail> {
-    let mut is_tried = false;
-    for (number, plan) in plans.iter().enumerate() {
-        if is_asked(asked, number) {
-            assert_plan(rt, alloc, plan)?;
-            is_tried = true;
-        }
-    }
-    assert!(rt; is_tried, "no plan has this number");
-    Ok(())
+#[test]
+fn a_listing_when_memory_is_refused(rt: HostRuntime) -> Result<(), Fail> {
+    assert_plan(&rt, rt.alloc(), &LISTING)
 }
 
 #[test]
-fn plans_when_memory_is_refused(rt: HostRuntime) -> Result<(), Fail> {
-    assert_plans(&rt, rt.alloc(), asked(&rt), PLANS)
+fn a_file_when_memory_is_refused(rt: HostRuntime) -> Result<(), Fail> {
+    assert_plan(&rt, rt.alloc(), &FILE)
+}
+
+#[test]
+fn the_catalogue_when_memory_is_refused(rt: HostRuntime) -> Result<(), Fail> {
+    assert_plan(&rt, rt.alloc(), &CATALOGUE)
+}
+
+#[test]
+fn a_survey_when_memory_is_refused(rt: HostRuntime) -> Result<(), Fail> {
+    assert_plan(&rt, rt.alloc(), &SURVEY)
+}
+
+#[test]
+fn a_check_when_memory_is_refused(rt: HostRuntime) -> Result<(), Fail> {
+    assert_plan(&rt, rt.alloc(), &CHECK)
+}
+
+#[test]
+fn a_rule_when_memory_is_refused(rt: HostRuntime) -> Result<(), Fail> {
+    assert_plan(&rt, rt.alloc(), &TAKEDOWN)
+}
+
+#[test]
+fn a_deed_when_memory_is_refused(rt: HostRuntime) -> Result<(), Fail> {
+    assert_plan(&rt, rt.alloc(), &DEED)
+}
+
+#[test]
+fn an_image_when_memory_is_refused(rt: HostRuntime) -> Result<(), Fail> {
+    assert_plan(&rt, rt.alloc(), &IMAGE)
+}
+
+#[test]
+fn a_bad_body_when_memory_is_refused(rt: HostRuntime) -> Result<(), Fail> {
+    assert_plan(&rt, rt.alloc(), &BODY)
+}
+
+#[test]
+fn a_short_body_when_memory_is_refused(rt: HostRuntime) -> Result<(), Fail> {
+    assert_plan(&rt, rt.alloc(), &SHORT)
+}
+
+#[test]
+fn a_path_when_memory_is_refused(rt: HostRuntime) -> Result<(), Fail> {
+    assert_plan(&rt, rt.alloc(), &PATH)
+}
+
+#[test]
+fn a_bad_head_when_memory_is_refused(rt: HostRuntime) -> Result<(), Fail> {
+    assert_plan(&rt, rt.alloc(), &HEAD)
+}
+
+#[test]
+fn a_length_when_memory_is_refused(rt: HostRuntime) -> Result<(), Fail> {
+    assert_plan(&rt, rt.alloc(), &LENGTH)
+}
+
+#[test]
+fn the_images_when_memory_is_refused(rt: HostRuntime) -> Result<(), Fail> {
+    assert_plan(&rt, rt.alloc(), &IMAGES)
+}
+
+#[test]
+fn no_images_when_memory_is_refused(rt: HostRuntime) -> Result<(), Fail> {
+    assert_plan(&rt, rt.alloc(), &NONE)
+}
+
+#[test]
+fn a_denial_when_memory_is_refused(rt: HostRuntime) -> Result<(), Fail> {
+    assert_plan(&rt, rt.alloc(), &DENIED)
+}
+
+#[test]
+fn an_empty_listing_when_memory_is_refused(rt: HostRuntime) -> Result<(), Fail> {
+    assert_plan(&rt, rt.alloc(), &CLOSED_LISTING)
+}
+
+#[test]
+fn the_same_image_when_memory_is_refused(rt: HostRuntime) -> Result<(), Fail> {
+    assert_plan(&rt, rt.alloc(), &SAME)
+}
+
+#[test]
+fn another_image_when_memory_is_refused(rt: HostRuntime) -> Result<(), Fail> {
+    assert_plan(&rt, rt.alloc(), &ANOTHER)
+}
+
+#[test]
+fn another_digest_when_memory_is_refused(rt: HostRuntime) -> Result<(), Fail> {
+    assert_plan(&rt, rt.alloc(), &DIFFERS)
+}
+
+#[test]
+fn another_size_when_memory_is_refused(rt: HostRuntime) -> Result<(), Fail> {
+    assert_plan(&rt, rt.alloc(), &SIZE)
+}
+
+#[test]
+fn an_image_without_a_deed_when_memory_is_refused(rt: HostRuntime) -> Result<(), Fail> {
+    assert_plan(&rt, rt.alloc(), &MISSING)
+}
+
+#[test]
+fn a_rule_dropped_when_memory_is_refused(rt: HostRuntime) -> Result<(), Fail> {
+    assert_plan(&rt, rt.alloc(), &DROPPED)
+}
+
+#[test]
+fn a_key_when_memory_is_refused(rt: HostRuntime) -> Result<(), Fail> {
+    assert_plan(&rt, rt.alloc(), &KEY)
+}
+
+#[test]
+fn a_key_dropped_when_memory_is_refused(rt: HostRuntime) -> Result<(), Fail> {
+    assert_plan(&rt, rt.alloc(), &NO_KEY)
+}
+
+#[test]
+fn a_question_of_the_staff_when_memory_is_refused(rt: HostRuntime) -> Result<(), Fail> {
+    assert_plan(&rt, rt.alloc(), &ROOM)
+}
+
+#[test]
+fn the_last_key_when_memory_is_refused(rt: HostRuntime) -> Result<(), Fail> {
+    assert_plan(&rt, rt.alloc(), &LAST_KEY)
+}
+
+#[test]
+fn an_unknown_key_when_memory_is_refused(rt: HostRuntime) -> Result<(), Fail> {
+    assert_plan(&rt, rt.alloc(), &NOBODY)
+}
+
+#[test]
+fn another_method_when_memory_is_refused(rt: HostRuntime) -> Result<(), Fail> {
+    assert_plan(&rt, rt.alloc(), &METHOD)
+}
+
+#[test]
+fn the_deeds_when_memory_is_refused(rt: HostRuntime) -> Result<(), Fail> {
+    assert_plan(&rt, rt.alloc(), &DEEDS)
+}
+
+#[test]
+fn the_takedowns_when_memory_is_refused(rt: HostRuntime) -> Result<(), Fail> {
+    assert_plan(&rt, rt.alloc(), &NO_TAKEDOWNS)
+}
+
+#[test]
+fn the_keys_when_memory_is_refused(rt: HostRuntime) -> Result<(), Fail> {
+    assert_plan(&rt, rt.alloc(), &KEYS)
+}
+
+#[test]
+fn the_latest_checks_when_memory_is_refused(rt: HostRuntime) -> Result<(), Fail> {
+    assert_plan(&rt, rt.alloc(), &CHECKS)
+}
+
+#[test]
+fn the_verdicts_when_memory_is_refused(rt: HostRuntime) -> Result<(), Fail> {
+    assert_plan(&rt, rt.alloc(), &VERDICTS)
+}
+
+#[test]
+fn a_takedown_rehearsed_when_memory_is_refused(rt: HostRuntime) -> Result<(), Fail> {
+    assert_plan(&rt, rt.alloc(), &REHEARSED)
+}
+
+#[test]
+fn a_rule_dropped_in_a_rehearsal_when_memory_is_refused(rt: HostRuntime) -> Result<(), Fail> {
+    assert_plan(&rt, rt.alloc(), &DROP_REHEARSED)
+}
+
+#[test]
+fn a_rehearsal_with_a_bad_body_when_memory_is_refused(rt: HostRuntime) -> Result<(), Fail> {
+    assert_plan(&rt, rt.alloc(), &BAD_REHEARSAL)
+}
+
+#[test]
+fn verdicts_of_no_date_when_memory_is_refused(rt: HostRuntime) -> Result<(), Fail> {
+    assert_plan(&rt, rt.alloc(), &NO_DATE)
 }
 
 /// A door of two visits that ask for the program, before it is open and after.
