@@ -1,8 +1,8 @@
 #!/bin/sh
 # Prints how many proofs run side by side: one for each processor, but no more than the free memory holds.
 
-# MiB, measured from nothing: the peak of the largest proof, that of the tests of `rd_main`, and that of each other one.
-largest_memory=7400
+# MiB, measured from nothing: the largest proof, that of `rd_tests`, at its peak, and each other proof at that moment.
+largest_memory=7800
 lane_memory=6700
 
 processors=$(nproc)
