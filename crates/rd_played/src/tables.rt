@@ -34,7 +34,8 @@ const LONGEST: usize = 1_000;
 enum Digests {
     /// The SHA-256, for texts that are read.
     Sha256,
-    /// The hash of the standard library, which takes less time, for texts that are only compared.
+    /// The hash of the standard library, which takes less time, for texts that are compared. They are
+    /// printed where a comparison fails.
     Quick,
 }
 
@@ -118,7 +119,8 @@ pub fn answer_of<S: Alter>(alloc: Global, conn: &mut Connection<S>, sql: &str) -
     answer_with(alloc, conn, sql, Digests::Sha256)
 }
 
-/// The rows of all tables of a desk, as text that is to be compared. A missing table gives `no table`.
+/// The rows of all tables of a desk, as text that is to be compared, and printed where the comparison
+/// fails. A missing table gives `no table`.
 pub fn contents_of<S: Alter>(alloc: Global, conn: &mut Connection<S>) -> Result<String> {
     let mut text = String::new(alloc);
     for sql in TABLES {

@@ -2,7 +2,8 @@
 //! the other, or at calls that are drawn. The file that stops refuses all calls from then on; the other
 //! goes on until the run has ended with its error. In the end neither file stops. Then a crash loses
 //! what was not synced, or a part of it, and the database is opened again: it must hold the desk after
-//! the last change that was reported as done, or the one after the next change.
+//! the last change that was reported as done, or the one after the next change. Where a stop leaves the
+//! files as they were, what is judged so is what the database holds before the run.
 //!
 //! Two programs play them: `rd_stops` and `rd_stops_drawn`. The argument of each is the seed of all
 //! draws.

@@ -238,8 +238,8 @@ const STAFF_KEY_PUT: Run = Run {
     ..DEED_PUT
 };
 
-/// The runs that stop at each call. The draws of a run hang on its place here, so a new one stands at
-/// the end.
+/// The runs of the first program, which stop at each call; the copies, which do so too, stand in
+/// `MORE_RUNS`. The draws of a run hang on its place here, so a new one stands at the end.
 pub(crate) const RUNS: &[Run] = &[
     MADE,
     Run {
