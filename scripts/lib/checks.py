@@ -8,7 +8,7 @@ from built import PROGRAM
 ROOT = os.path.dirname(os.path.dirname(os.path.dirname(os.path.abspath(__file__))))
 TESTS = tuple(
     os.path.join("crates", crate, "out", f"{crate}_tests")
-    for crate in ("rd_policy_tests", "rd_disk_tests", "rd_tests", "rd_main")
+    for crate in ("rd_policy_tests", "rd_disk_tests", "rd_tests")
 )
 
 # A check: its name, its command, its words, in which {program} stands for the program and {tree} for the tree in which
@@ -78,6 +78,7 @@ BUILT = [
     of_program("under-systemd.py", shares="the small Debian"),
     of_program("installed-by-package.py", shares="the small Debian"),
     of_program("refused-memory.py", needs=TESTS),
+    of_program("failing-disk.py"),
     of_program("no-reply-is-lost.py", shares=MACHINE),
     of_program("no-visitor-stays.py", shares=MACHINE),
     of_program("no-page-stops-the-room.py", shares=MACHINE),
