@@ -1,30 +1,21 @@
-//! What the program says and writes.
+//! What the program says and writes, where its input and its output are interrupted, cut short or fail.
 
 mod doors;
 mod edges;
-mod failing;
 mod folders;
-mod museums;
-mod refused;
-mod sheets;
 mod sockets;
-mod visits;
 
-use rd_fakes::stream::{End, Narrow, Tape};
+use rd_fakes::stream::{End, Narrow, Stumbling, Tape};
 use rd_machines::Bare;
 use rd_program::run;
 use rd_samples::cpm::hello;
 use rd_volume::NoMemory;
-use std::alloc::{Alloc, AllocGlobal, Global};
-use std::process::Abort;
+use std::alloc::Global;
+use std::io::{Read, Write};
+use std::test::Fail;
 
-/// What a run left behind.
-#[derive(Debug, Drop)]
-struct Ran {
-    status: u8,
-    output: Vec<u8>,
-    errors: Vec<u8>,
-}
+/// The words that write the only file of a CP/M disk.
+const CAT: &[&str] = &["cat", "cpm8", "-", "0"];
 
 /// The bytes of the file `HELLO.TXT`: a line of text, and 1A hex to the record's end.
 fn hello_bytes(alloc: Global) -> Result<Vec<u8>, NoMemory> {
@@ -33,46 +24,44 @@ fn hello_bytes(alloc: Global) -> Result<Vec<u8>, NoMemory> {
     Ok(bytes)
 }
 
-/// Whether the run ended with this refusal, and wrote nothing.
-fn is_refused(ran: &Ran, status: u8, line: &str) -> bool {
-    ran.status == status && ran.output.is_empty() && ran.errors.as_slice() == line.as_bytes()
+// The call of the code under test has a function without a clause, so that no proof of a test carries what it says.
+
+/// Runs words on a machine without files, and gives the status and what the program tells.
+fn run_bare<R: Read, W: Write>(
+    alloc: Global,
+    words: &[&str],
+    input: &mut R,
+    output: &mut W,
+) -> (u8, Vec<u8>) {
+    let mut errors = Vec::new(alloc);
+    let status = run(alloc, words, input, output, &mut errors, &mut Bare);
+    (status, errors)
+}
+
+/// Whether a run ended so because of its input or its output.
+fn is_device(status: u8, errors: &[u8]) -> bool {
+    status == 3 && errors == b"desk: device\n".as_slice()
 }
 
 #[test]
-fn tells_a_device_that_fails(rt: HostRuntime) {
-    let alloc = rt.alloc();
-    let mut image = hello(alloc).expect(&rt, "memory");
+fn tells_a_device_that_fails(rt: HostRuntime) -> Result<(), Fail> {
+    let mut image = hello(rt.alloc())?;
     image.truncate(100_000);
-    let words = ["cat", "cpm8", "-", "0"];
     let mut input = Tape {
         bytes: image.as_slice(),
         is_interrupted: true,
         fails_at_end: true,
     };
-    let mut output = Vec::new(alloc);
-    let mut errors = Vec::new(alloc);
-    let status = run(
-        alloc,
-        words.as_slice(),
-        &mut input,
-        &mut output,
-        &mut errors,
-        &mut Bare,
-    );
-    let ran = Ran {
-        status,
-        output,
-        errors,
-    };
-    assert!(rt; is_refused(&ran, 3, "desk: device\n"));
+    let mut output = Vec::new(rt.alloc());
+    let (status, errors) = run_bare(rt.alloc(), CAT, &mut input, &mut output);
+    assert!(rt; is_device(status, errors.as_slice()) && output.is_empty());
+    Ok(())
 }
 
 #[test]
-fn passes_over_interruptions(rt: HostRuntime) {
-    let alloc = rt.alloc();
-    let image = hello(alloc).expect(&rt, "memory");
-    let wanted = hello_bytes(alloc).expect(&rt, "memory");
-    let words = ["cat", "cpm8", "-", "0"];
+fn passes_over_interruptions(rt: HostRuntime) -> Result<(), Fail> {
+    let image = hello(rt.alloc())?;
+    let wanted = hello_bytes(rt.alloc())?;
     let mut input = Tape {
         bytes: image.as_slice(),
         is_interrupted: true,
@@ -82,56 +71,53 @@ fn passes_over_interruptions(rt: HostRuntime) {
         room: 128,
         flushes: 1,
         is_interrupted: true,
-        ..Narrow::new(alloc)
+        ..Narrow::new(rt.alloc())
     };
-    let mut errors = Vec::new(alloc);
-    let status = run(
-        alloc,
-        words.as_slice(),
-        &mut input,
-        &mut output,
-        &mut errors,
-        &mut Bare,
-    );
-    assert!(rt; status == 0 && errors.is_empty());
-    assert!(rt; output.taken.as_slice() == wanted.as_slice());
+    let (status, errors) = run_bare(rt.alloc(), CAT, &mut input, &mut output);
+    assert!(rt; status == 0 && errors.is_empty() && output.taken == wanted);
+    Ok(())
 }
 
-/// Runs `cat` with an output that takes so many bytes, and then no more.
-fn run_narrow(alloc: Global, room: usize) -> Result<(u8, Narrow, Vec<u8>), NoMemory> {
-    let image = hello(alloc)?;
-    let words = ["cat", "cpm8", "-", "0"];
-    let mut output = Narrow {
-        room,
-        flushes: 1,
-        end: End::TakesNone,
-        ..Narrow::new(alloc)
-    };
-    let mut errors = Vec::new(alloc);
-    let status = run(
-        alloc,
-        words.as_slice(),
-        &mut image.as_slice(),
-        &mut output,
-        &mut errors,
-        &mut Bare,
-    );
-    Ok((status, output, errors))
-}
-
-/// `cat` to such an output writes as many bytes as it takes, and reports the device.
-fn assert_front_parts<R: Abort + AllocGlobal>(rt: &R) -> Result<(), NoMemory> {
+#[test]
+fn writes_a_front_part_where_a_write_takes_no_byte(rt: HostRuntime) -> Result<(), Fail> {
+    let image = hello(rt.alloc())?;
     let wanted = hello_bytes(rt.alloc())?;
     for room in [0, 1, 100, 127] {
-        let (status, output, errors) = run_narrow(rt.alloc(), room)?;
-        assert!(rt; status == 3 && errors.as_slice() == b"desk: device\n".as_slice());
-        assert!(rt; output.taken.len() == room);
+        let mut output = Narrow {
+            room,
+            flushes: 1,
+            end: End::TakesNone,
+            ..Narrow::new(rt.alloc())
+        };
+        let (status, errors) = run_bare(rt.alloc(), CAT, &mut image.as_slice(), &mut output);
+        assert!(rt; is_device(status, errors.as_slice()) && output.taken.len() == room);
         assert!(rt; wanted.starts_with(output.taken.as_slice()));
     }
     Ok(())
 }
 
+/// Runs whose output does not take the first write, and would take all others: words, and how that write ends.
+const STUMBLES: [(&[&str], End); 8] = [
+    (&["list", "cpm8", "-"], End::Fails),
+    (&["list", "cpm8", "-"], End::TakesNone),
+    (CAT, End::Fails),
+    (CAT, End::TakesNone),
+    (&["--help"], End::Fails),
+    (&["list", "--help"], End::TakesNone),
+    (&["--version"], End::Fails),
+    (&["-V"], End::TakesNone),
+];
+
 #[test]
-fn writes_a_front_part_where_a_write_takes_no_byte(rt: HostRuntime) {
-    assert_front_parts(&rt).expect(&rt, "memory");
+fn a_write_that_fails_ends_the_run(rt: HostRuntime) -> Result<(), Fail> {
+    let image = hello(rt.alloc())?;
+    for (n, (words, first)) in STUMBLES.iter().enumerate() {
+        let mut output = Stumbling {
+            first: Some(*first),
+            taken: Vec::new(rt.alloc()),
+        };
+        let (status, errors) = run_bare(rt.alloc(), *words, &mut image.as_slice(), &mut output);
+        assert!(rt; is_device(status, errors.as_slice()) && output.taken.is_empty(), "row {n}");
+    }
+    Ok(())
 }

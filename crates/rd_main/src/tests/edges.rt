@@ -1,166 +1,59 @@
-//! Writers that fail once, and files of the real machine.
+//! Files of the real machine.
 
-use super::{Ran, is_refused};
-use rd_fakes::stream::{End, Stumbling};
+use super::folders::Folder;
 use rd_host::Host;
-use rd_machines::Bare;
-use rd_program::{Files, MachineFault, run};
-use rd_samples::cpm::hello;
-use std::alloc::{Alloc, Global};
+use rd_program::{Files, MachineFault};
+use std::alloc::Global;
+use std::fs;
 use std::test::Fail;
-use std::{env, fs};
 
-/// A run whose output does not take the first write, and would take all others.
-struct Stumble {
-    label: &'static str,
-    words: &'static [&'static str],
-    first: End,
+/// As what the machine reads a file.
+#[derive(Clone, Copy, Debug)]
+enum Read {
+    Image,
+    Sheet,
 }
 
-const STUMBLES: [Stumble; 8] = [
-    Stumble {
-        label: "list, the first write fails",
-        words: &["list", "cpm8", "-"],
-        first: End::Fails,
-    },
-    Stumble {
-        label: "list, the first write takes no byte",
-        words: &["list", "cpm8", "-"],
-        first: End::TakesNone,
-    },
-    Stumble {
-        label: "cat, the first write fails",
-        words: &["cat", "cpm8", "-", "0"],
-        first: End::Fails,
-    },
-    Stumble {
-        label: "cat, the first write takes no byte",
-        words: &["cat", "cpm8", "-", "0"],
-        first: End::TakesNone,
-    },
-    Stumble {
-        label: "help, the first write fails",
-        words: &["--help"],
-        first: End::Fails,
-    },
-    Stumble {
-        label: "help, the first write takes no byte",
-        words: &["list", "--help"],
-        first: End::TakesNone,
-    },
-    Stumble {
-        label: "version, the first write fails",
-        words: &["--version"],
-        first: End::Fails,
-    },
-    Stumble {
-        label: "version, the first write takes no byte",
-        words: &["-V"],
-        first: End::TakesNone,
-    },
-];
-
-/// What a run on an image leaves if its output stumbles.
-fn run_stumbling(alloc: Global, case: &Stumble, mut image: &[u8]) -> Ran {
-    let mut output = Stumbling {
-        first: Some(case.first),
-        taken: Vec::new(alloc),
-    };
-    let mut errors = Vec::new(alloc);
-    let status = run(
-        alloc,
-        case.words,
-        &mut image,
-        &mut output,
-        &mut errors,
-        &mut Bare,
-    );
-    Ran {
-        status,
-        output: output.taken,
-        errors,
+/// What the real machine gives of the file at a path.
+fn given(rt: &HostRuntime, alloc: Global, read: Read, path: &str) -> Result<Vec<u8>, MachineFault> {
+    let mut host = Host::new(rt);
+    match read {
+        Read::Image => host.read_file(alloc, path),
+        Read::Sheet => host.read_sheet(alloc, path),
     }
 }
 
-#[test]
-fn a_write_that_fails_ends_the_run(rt: HostRuntime) -> Result<(), Fail> {
-    let image = hello(rt.alloc())?;
-    for case in &STUMBLES {
-        let ran = run_stumbling(rt.alloc(), case, image.as_slice());
-        assert!(rt; is_refused(&ran, 3, "desk: device\n"), "{}", case.label);
-    }
-    Ok(())
-}
-
-/// What the real machine gives of a path: so many bytes, or a fault.
-const PATHS: [(&str, Result<usize, MachineFault>); 3] = [
-    ("/", Err(MachineFault::Failed)),
-    ("/no-such-file", Err(MachineFault::Failed)),
-    ("/dev/zero", Ok(256_257)),
+/// What the real machine gives of a path: so many bytes, or a fault. Of an image it reads a byte more than the largest has.
+const PATHS: [(Read, &str, Result<usize, MachineFault>); 6] = [
+    (Read::Image, "/", Err(MachineFault::Failed)),
+    (Read::Image, "/no-such-file", Err(MachineFault::Failed)),
+    (Read::Image, "/dev/zero", Ok(256_257)),
+    (Read::Sheet, "/", Err(MachineFault::Failed)),
+    (Read::Sheet, "/no-such-file", Err(MachineFault::Failed)),
+    (Read::Sheet, "/dev/null", Ok(0)),
 ];
 
 #[test]
 fn the_machine_reads_no_folder_and_no_more_than_an_image(rt: HostRuntime) {
-    let mut host = Host::new(&rt);
-    for (path, wanted) in PATHS {
-        let given = host.read_file(rt.alloc(), path);
-        assert!(rt; given.map(|bytes| bytes.len()) == wanted, "{path}");
+    for (read, path, wanted) in PATHS {
+        let given = given(&rt, rt.alloc(), read, path);
+        assert!(rt; given.map(|bytes| bytes.len()) == wanted, "{read:?} {path}");
     }
 }
 
-/// The folder for files that tests make.
-pub(super) fn test_folder(rt: &HostRuntime) -> Result<String, Fail> {
-    match env::var(rt, "TMPDIR") {
-        Ok(folder) => Ok(folder),
-        Err(_) => Ok(String::from_str(rt.alloc(), "/tmp")?),
-    }
-}
-
-/// The path of a new, empty file in that folder.
-fn fresh_path(rt: &HostRuntime) -> Result<String, Fail> {
-    let folder = test_folder(rt)?;
-    for n in 0..1_000 {
-        let path = format!(in rt.alloc(); "{folder}/desk-image-{n}")?;
-        if fs::File::create_new(rt, path.as_str()).is_ok() {
-            return Ok(path);
-        }
-    }
-    Err(Fail::from("no new file can be made"))
+/// Whether the machine gives all bytes of a file, so many commas.
+fn is_read(rt: &HostRuntime, read: Read, count: usize) -> Result<bool, Fail> {
+    let folder = Folder::new(rt)?;
+    let path = folder.path("file")?;
+    let bytes = vec![in rt.alloc(); b','; count]?;
+    fs::write(rt, path.as_str(), bytes.as_slice())?;
+    let given = given(rt, rt.alloc(), read, path.as_str());
+    Ok(given == Ok(bytes))
 }
 
 #[test]
 fn the_machine_reads_a_file(rt: HostRuntime) -> Result<(), Fail> {
-    let path = fresh_path(&rt)?;
-    fs::write(&rt, path.as_str(), b"BYTES")?;
-    let given = Host::new(&rt).read_file(rt.alloc(), path.as_str());
-    fs::remove_file(&rt, path.as_str())?;
-    assert!(rt; given.is_ok_and(|bytes| bytes.as_slice() == b"BYTES".as_slice()));
-    Ok(())
-}
-
-/// What the real machine gives of the path of a sheet: so many bytes, or a fault.
-const SHEETS: [(&str, Result<usize, MachineFault>); 3] = [
-    ("/", Err(MachineFault::Failed)),
-    ("/no-such-file", Err(MachineFault::Failed)),
-    ("/dev/null", Ok(0)),
-];
-
-#[test]
-fn the_machine_reads_no_folder_as_a_sheet(rt: HostRuntime) {
-    let mut host = Host::new(&rt);
-    for (path, wanted) in SHEETS {
-        let given = host.read_sheet(rt.alloc(), path);
-        assert!(rt; given.map(|bytes| bytes.len()) == wanted, "{path}");
-    }
-}
-
-#[test]
-fn the_machine_reads_a_sheet_whole(rt: HostRuntime) -> Result<(), Fail> {
-    let path = fresh_path(&rt)?;
-    let bytes = vec![in rt.alloc(); b','; 300_000]?;
-    fs::write(&rt, path.as_str(), bytes.as_slice())?;
-    let given = Host::new(&rt).read_sheet(rt.alloc(), path.as_str());
-    fs::remove_file(&rt, path.as_str())?;
-    assert!(rt; given.is_ok_and(|given| given == bytes));
+    assert!(rt; is_read(&rt, Read::Image, 5)?);
+    assert!(rt; is_read(&rt, Read::Sheet, 300_000)?);
     Ok(())
 }

@@ -1,8 +1,15 @@
 //! Folders for what tests make.
 
-use super::edges::test_folder;
-use std::fs;
 use std::test::Fail;
+use std::{env, fs};
+
+/// The folder for what tests make.
+fn test_folder(rt: &HostRuntime) -> Result<String, Fail> {
+    match env::var(rt, "TMPDIR") {
+        Ok(folder) => Ok(folder),
+        Err(_) => Ok(String::from_str(rt.alloc(), "/tmp")?),
+    }
+}
 
 /// A new folder, for what one test makes. It goes with all that is in it.
 pub(super) struct Folder<'a> {

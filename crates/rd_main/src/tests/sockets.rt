@@ -18,6 +18,13 @@ fn listened(rt: &HostRuntime, path: &str) -> Result<(), MachineFault> {
     listened
 }
 
+/// Whether a machine listens at a path from now on.
+fn is_open<M: Machine>(machine: &mut M, path: &str) -> bool {
+    machine
+        .listen(Place::Socket(path), TimeLimits::usual())
+        .is_ok()
+}
+
 /// Leaves a socket at a path, at which nobody answers.
 fn leave_socket(rt: &HostRuntime, path: &str) -> Result<(), Fail> {
     let _left = UnixListener::bind(rt, path)?;
@@ -36,10 +43,7 @@ fn a_socket_is_for_owner_and_group_and_goes_with_its_desk(rt: HostRuntime) -> Re
     let path = folder.path("door")?;
     {
         let mut host = Host::new(&rt);
-        let is_open = host
-            .listen(Place::Socket(path.as_str()), TimeLimits::usual())
-            .is_ok();
-        assert!(rt; is_open);
+        assert!(rt; is_open(&mut host, path.as_str()));
         let found = fs::symlink_metadata(&rt, path.as_str())?;
         assert!(rt; found.permissions().mode() & 0o777 == 0o660);
     }
@@ -53,10 +57,7 @@ fn what_has_taken_the_place_of_a_socket_stays(rt: HostRuntime) -> Result<(), Fai
     let path = folder.path("door")?;
     {
         let mut host = Host::new(&rt);
-        let is_open = host
-            .listen(Place::Socket(path.as_str()), TimeLimits::usual())
-            .is_ok();
-        assert!(rt; is_open);
+        assert!(rt; is_open(&mut host, path.as_str()));
         fs::remove_file(&rt, path.as_str())?;
         leave_socket(&rt, path.as_str())?;
     }
@@ -77,32 +78,34 @@ fn a_socket_that_was_left_gives_way(rt: HostRuntime) -> Result<(), Fail> {
 /// What does not give way, by its name.
 const STAYING: [&str; 5] = ["desk", "listener", "link", "file", "folder"];
 
+/// Makes a socket that was left, a link to it, a file and a folder.
+fn make_others(rt: &HostRuntime, folder: &Folder<'_>) -> Result<(), Fail> {
+    let left = folder.path("left")?;
+    leave_socket(rt, left.as_str())?;
+    symlink(rt, left.as_str(), folder.path("link")?.as_str())?;
+    fs::write(rt, folder.path("file")?.as_str(), b"BYTES")?;
+    fs::create_dir(rt, folder.path("folder")?.as_str())?;
+    Ok(())
+}
+
+/// Whether nobody can listen at a path, and what is there stays.
+fn stays(rt: &HostRuntime, path: &str) -> Result<bool, Fail> {
+    let number = number_at(rt, path)?;
+    let is_refused = listened(rt, path) == Err(MachineFault::Failed);
+    Ok(is_refused && number_at(rt, path)? == number)
+}
+
 #[test]
 fn nothing_else_gives_way(rt: HostRuntime) -> Result<(), Fail> {
     let folder = Folder::new(&rt)?;
-    let desk = folder.path("desk")?;
-    let left = folder.path("left")?;
-    let mut host = Host::new(&rt);
-    let is_open = host
-        .listen(Place::Socket(desk.as_str()), TimeLimits::usual())
-        .is_ok();
-    assert!(rt; is_open);
+    make_others(&rt, &folder)?;
     let _listener = UnixListener::bind(&rt, folder.path("listener")?.as_str())?;
-    leave_socket(&rt, left.as_str())?;
-    symlink(&rt, left.as_str(), folder.path("link")?.as_str())?;
-    fs::write(&rt, folder.path("file")?.as_str(), b"BYTES")?;
-    fs::create_dir(&rt, folder.path("folder")?.as_str())?;
+    let mut host = Host::new(&rt);
+    assert!(rt; is_open(&mut host, folder.path("desk")?.as_str()));
     for name in STAYING {
-        let path = folder.path(name)?;
-        let number = number_at(&rt, path.as_str())?;
-        assert_eq!(rt;
-            listened(&rt, path.as_str()),
-            Err(MachineFault::Failed),
-            "{name}"
-        );
-        assert!(rt; number_at(&rt, path.as_str())? == number, "{name}");
+        assert!(rt; stays(&rt, folder.path(name)?.as_str())?, "{name}");
     }
-    assert!(rt; fs::exists(&rt, left.as_str())?, "the link's socket");
+    assert!(rt; fs::exists(&rt, folder.path("left")?.as_str())?, "the link's socket");
     Ok(())
 }
 
