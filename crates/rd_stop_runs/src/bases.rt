@@ -2,11 +2,10 @@
 //! alone.
 
 use crate::commands::{Command, Sample};
-use crate::desk::{desk_of, give_each, words_of_create, words_of_open};
+use crate::desk::{desk_of, give_all, words_of_create, words_of_open};
 use crate::drive::Sort;
 use crate::files::{FilesStore, Pair, USUAL_FRAMES, close, connect, into_files, options};
 use anyhow::{Result, bail, ensure};
-use rd_desk::Desk;
 use rd_fakes::desk::{into_connection, into_store, made, migrate};
 use rd_policy::Audience;
 use rd_samples::rules::{CLOSED, OPEN, TAKEDOWN};
@@ -43,65 +42,160 @@ pub(crate) enum Base {
     First,
 }
 
-/// The commands for a new desk, but for the last one.
-const NEW_DESK: &[Command] = &[
-    Command::PutKey("hello", Audience::Room),
-    Command::PutDeed {
-        num: 7,
-        donor: "A. Curator",
-        signed: 18_020,
-    },
-    Command::PutDeed {
-        num: 8,
-        donor: "B. Donor",
-        signed: 18_321,
-    },
-    Command::PutRule(CLOSED),
+/// How the files of a base are made.
+#[derive(Clone, Copy)]
+struct Plan {
+    /// Whether each page of the database ends in a sum.
+    has_sums: bool,
+    /// The commands for a new desk, and then statements. What they change is in the database.
+    commands: &'static [Command],
+    statements: &'static [&'static str],
+    /// The last change, which is in the log.
+    last: Last,
+    /// Whether a piece of a page that was not written whole stands behind the log.
+    is_torn: bool,
+}
+
+/// The last change of a base.
+#[derive(Clone, Copy)]
+enum Last {
+    Commands(&'static [Command]),
+    Statements(&'static [&'static str]),
+}
+
+const ROOM_KEY: Command = Command::PutKey("hello", Audience::Room);
+
+const CURATOR: Command = Command::PutDeed {
+    num: 7,
+    donor: "A. Curator",
+    signed: 18_020,
+};
+
+const DONOR: Command = Command::PutDeed {
+    num: 8,
+    donor: "B. Donor",
+    signed: 18_321,
+};
+
+const CLOSED_RULE: Command = Command::PutRule(CLOSED);
+
+const OPEN_RULE: Command = Command::PutRule(OPEN);
+
+const PROGRAM: Command = Command::PutImage(12, Sample::Program);
+
+const WITH_RULES: &[Command] = &[ROOM_KEY, CURATOR, DONOR, CLOSED_RULE, OPEN_RULE];
+
+const WITH_IMAGE: &[Command] = &[
+    ROOM_KEY,
+    CURATOR,
+    DONOR,
+    CLOSED_RULE,
+    OPEN_RULE,
+    PROGRAM,
 ];
 
-/// The last command for a new desk.
-const LAST_RULE: &[Command] = &[Command::PutRule(OPEN)];
+const DESK: Plan = Plan {
+    has_sums: false,
+    commands: &[ROOM_KEY, CURATOR, DONOR, CLOSED_RULE],
+    statements: &[],
+    last: Last::Commands(&[OPEN_RULE]),
+    is_torn: false,
+};
 
-/// The command for an image.
-const FIRST_IMAGE: &[Command] = &[Command::PutImage(12, Sample::Program)];
+/// Its last change drops all tables.
+const BARE: Plan = Plan {
+    commands: WITH_RULES,
+    last: Last::Statements(&[
+        "DROP TABLE marks",
+        "DROP TABLE found",
+        "DROP TABLE checked",
+        "DROP TABLE badge",
+        "DROP TABLE rule",
+        "DROP TABLE image",
+        "DROP TABLE deed",
+        "DROP TABLE desk",
+    ]),
+    ..DESK
+};
 
-/// The commands for two images more.
-const MORE_IMAGES: &[Command] = &[
-    Command::PutImage(13, Sample::Looped),
-    Command::PutImage(15, Sample::Record),
-];
+const TORN: Plan = Plan {
+    is_torn: true,
+    ..DESK
+};
 
-/// The command for a check of the image.
-const CHECK: &[Command] = &[Command::Check(12)];
+const IMAGE: Plan = Plan {
+    commands: &[ROOM_KEY, CURATOR, DONOR, CLOSED_RULE, PROGRAM],
+    ..DESK
+};
 
-/// The command for a takedown of the image.
-const FIRST_TAKEDOWN: &[Command] = &[Command::PutRule(TAKEDOWN)];
+const LOGGED: Plan = Plan {
+    commands: WITH_RULES,
+    last: Last::Commands(&[PROGRAM]),
+    ..DESK
+};
 
-/// The command for another key of the staff.
-const OTHER_STAFF: &[Command] = &[Command::PutKey("other", Audience::Staff)];
+const CHECKED: Plan = Plan {
+    commands: WITH_IMAGE,
+    last: Last::Commands(&[Command::Check(12)]),
+    ..DESK
+};
 
-/// Statements that drop all tables.
-const DROPS: &[&str] = &[
-    "DROP TABLE marks",
-    "DROP TABLE found",
-    "DROP TABLE checked",
-    "DROP TABLE badge",
-    "DROP TABLE rule",
-    "DROP TABLE image",
-    "DROP TABLE deed",
-    "DROP TABLE desk",
-];
+const TAKEN_DOWN: Plan = Plan {
+    commands: &[
+        ROOM_KEY,
+        CURATOR,
+        DONOR,
+        CLOSED_RULE,
+        OPEN_RULE,
+        PROGRAM,
+        Command::PutRule(TAKEDOWN),
+    ],
+    last: Last::Commands(&[Command::PutKey("other", Audience::Staff)]),
+    ..DESK
+};
 
-/// Statements that make the tables those of version 1.
-const TO_VERSION_1: &[&str] = &["DROP TABLE marks", "UPDATE desk SET version = 1"];
+const SUMMED: Plan = Plan {
+    has_sums: true,
+    ..IMAGE
+};
 
-/// A statement that puts a third deed.
-const THIRD_DEED: &[&str] = &[
-    "INSERT INTO deed (num, donor, signed) VALUES (9, 'C. Donor', 18628)",
-];
+/// Its statements make the tables those of version 1, and its last change puts a third deed.
+const FIRST: Plan = Plan {
+    commands: &[
+        ROOM_KEY,
+        CURATOR,
+        DONOR,
+        CLOSED_RULE,
+        OPEN_RULE,
+        PROGRAM,
+        Command::PutImage(13, Sample::Looped),
+        Command::PutImage(15, Sample::Record),
+    ],
+    statements: &["DROP TABLE marks", "UPDATE desk SET version = 1"],
+    last: Last::Statements(&[
+        "INSERT INTO deed (num, donor, signed) VALUES (9, 'C. Donor', 18628)",
+    ]),
+    ..DESK
+};
+
+/// How the files of a base are made; `None` for two empty ones.
+fn plan_of(base: Base) -> Option<Plan> {
+    match base {
+        Base::Empty => None,
+        Base::Bare => Some(BARE),
+        Base::Desk => Some(DESK),
+        Base::Torn => Some(TORN),
+        Base::Image => Some(IMAGE),
+        Base::Logged => Some(LOGGED),
+        Base::Checked => Some(CHECKED),
+        Base::Takedown => Some(TAKEN_DOWN),
+        Base::Summed => Some(SUMMED),
+        Base::First => Some(FIRST),
+    }
+}
 
 /// Connects to the database in two files. Where they are new, its pages get sums if that is asked for.
-fn connection_with(
+fn connection(
     alloc: Global,
     pair: &Pair,
     how: Options,
@@ -114,43 +208,28 @@ fn connection_with(
     }
 }
 
-/// The same, with room in memory for the pages of a base.
-fn connection(alloc: Global, pair: &Pair, new_has_sums: bool) -> Result<Connection<FilesStore>> {
-    connection_with(alloc, pair, options(SALT, USUAL_FRAMES), new_has_sums)
-}
-
-/// The desk that is made over a connection.
-fn desk_made<S: Alter + Drop>(conn: Connection<S>) -> Result<Desk<S>> {
+/// A new store with one staff key, in new files.
+fn new_store(alloc: Global, has_sums: bool) -> Result<Store<FilesStore>> {
+    let how = options(SALT, USUAL_FRAMES);
+    let conn = connection(alloc, &Pair::empty(alloc), how, has_sums)?;
     match made(conn) {
-        Ok(store) => desk_of(store),
+        Ok(store) => Ok(store),
         Err(fault) => bail!("no desk: {}", words_of_create(fault)),
     }
 }
 
-/// Connects to a database in new files, with sums or without.
-fn new_connection(alloc: Global, has_sums: bool) -> Result<Connection<FilesStore>> {
-    let empty = Pair::empty(alloc);
-    connection(alloc, &empty, has_sums)
-}
-
-/// A desk with one key in new files, with sums or without.
-fn new_desk(alloc: Global, has_sums: bool) -> Result<Desk<FilesStore>> {
-    let conn = new_connection(alloc, has_sums)?;
-    desk_made(conn)
-}
-
-/// The desk that opens over a connection.
-fn desk_migrated<S: Alter + Drop>(alloc: Global, conn: Connection<S>) -> Result<Desk<S>> {
+/// The store in two files.
+fn store_in(alloc: Global, pair: &Pair, how: Options) -> Result<Store<FilesStore>> {
+    let conn = connection(alloc, pair, how, false)?;
     match migrate(alloc, conn) {
-        Ok(store) => desk_of(store),
+        Ok(store) => Ok(store),
         Err((fault, _)) => bail!("no desk: {}", words_of_open(fault)),
     }
 }
 
-/// The desk in two files.
-fn standing_desk(alloc: Global, pair: &Pair) -> Result<Desk<FilesStore>> {
-    let conn = connection(alloc, pair, false)?;
-    desk_migrated(alloc, conn)
+/// The store in two files at which nothing stops, to read it.
+pub(crate) fn standing_store(alloc: Global, pair: &Pair) -> Result<Store<FilesStore>> {
+    store_in(alloc, pair, pair.options(SALT))
 }
 
 /// The files of a connection, with all pages in the database.
@@ -167,50 +246,19 @@ fn logged(conn: Connection<FilesStore>) -> Result<Pair> {
     Ok(pair)
 }
 
-/// Has a desk carry out commands that stand in several lists, and gives its connection.
-fn after_each<S: Alter + Drop>(
+/// The connection of a store after commands of the staff.
+fn after_commands<S: Alter + Drop>(
     alloc: Global,
-    mut desk: Desk<S>,
-    lists: &[&[Command]],
+    store: Store<S>,
+    commands: &[Command],
 ) -> Result<Connection<S>> {
-    give_each(alloc, &mut desk, lists)?;
+    let mut desk = desk_of(store)?;
+    give_all(alloc, &mut desk, commands)?;
     Ok(into_connection(into_store(desk)))
-}
-
-/// The files of a new desk after commands, with all pages in the database.
-fn copied_desk(alloc: Global, lists: &[&[Command]]) -> Result<Pair> {
-    let desk = new_desk(alloc, false)?;
-    let conn = after_each(alloc, desk, lists)?;
-    copied(conn)
-}
-
-/// The same of a desk whose pages end in sums.
-fn summed_desk(alloc: Global, lists: &[&[Command]]) -> Result<Pair> {
-    let desk = new_desk(alloc, true)?;
-    let conn = after_each(alloc, desk, lists)?;
-    copied(conn)
-}
-
-/// The files of a desk after commands, whose pages are in the log.
-fn logged_commands(alloc: Global, pair: &Pair, commands: &[Command]) -> Result<Pair> {
-    let desk = standing_desk(alloc, pair)?;
-    let conn = after_each(alloc, desk, &[commands])?;
-    logged(conn)
 }
 
 fn execute<S: Alter>(conn: &mut Connection<S>, sql: &str) -> Result<usize, Error> {
     conn.execute(sql, &[])
-}
-
-/// A connection after statements.
-fn after_all<S: Alter + Drop>(
-    mut conn: Connection<S>,
-    statements: &[&str],
-) -> Result<Connection<S>> {
-    for sql in statements {
-        execute(&mut conn, *sql)?;
-    }
-    Ok(conn)
 }
 
 /// A connection to the database in two files after statements.
@@ -219,85 +267,42 @@ fn after_statements(
     pair: &Pair,
     statements: &[&str],
 ) -> Result<Connection<FilesStore>> {
-    let conn = connection(alloc, pair, false)?;
-    after_all(conn, statements)
-}
-
-/// The files of a desk from which statements dropped all tables.
-fn bare(alloc: Global) -> Result<Pair> {
-    let desk = copied_desk(alloc, &[NEW_DESK, LAST_RULE])?;
-    logged(after_statements(alloc, &desk, DROPS)?)
-}
-
-/// The files of a desk with two keys, two deeds and two rules.
-fn desk(alloc: Global) -> Result<Pair> {
-    let begun = copied_desk(alloc, &[NEW_DESK])?;
-    logged_commands(alloc, &begun, LAST_RULE)
-}
-
-/// The same files, and behind the log a piece of a page.
-fn torn(alloc: Global) -> Result<Pair> {
-    Ok(desk(alloc)?.torn()?)
-}
-
-/// The files of the desk with an image, where the last rule is in the log.
-fn with_image(alloc: Global) -> Result<Pair> {
-    let begun = copied_desk(alloc, &[NEW_DESK, FIRST_IMAGE])?;
-    logged_commands(alloc, &begun, LAST_RULE)
-}
-
-/// The files of the desk with an image, where the image is in the log.
-fn with_logged_image(alloc: Global) -> Result<Pair> {
-    let desk = copied_desk(alloc, &[NEW_DESK, LAST_RULE])?;
-    logged_commands(alloc, &desk, FIRST_IMAGE)
-}
-
-/// The files of the desk with an image and a check of it.
-fn checked(alloc: Global) -> Result<Pair> {
-    let desk = copied_desk(alloc, &[NEW_DESK, LAST_RULE, FIRST_IMAGE])?;
-    logged_commands(alloc, &desk, CHECK)
-}
-
-/// The files of the desk with an image, a takedown of it, and another key of the staff.
-fn with_takedown(alloc: Global) -> Result<Pair> {
-    let desk = copied_desk(alloc, &[NEW_DESK, LAST_RULE, FIRST_IMAGE, FIRST_TAKEDOWN])?;
-    logged_commands(alloc, &desk, OTHER_STAFF)
-}
-
-/// The files of a desk with an image, where each page has a sum and the last rule is in the log.
-fn with_sums(alloc: Global) -> Result<Pair> {
-    let begun = summed_desk(alloc, &[NEW_DESK, FIRST_IMAGE])?;
-    ensure!(begun.has_sums(), "the pages have no sums");
-    logged_commands(alloc, &begun, LAST_RULE)
-}
-
-/// The files of a desk with three images and a third deed, in the tables of version 1.
-fn first_version(alloc: Global) -> Result<Pair> {
-    let desk = copied_desk(alloc, &[NEW_DESK, LAST_RULE, FIRST_IMAGE, MORE_IMAGES])?;
-    let first = copied(after_statements(alloc, &desk, TO_VERSION_1)?)?;
-    logged(after_statements(alloc, &first, THIRD_DEED)?)
-}
-
-/// The store of the desk in two files at which nothing stops, to read it.
-pub(crate) fn standing_store(alloc: Global, pair: &Pair) -> Result<Store<FilesStore>> {
-    let conn = connection_with(alloc, pair, pair.options(SALT), false)?;
-    match migrate(alloc, conn) {
-        Ok(store) => Ok(store),
-        Err((fault, _)) => bail!("no desk: {}", words_of_open(fault)),
+    let mut conn = connection(alloc, pair, options(SALT, USUAL_FRAMES), false)?;
+    for sql in statements {
+        execute(&mut conn, *sql)?;
     }
+    Ok(conn)
+}
+
+/// The files of a base before its last change, with all pages in the database.
+fn begun(alloc: Global, plan: Plan) -> Result<Pair> {
+    let store = new_store(alloc, plan.has_sums)?;
+    let pair = copied(after_commands(alloc, store, plan.commands)?)?;
+    ensure!(pair.has_sums() == plan.has_sums, "the pages have no sums");
+    if plan.statements.is_empty() {
+        return Ok(pair);
+    }
+    copied(after_statements(alloc, &pair, plan.statements)?)
+}
+
+/// The files of a base after its last change, which is in the log.
+fn ended(alloc: Global, pair: &Pair, last: Last) -> Result<Pair> {
+    logged(match last {
+        Last::Statements(statements) => after_statements(alloc, pair, statements)?,
+        Last::Commands(commands) => {
+            let store = store_in(alloc, pair, options(SALT, USUAL_FRAMES))?;
+            after_commands(alloc, store, commands)?
+        }
+    })
 }
 
 pub(crate) fn files_of(alloc: Global, base: Base) -> Result<Pair> {
-    match base {
-        Base::Empty => Ok(Pair::empty(alloc)),
-        Base::Bare => bare(alloc),
-        Base::Desk => desk(alloc),
-        Base::Torn => torn(alloc),
-        Base::Image => with_image(alloc),
-        Base::Logged => with_logged_image(alloc),
-        Base::Checked => checked(alloc),
-        Base::Takedown => with_takedown(alloc),
-        Base::Summed => with_sums(alloc),
-        Base::First => first_version(alloc),
+    let Some(plan) = plan_of(base) else {
+        return Ok(Pair::empty(alloc));
+    };
+    let pair = ended(alloc, &begun(alloc, plan)?, plan.last)?;
+    if plan.is_torn {
+        return Ok(pair.torn()?);
     }
+    Ok(pair)
 }

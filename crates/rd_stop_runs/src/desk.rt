@@ -63,7 +63,7 @@ pub(crate) fn status_of<S: Alter + Drop>(
 /// Has a desk carry out commands of the staff.
 ///
 /// It fails where a reply has another status than 200.
-fn give_all<S: Alter + Drop>(
+pub(crate) fn give_all<S: Alter + Drop>(
     alloc: Global,
     desk: &mut Desk<S>,
     commands: &[Command],
@@ -71,20 +71,6 @@ fn give_all<S: Alter + Drop>(
     for command in commands {
         let status = status_of(alloc, desk, *command)?;
         ensure!(status == 200, "a command has status {status}");
-    }
-    Ok(())
-}
-
-/// Has a desk carry out commands of the staff that stand in several lists.
-///
-/// It fails where a reply has another status than 200.
-pub(crate) fn give_each<S: Alter + Drop>(
-    alloc: Global,
-    desk: &mut Desk<S>,
-    lists: &[&[Command]],
-) -> Result<()> {
-    for commands in lists {
-        give_all(alloc, desk, *commands)?;
     }
     Ok(())
 }
