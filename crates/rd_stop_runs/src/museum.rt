@@ -81,16 +81,6 @@ pub(crate) struct Written {
     pub(crate) errors: Vec<u8>,
 }
 
-fn run_on<S: Alter + Drop>(
-    alloc: Global,
-    words: &[&str],
-    output: &mut Vec<u8>,
-    errors: &mut Vec<u8>,
-    museum: &mut Museum<Given, S>,
-) -> u8 {
-    run(alloc, words, &mut [].as_slice(), output, errors, museum)
-}
-
 /// Has a machine carry out a command.
 fn written_on<S: Alter + Drop>(
     alloc: Global,
@@ -99,7 +89,14 @@ fn written_on<S: Alter + Drop>(
 ) -> Written {
     let mut output = Vec::new(alloc);
     let mut errors = Vec::new(alloc);
-    let status = run_on(alloc, words, &mut output, &mut errors, museum);
+    let status = run(
+        alloc,
+        words,
+        &mut [].as_slice(),
+        &mut output,
+        &mut errors,
+        museum,
+    );
     Written {
         status,
         output,
@@ -107,13 +104,16 @@ fn written_on<S: Alter + Drop>(
     }
 }
 
-/// Carries out a command on the store of a connection, beside a sheet of some rows, and gives the connection back.
-fn carry_out<S: Alter + Drop>(
+/// Imports a sheet of some rows into the store of a connection, or puts a key of the staff, and gives the connection back.
+pub(crate) fn run_command<S: Alter + Drop>(
     alloc: Global,
-    words: &[&str],
-    rows: usize,
+    rows: Option<usize>,
     conn: Connection<S>,
 ) -> Result<(Written, Connection<S>)> {
+    let (words, rows) = match rows {
+        Some(rows) => (IMPORT, rows),
+        None => (STAFF_KEY_COMMAND, 0),
+    };
     let door = new_door(alloc, Vec::new(alloc))?;
     let mut museum = Museum {
         conn: Some(conn),
@@ -127,21 +127,4 @@ fn carry_out<S: Alter + Drop>(
         Some(conn) => Ok((written, conn)),
         None => bail!("the program did not give the store back"),
     }
-}
-
-/// Imports a sheet of some rows into the store of a connection, and gives the connection back.
-pub(crate) fn import<S: Alter + Drop>(
-    alloc: Global,
-    conn: Connection<S>,
-    rows: usize,
-) -> Result<(Written, Connection<S>)> {
-    carry_out(alloc, IMPORT, rows, conn)
-}
-
-/// Puts a key of the staff into the store of a connection, and gives the connection back.
-pub(crate) fn put_staff_key<S: Alter + Drop>(
-    alloc: Global,
-    conn: Connection<S>,
-) -> Result<(Written, Connection<S>)> {
-    carry_out(alloc, STAFF_KEY_COMMAND, 0, conn)
 }

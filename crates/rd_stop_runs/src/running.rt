@@ -5,7 +5,7 @@ use crate::commands::Command;
 use crate::copies::copy;
 use crate::desk::{desk_of, status_of, words_of_create, words_of_open};
 use crate::files::{Drives, FilesStore, Pair, close, connect, into_files, options, pages_of};
-use crate::museum::{Written, accession_of, import, put_staff_key};
+use crate::museum::{Written, accession_of, run_command};
 use crate::runs::{Action, Run};
 use anyhow::{Result, bail};
 use rd_desk::Desk;
@@ -22,9 +22,6 @@ const MORE_PAGES: usize = 16;
 
 /// What a command writes where its store fails.
 const STORE_LINE: &str = "desk: store\n";
-
-/// What a command writes that is done.
-const DONE_LINE: &str = "done\n";
 
 /// How a run ends.
 #[derive(Clone, Copy, PartialEq, Eq)]
@@ -76,47 +73,28 @@ fn ended<S: Alter + Drop>(
     Ok(Acted { report, conn })
 }
 
-/// How a run ends that asks for a desk, where it gets none.
-fn not_created(fault: CreateFault) -> Ending {
+/// How a run ends that asks for a desk and gets none: as it must if one stands there before.
+fn not_created(fault: CreateFault, stands: bool) -> Ending {
     match fault {
         CreateFault::Sql => Ending::Unavailable,
+        CreateFault::Exists if stands => Ending::Done,
         CreateFault::Exists => Ending::Other,
     }
 }
 
-/// How a run ends that asks for a second desk, where it gets none.
-fn no_second(fault: CreateFault) -> Ending {
-    match fault {
-        CreateFault::Sql => Ending::Unavailable,
-        CreateFault::Exists => Ending::Done,
-    }
-}
-
-/// How a run ends where the desk does not open.
-fn not_opened(fault: OpenFault) -> Ending {
-    match fault {
-        OpenFault::Sql => Ending::Unavailable,
-        OpenFault::NotADesk | OpenFault::Version | OpenFault::Inconsistent => Ending::Other,
-    }
-}
-
-/// Makes a desk.
-fn run_create<S: Alter + Drop>(alloc: Global, conn: Connection<S>) -> Result<Acted<S>> {
-    match create(conn) {
-        Ok(store) => ended(alloc, Ending::Done, 1, "done", into_connection(store)),
-        Err((fault, conn)) => {
-            let (ending, words) = (not_created(fault), words_of_create(fault));
-            ended(alloc, ending, 0, words, conn)
+/// What a run reports that asked for a desk, and got it or not. It must get one unless one stands there before.
+fn created<S: Alter + Drop>(
+    alloc: Global,
+    made: Result<Store<S>, (CreateFault, Connection<S>)>,
+    stands: bool,
+) -> Result<Acted<S>> {
+    match made {
+        Ok(store) => {
+            let ending = if stands { Ending::Other } else { Ending::Done };
+            ended(alloc, ending, 1, "done", into_connection(store))
         }
-    }
-}
-
-/// Asks for a desk where one stands.
-fn run_second<S: Alter + Drop>(alloc: Global, conn: Connection<S>) -> Result<Acted<S>> {
-    match create(conn) {
-        Ok(store) => ended(alloc, Ending::Other, 1, "done", into_connection(store)),
         Err((fault, conn)) => {
-            let (ending, words) = (no_second(fault), words_of_create(fault));
+            let (ending, words) = (not_created(fault, stands), words_of_create(fault));
             ended(alloc, ending, 0, words, conn)
         }
     }
@@ -127,31 +105,10 @@ fn run_copy(
     alloc: Global,
     source: &Pair,
     conn: Connection<FilesStore>,
+    stands: bool,
 ) -> Result<Acted<FilesStore>> {
     let mut from = standing_store(alloc, source)?;
-    match copy(alloc, &mut from, conn) {
-        Ok(store) => ended(alloc, Ending::Done, 1, "done", into_connection(store)),
-        Err((fault, conn)) => {
-            let (ending, words) = (not_created(fault), words_of_create(fault));
-            ended(alloc, ending, 0, words, conn)
-        }
-    }
-}
-
-/// Copies a desk from other files to where one stands.
-fn run_copy_to_desk(
-    alloc: Global,
-    source: &Pair,
-    conn: Connection<FilesStore>,
-) -> Result<Acted<FilesStore>> {
-    let mut from = standing_store(alloc, source)?;
-    match copy(alloc, &mut from, conn) {
-        Ok(store) => ended(alloc, Ending::Other, 1, "done", into_connection(store)),
-        Err((fault, conn)) => {
-            let (ending, words) = (no_second(fault), words_of_create(fault));
-            ended(alloc, ending, 0, words, conn)
-        }
-    }
+    created(alloc, copy(alloc, &mut from, conn), stands)
 }
 
 /// What a run reports where the desk does not open.
@@ -160,7 +117,11 @@ fn closed<S: Alter + Drop>(
     fault: OpenFault,
     conn: Connection<S>,
 ) -> Result<Acted<S>> {
-    ended(alloc, not_opened(fault), 0, words_of_open(fault), conn)
+    let ending = match fault {
+        OpenFault::Sql => Ending::Unavailable,
+        OpenFault::NotADesk | OpenFault::Version | OpenFault::Inconsistent => Ending::Other,
+    };
+    ended(alloc, ending, 0, words_of_open(fault), conn)
 }
 
 /// Brings a desk to the newest version.
@@ -189,14 +150,19 @@ fn give_in_turn<S: Alter + Drop>(
     Ok((done, 200))
 }
 
-/// What a run reports after so many commands, the last of which had this status.
-fn answered(alloc: Global, changes: usize, status: u16) -> Result<Report> {
+/// What a run reports after so many commands, the last of which had this status. All of them may count as one change.
+fn answered(alloc: Global, done: usize, status: u16, is_one: bool) -> Result<Report> {
     let ending = match status {
         200 => Ending::Done,
         503 => Ending::Unavailable,
         _ => Ending::Other,
     };
     let words = format!(in alloc; "status {status}")?;
+    let changes = match ending {
+        _ if !is_one => done,
+        Ending::Done => 1,
+        Ending::Unavailable | Ending::Other => 0,
+    };
     Ok(Report {
         ending,
         changes,
@@ -204,24 +170,16 @@ fn answered(alloc: Global, changes: usize, status: u16) -> Result<Report> {
     })
 }
 
-/// Gives a desk commands. Gives what a run reports then.
-fn report_on<S: Alter + Drop>(
-    alloc: Global,
-    desk: &mut Desk<S>,
-    commands: &[Command],
-) -> Result<Report> {
-    let (changes, status) = give_in_turn(alloc, desk, commands)?;
-    answered(alloc, changes, status)
-}
-
 /// Gives the desk of a store commands.
 fn run_on_store<S: Alter + Drop>(
     alloc: Global,
     store: Store<S>,
     commands: &[Command],
+    is_one: bool,
 ) -> Result<Acted<S>> {
     let mut desk = desk_of(store)?;
-    let report = report_on(alloc, &mut desk, commands)?;
+    let (done, status) = give_in_turn(alloc, &mut desk, commands)?;
+    let report = answered(alloc, done, status, is_one)?;
     let conn = into_connection(into_store(desk));
     Ok(Acted { report, conn })
 }
@@ -231,57 +189,39 @@ fn run_commands<S: Alter + Drop>(
     alloc: Global,
     conn: Connection<S>,
     commands: &[Command],
+    is_one: bool,
 ) -> Result<Acted<S>> {
     match migrate(alloc, conn) {
-        Ok(store) => run_on_store(alloc, store, commands),
+        Ok(store) => run_on_store(alloc, store, commands, is_one),
         Err((fault, conn)) => closed(alloc, fault, conn),
     }
 }
 
-/// What a run reports that takes several changes as one.
-fn as_one(report: Report) -> Report {
-    let Report {
-        ending,
-        changes: _,
-        words,
-    } = report;
-    let changes = if ending == Ending::Done { 1 } else { 0 };
-    Report {
-        ending,
-        changes,
-        words,
+/// The line that tells of a change: of a row of the sheet, or of the only change.
+fn done_line(alloc: Global, row: Option<usize>) -> Result<String, AllocError> {
+    match row {
+        Some(row) => {
+            let acc = accession_of(row);
+            format!(in alloc; "{acc} done")
+        }
+        None => String::from_str(alloc, "done"),
     }
 }
 
-/// Opens a desk, gives it commands, and reports them as one change.
-fn run_as_one<S: Alter + Drop>(
-    alloc: Global,
-    conn: Connection<S>,
-    commands: &[Command],
-) -> Result<Acted<S>> {
-    let Acted { report, conn } = run_commands(alloc, conn, commands)?;
-    let report = as_one(report);
-    Ok(Acted { report, conn })
-}
-
-/// The line of a row of the sheet that was imported.
-fn done_line(alloc: Global, row: usize) -> Result<String, AllocError> {
-    let acc = accession_of(row);
-    format!(in alloc; "{acc} done")
-}
-
-/// How many rows an import reports as done; `None` if its lines are not those of the first rows, in
-/// their order.
-fn rows_done(alloc: Global, text: &str) -> Result<Option<usize>, AllocError> {
-    let mut rows = 0usize;
+/// How many changes a command reports as done; `None` if its lines are not those of the first changes, in their order.
+fn changes_told(alloc: Global, text: &str, has_sheet: bool) -> Result<Option<usize>, AllocError> {
+    if !matches!(text.as_bytes(), [] | [.., b'\n']) {
+        return Ok(None);
+    }
+    let mut changes = 0usize;
     for line in text.lines() {
-        let wanted = done_line(alloc, rows)?;
+        let wanted = done_line(alloc, if has_sheet { Some(changes) } else { None })?;
         if line != wanted.as_str() {
             return Ok(None);
         }
-        rows = rows.saturating_add(1);
+        changes = changes.saturating_add(1);
     }
-    Ok(Some(rows))
+    Ok(Some(changes))
 }
 
 /// How a run ends after a command with this status that wrote these errors.
@@ -295,21 +235,6 @@ fn ending_of(status: u8, errors: &str) -> Ending {
     }
 }
 
-/// What a run reports after an import with this status that wrote these texts.
-fn report_with(alloc: Global, status: u8, output: &str, errors: &str) -> Result<Report> {
-    let words = format!(in alloc; "status {status} {errors}")?;
-    let rows = rows_done(alloc, output)?;
-    let ending = match rows {
-        Some(_) => ending_of(status, errors),
-        None => Ending::Other,
-    };
-    Ok(Report {
-        ending,
-        changes: rows.unwrap_or(0),
-        words,
-    })
-}
-
 /// A text that a command wrote.
 fn text_of(written: &Vec<u8>) -> Result<&str> {
     match str::from_utf8(written.as_slice()) {
@@ -318,53 +243,33 @@ fn text_of(written: &Vec<u8>) -> Result<&str> {
     }
 }
 
-/// What a run reports after an import.
-fn report_of(alloc: Global, imported: &Written) -> Result<Report> {
-    let output = text_of(&imported.output)?;
-    let errors = text_of(&imported.errors)?;
-    report_with(alloc, imported.status, output, errors)
-}
-
-/// Imports a sheet of some rows.
-fn run_import<S: Alter + Drop>(
-    alloc: Global,
-    conn: Connection<S>,
-    rows: usize,
-) -> Result<Acted<S>> {
-    let (imported, conn) = import(alloc, conn, rows)?;
-    let report = report_of(alloc, &imported)?;
-    Ok(Acted { report, conn })
-}
-
-/// How a run ends after a command that makes one change and then says so.
-fn ending_of_one(status: u8, output: &str, errors: &str) -> Ending {
-    let is_done = output == DONE_LINE;
-    if is_done == (status == 0) && (is_done || output.is_empty()) {
-        ending_of(status, errors)
-    } else {
-        Ending::Other
-    }
-}
-
-/// What a run reports after a command that makes one change.
-fn report_of_one(alloc: Global, written: &Written) -> Result<Report> {
+/// What a run reports after a command that imports a sheet, or makes one change and then says so.
+fn report_of(alloc: Global, written: &Written, has_sheet: bool) -> Result<Report> {
     let status = written.status;
     let output = text_of(&written.output)?;
     let errors = text_of(&written.errors)?;
     let words = format!(in alloc; "status {status} {errors}")?;
-    let ending = ending_of_one(status, output, errors);
-    let changes = if ending == Ending::Done { 1 } else { 0 };
+    let told = changes_told(alloc, output, has_sheet)?;
+    let ending = match told {
+        Some(changes) if has_sheet || (changes == 1 && status == 0) => ending_of(status, errors),
+        Some(0) if status != 0 => ending_of(status, errors),
+        _ => Ending::Other,
+    };
     Ok(Report {
         ending,
-        changes,
+        changes: told.unwrap_or(0),
         words,
     })
 }
 
-/// Puts a key of the staff.
-fn run_staff_key<S: Alter + Drop>(alloc: Global, conn: Connection<S>) -> Result<Acted<S>> {
-    let (written, conn) = put_staff_key(alloc, conn)?;
-    let report = report_of_one(alloc, &written)?;
+/// Has the program import a sheet of some rows, or put a key of the staff.
+fn run_program<S: Alter + Drop>(
+    alloc: Global,
+    conn: Connection<S>,
+    rows: Option<usize>,
+) -> Result<Acted<S>> {
+    let (written, conn) = run_command(alloc, rows, conn)?;
+    let report = report_of(alloc, &written, rows.is_some())?;
     Ok(Acted { report, conn })
 }
 
@@ -376,15 +281,15 @@ fn act(
     conn: Connection<FilesStore>,
 ) -> Result<Acted<FilesStore>> {
     match action {
-        Action::Create | Action::CreateWithSums => run_create(alloc, conn),
-        Action::Copy => run_copy(alloc, source, conn),
-        Action::CopyToDesk => run_copy_to_desk(alloc, source, conn),
-        Action::CreateSecond => run_second(alloc, conn),
+        Action::Create | Action::CreateWithSums => created(alloc, create(conn), false),
+        Action::CreateSecond => created(alloc, create(conn), true),
+        Action::Copy => run_copy(alloc, source, conn, false),
+        Action::CopyToDesk => run_copy(alloc, source, conn, true),
         Action::Migrate => run_migrate(alloc, conn),
-        Action::Ask(commands) => run_commands(alloc, conn, commands),
-        Action::AskAsOne(commands) => run_as_one(alloc, conn, commands),
-        Action::Import(rows) => run_import(alloc, conn, rows),
-        Action::PutStaffKey => run_staff_key(alloc, conn),
+        Action::Ask(commands) => run_commands(alloc, conn, commands, false),
+        Action::AskAsOne(commands) => run_commands(alloc, conn, commands, true),
+        Action::Import(rows) => run_program(alloc, conn, Some(rows)),
+        Action::PutStaffKey => run_program(alloc, conn, None),
     }
 }
 
@@ -399,39 +304,9 @@ fn unconnected(alloc: Global, error: Error, files: Drives) -> Result<Ran> {
     Ok(Ran { report, files })
 }
 
-/// The files after a run, which closes them or leaves them as they are.
-fn left(conn: Connection<FilesStore>, is_closed: bool) -> Drives {
-    if is_closed {
-        close(conn)
-    } else {
-        into_files(conn)
-    }
-}
-
-/// Does what an action says, and closes the files or leaves them as they are.
-fn act_and_leave(
-    alloc: Global,
-    action: Action,
-    source: &Pair,
-    conn: Connection<FilesStore>,
-    is_closed: bool,
-) -> Result<Ran> {
-    let Acted { report, conn } = act(alloc, action, source, conn)?;
-    let files = left(conn, is_closed);
-    Ok(Ran { report, files })
-}
-
-/// How a run reads and writes two files. The pages that they hold have room in memory, and a few more:
-/// making room takes time.
-fn options_for(run: &Run, files: &Drives) -> Options {
-    Options {
-        cache_pages: pages_of(files).saturating_add(MORE_PAGES),
-        ..options(SALT, run.frames)
-    }
-}
-
-/// Connects to the database in two files, does what an action of a run says, and closes the files if
-/// the run does. The source is what it copies a desk from, if it copies one.
+/// Connects to the database in two files, does what an action of a run says, and closes the files if the run does. The
+/// source is what it copies a desk from, if it copies one. The pages that the files hold have room in memory, and a few
+/// more: making room takes time.
 pub(crate) fn carry_out(
     alloc: Global,
     run: &Run,
@@ -439,9 +314,16 @@ pub(crate) fn carry_out(
     source: &Pair,
     files: Drives,
 ) -> Result<Ran> {
-    let how = options_for(run, &files);
+    let how = Options {
+        cache_pages: pages_of(&files).saturating_add(MORE_PAGES),
+        ..options(SALT, run.frames)
+    };
     match connect(alloc, files, how, action.asks_sums()) {
-        Ok(conn) => act_and_leave(alloc, action, source, conn, run.is_closed),
+        Ok(conn) => {
+            let Acted { report, conn } = act(alloc, action, source, conn)?;
+            let files = if run.is_closed { close(conn) } else { into_files(conn) };
+            Ok(Ran { report, files })
+        }
         Err((error, files)) => unconnected(alloc, error, files),
     }
 }
