@@ -77,45 +77,25 @@ pub(crate) fn bytes_of(alloc: Global, sample: Sample) -> Result<Vec<u8>, NoMemor
     }
 }
 
-fn digest_of(sample: Sample) -> [u8; 32] {
+/// The kind of a sample image, and its SHA-256.
+fn kind_of(sample: Sample) -> (Kind, [u8; 32]) {
     match sample {
-        Sample::Program => PROGRAM_DIGEST,
-        Sample::Looped => LOOPED_DIGEST,
-        Sample::LoopedWithMarks => LOOPED_WITH_MARKS_DIGEST,
-        Sample::Record => RECORD_DIGEST,
+        Sample::Program => (Kind::D64, PROGRAM_DIGEST),
+        Sample::Looped => (Kind::D64, LOOPED_DIGEST),
+        Sample::LoopedWithMarks => (Kind::D64e, LOOPED_WITH_MARKS_DIGEST),
+        Sample::Record => (Kind::Cpm8, RECORD_DIGEST),
     }
-}
-
-fn kind_of(sample: Sample) -> Kind {
-    match sample {
-        Sample::Program | Sample::Looped => Kind::D64,
-        Sample::LoopedWithMarks => Kind::D64e,
-        Sample::Record => Kind::Cpm8,
-    }
-}
-
-/// Asks that a rule be dropped from its place.
-fn drop_rule(rule: NewRule) -> What {
-    What::DropRule {
-        band: rule.band,
-        scope: rule.scope,
-        rank: rule.rank,
-    }
-}
-
-fn put_deed(alloc: Global, num: u32, donor: &str, signed: i32) -> Result<What, NoMemory> {
-    let donor = text_of(alloc, donor)?;
-    Ok(What::PutDeed { num, donor, signed })
 }
 
 fn put_image(alloc: Global, acc: u32, sample: Sample) -> Result<What, NoMemory> {
-    let bytes = bytes_of(alloc, sample)?;
+    let bytes = Items::of(bytes_of(alloc, sample)?);
+    let (kind, digest) = kind_of(sample);
     Ok(What::PutImage {
         acc,
-        kind: kind_of(sample),
+        kind,
         deed: 7,
-        digest: digest_of(sample),
-        bytes: Items::of(bytes),
+        digest,
+        bytes,
     })
 }
 
@@ -128,9 +108,17 @@ fn what_of(alloc: Global, command: Command) -> Result<What, NoMemory> {
         Command::DropKey(key) => What::DropKey {
             digest: Sha256::digest(key.as_bytes()),
         },
-        Command::PutDeed { num, donor, signed } => put_deed(alloc, num, donor, signed)?,
+        Command::PutDeed { num, donor, signed } => What::PutDeed {
+            num,
+            donor: text_of(alloc, donor)?,
+            signed,
+        },
         Command::PutRule(rule) => What::PutRule(rule_of(alloc, rule)?),
-        Command::DropRule(rule) => drop_rule(rule),
+        Command::DropRule(rule) => What::DropRule {
+            band: rule.band,
+            scope: rule.scope,
+            rank: rule.rank,
+        },
         Command::PutImage(acc, sample) => put_image(alloc, acc, sample)?,
         Command::Check(acc) => What::Check(acc),
     })

@@ -37,20 +37,12 @@ pub(crate) struct Left {
     pub(crate) pair: Pair,
 }
 
-/// Whether one of these is the same as two files.
-fn has_pair(all: &[Left], pair: &Pair) -> bool {
-    for left in all {
-        if left.pair.is_same(pair) {
-            return true;
-        }
-    }
-    false
-}
-
 /// Adds what a crash leaves, unless the same stands there already.
 fn add(all: &mut Vec<Left>, kept: Kept, pair: Pair) -> Result<(), AllocError> {
-    if has_pair(all.as_slice(), &pair) {
-        return Ok(());
+    for left in all.iter() {
+        if left.pair.is_same(&pair) {
+            return Ok(());
+        }
     }
     Ok(all.push(Left { kept, pair })?)
 }

@@ -60,49 +60,39 @@ fn play(rt: &HostRuntime, run: &Run, base: &Pair, source: &Pair, seed: u64) -> R
     Ok(is_right)
 }
 
-/// Makes the files of a run's base and those from which it copies, and plays it. Gives whether what came is what was
-/// wanted.
-fn play_from_base(rt: &HostRuntime, run: &Run, seed: u64) -> Result<bool> {
-    let base = files_of(rt.alloc(), run.base).context(run.name)?;
-    let source = files_of(rt.alloc(), run.source).context(run.name)?;
-    play(rt, run, &base, &source, seed)
-}
-
-/// Plays runs, each with draws of its own, by its number. Gives whether what came is what was wanted.
+/// Plays runs, each from the files of its base and with draws of its own, by its number. Gives whether what came is what
+/// was wanted.
 fn play_all(rt: &HostRuntime, runs: &[Run], seed: u64) -> Result<bool> {
     let mut is_right = true;
     for (number, run) in runs.iter().enumerate() {
-        if !play_from_base(rt, run, seed.wrapping_add(number as u64))? {
+        let base = files_of(rt.alloc(), run.base).context(run.name)?;
+        let source = files_of(rt.alloc(), run.source).context(run.name)?;
+        if !play(rt, run, &base, &source, seed.wrapping_add(number as u64))? {
             is_right = false;
         }
     }
     Ok(is_right)
 }
 
-/// Prints the seed, and plays runs. Gives whether what came is what was wanted.
-fn play_with_seed(rt: &HostRuntime, runs: &[Run]) -> Result<bool> {
+/// Prints the seed, and plays runs. The status is 0 where what came is what was wanted, else 1.
+fn play_with_seed(rt: &HostRuntime, runs: &[Run]) -> Result<ExitCode> {
     let seed = seed(rt)?;
     println!(rt; "seed {seed}")?;
-    play_all(rt, runs, seed)
-}
-
-/// The status of a program: 0 where what came is what was wanted, else 1.
-fn status(is_right: bool) -> ExitCode {
-    if is_right {
+    Ok(if play_all(rt, runs, seed)? {
         ExitCode::SUCCESS
     } else {
         ExitCode::FAILURE
-    }
+    })
 }
 
 /// Plays the runs of the first program. Prints the seed, and a line for each run and each sort of files.
 /// Where something else came than what was wanted, the status is 1. It fails if no seed is given, if memory
 /// runs out, and if it cannot write its output.
 pub fn play_each(rt: &HostRuntime) -> Result<ExitCode> {
-    Ok(status(play_with_seed(rt, RUNS)?))
+    play_with_seed(rt, RUNS)
 }
 
 /// Plays the run whose stops are drawn, and the copies. It prints and fails as `play_each` does.
 pub fn play_more(rt: &HostRuntime) -> Result<ExitCode> {
-    Ok(status(play_with_seed(rt, MORE_RUNS)?))
+    play_with_seed(rt, MORE_RUNS)
 }

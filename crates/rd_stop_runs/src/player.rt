@@ -1,10 +1,10 @@
 //! Runs whose files stop at each of their calls, one file after the other.
 
 use crate::drive::Sort;
-use crate::files::{Drives, File, Pair, Stop, are_untouched, syncs_of};
+use crate::files::{File, Pair, Stop, are_untouched, syncs_of};
 use crate::leavings::{Kept, Left, leavings};
 use crate::outcomes::{Counts, Outcome, Stopped, outcome_of};
-use crate::running::{Ending, Ran, Report, carry_out};
+use crate::running::{Ending, Ran, carry_out};
 use crate::runs::{Run, Stops, Wanted};
 use crate::seen::Seen;
 use anyhow::{Context, Result, bail, ensure};
@@ -40,40 +40,31 @@ impl Start<'_> {
         carry_out(alloc, self.run, self.run.action, self.source, files)
     }
 
-    /// The run with its first changes alone, and without a stop.
+    /// The run with its first changes alone, and without a stop. Fails where it does not report that it is done with them.
     fn ran(&self, alloc: Global, changes: usize) -> Result<Ran> {
         let files = self.base.files(alloc, self.sort, None)?;
         let action = self.run.action.first(changes);
         let ran = carry_out(alloc, self.run, action, self.source, files)?;
-        check_done(&ran.report, changes)?;
+        let report = &ran.report;
+        let is_done = report.ending == Ending::Done && report.changes == changes;
+        ensure!(is_done, "it is not done: {}", report.words);
         Ok(ran)
     }
 
-    /// What the run needs without a stop.
+    /// What the run needs without a stop. Fails where the database has no sums that asks for them.
     fn needed(&self, alloc: Global) -> Result<Needed> {
         let ran = self.ran(alloc, self.run.action.changes())?;
-        check_sums(self.run, &ran.files)?;
+        let has_sums = Pair::kept(&ran.files)?.has_sums();
+        ensure!(
+            has_sums || !self.run.action.asks_sums(),
+            "the pages have no sums"
+        );
         Ok(Needed {
             db: File::Database.calls(&ran.files),
             log: File::Log.calls(&ran.files),
             syncs: syncs_of(&ran.files),
         })
     }
-}
-
-/// Fails where a run does not report that it is done with so many changes.
-fn check_done(report: &Report, changes: usize) -> Result<()> {
-    let is_done = report.ending == Ending::Done && report.changes == changes;
-    ensure!(is_done, "it is not done: {}", report.words);
-    Ok(())
-}
-
-/// Fails where a database has no sums that asks for them.
-fn check_sums(run: &Run, files: &Drives) -> Result<()> {
-    let kept = Pair::kept(files)?;
-    let is_right = !run.action.asks_sums() || kept.has_sums();
-    ensure!(is_right, "the pages have no sums");
-    Ok(())
 }
 
 /// Fails where the change that syncs least does not sync as often as it must. After each change the
@@ -92,14 +83,6 @@ fn check_syncs(run: &Run, syncs: &[u64]) -> Result<()> {
     Ok(())
 }
 
-/// What the database holds after so many changes of a run, and how often the files have synced then.
-fn state_after(alloc: Global, start: &Start<'_>, changes: usize) -> Result<(Seen, u64)> {
-    let ran = start.ran(alloc, changes)?;
-    let syncs = syncs_of(&ran.files);
-    let kept = Pair::kept(&ran.files)?;
-    Ok((start.seen(alloc, &kept)?, syncs))
-}
-
 /// Adds what the database holds after each change of a run, and how often the files have synced then.
 fn add_states(
     alloc: Global,
@@ -108,45 +91,36 @@ fn add_states(
     syncs: &mut Vec<u64>,
 ) -> Result<()> {
     for changes in 1..=start.run.action.changes() {
-        let (seen, count) = state_after(alloc, start, changes)?;
-        states.push(seen)?;
-        syncs.push(count)?;
+        let ran = start.ran(alloc, changes)?;
+        let kept = Pair::kept(&ran.files)?;
+        states.push(start.seen(alloc, &kept)?)?;
+        syncs.push(syncs_of(&ran.files))?;
     }
     Ok(())
 }
 
-/// Adds what the database holds after each change of a run. Fails where the change that syncs least
-/// does not sync as often as it must.
-fn add_later_states(alloc: Global, start: &Start<'_>, states: &mut Vec<Seen>) -> Result<()> {
-    let mut syncs = Vec::new(alloc);
-    add_states(alloc, start, states, &mut syncs)?;
-    check_syncs(start.run, syncs.as_slice())
-}
-
-/// What the database holds before a run, and after each of its changes.
+/// What the database holds before a run, and after each of its changes. Fails where the change that syncs least does not
+/// sync as often as it must.
 fn states_of(alloc: Global, start: &Start<'_>) -> Result<Vec<Seen>> {
     let mut states = Vec::new(alloc);
     states.push(start.seen(alloc, start.base)?)?;
-    add_later_states(alloc, start, &mut states)?;
+    let mut syncs = Vec::new(alloc);
+    add_states(alloc, start, &mut states, &mut syncs)?;
+    check_syncs(start.run, syncs.as_slice())?;
     Ok(states)
 }
 
-/// Fails where a run does not begin with this or end with that, or where both are not told apart.
-fn check_first_and_last(run: &Run, first: &Seen, last: &Seen) -> Result<()> {
+/// Fails where a run does not begin or end with what it must, or where both are not told apart.
+fn check_ends(run: &Run, states: &[Seen]) -> Result<()> {
+    let (Some(first), Some(last)) = (states.first(), states.last()) else {
+        bail!("no states");
+    };
     let (before, after) = (first.short.as_str(), last.short.as_str());
     ensure!(before == run.before, "before: {before}");
     ensure!(after == run.after, "after: {after}");
     let is_right = first.has_tables_of(last) == run.has_same_tables();
     ensure!(is_right, "the tables are not as they must be");
     Ok(())
-}
-
-/// Fails where a run does not begin or end with what it must, or where both are not told apart.
-fn check_ends(run: &Run, states: &[Seen]) -> Result<()> {
-    match (states.first(), states.last()) {
-        (Some(first), Some(last)) => check_first_and_last(run, first, last),
-        _ => bail!("no states"),
-    }
 }
 
 /// What a crash left, and what the database holds there.
@@ -255,43 +229,27 @@ impl<'a> Player<'a> {
         self.judged(rt, stopped, left.kept, &seen)
     }
 
-    /// Judges one of the things that a crash may leave after a run.
-    fn judge_left(&mut self, rt: &HostRuntime, stopped: &Stopped<'_>, left: &Left) -> Result<()> {
-        let outcome = self.outcome(rt, stopped, left)?;
-        self.counts.count(left.kept, outcome);
+    /// Judges each thing that a crash may leave after a run.
+    fn judge_each(&mut self, rt: &HostRuntime, stopped: &Stopped<'_>, all: &[Left]) -> Result<()> {
+        for left in all {
+            let outcome = self.outcome(rt, stopped, left)?;
+            self.counts.count(left.kept, outcome);
+        }
         Ok(())
     }
 
-    /// Judges how a run under a stop went.
-    fn judge_run(&mut self, rt: &HostRuntime, stopped: &Stopped<'_>) -> Result<()> {
+    /// Judges how a run under a stop went, and each thing that a crash may leave then. Of files that the run left as they
+    /// were it leaves what the database holds before it.
+    fn judge(&mut self, rt: &HostRuntime, stopped: &Stopped<'_>) -> Result<()> {
         if let Some(fault) = stopped.fault() {
             stopped.print_fault(rt, fault)?;
             self.counts.faults = self.counts.faults.saturating_add(1);
         }
-        Ok(())
-    }
-
-    /// Judges each thing that a crash may leave after a run.
-    fn judge_each(&mut self, rt: &HostRuntime, stopped: &Stopped<'_>, all: &[Left]) -> Result<()> {
-        for left in all {
-            self.judge_left(rt, stopped, left)?;
-        }
-        Ok(())
-    }
-
-    /// Judges what a crash leaves of files that the run left as they were: what the database holds before it.
-    fn judge_untouched(&mut self, rt: &HostRuntime, stopped: &Stopped<'_>) -> Result<()> {
-        let before = self.states.first().context("no states")?;
-        let outcome = self.judged(rt, stopped, Kept::Nothing, before)?;
-        self.counts.count(Kept::Nothing, outcome);
-        Ok(())
-    }
-
-    /// Judges a run under a stop, and each thing that a crash may leave then.
-    fn judge(&mut self, rt: &HostRuntime, stopped: &Stopped<'_>) -> Result<()> {
-        self.judge_run(rt, stopped)?;
         if are_untouched(&stopped.ran.files) {
-            return self.judge_untouched(rt, stopped);
+            let before = self.states.first().context("no states")?;
+            let outcome = self.judged(rt, stopped, Kept::Nothing, before)?;
+            self.counts.count(Kept::Nothing, outcome);
+            return Ok(());
         }
         let all = leavings(rt.alloc(), &stopped.ran.files, &mut self.draws)?;
         self.judge_each(rt, stopped, all.as_slice())
@@ -304,30 +262,22 @@ impl<'a> Player<'a> {
         self.judge(rt, &Stopped { run, stop, ran })
     }
 
-    /// Plays the run with each stop.
-    fn stop_each_call(&mut self, rt: &HostRuntime, needed: Needed) -> Result<()> {
-        for number in 0..needed.stops() {
-            self.stop_at(rt, needed.stop(number))?;
-        }
-        Ok(())
-    }
-
-    /// Plays the run with so many stops that are drawn, and at last with each file in turn as one that stops no more.
-    fn stop_drawn(&mut self, rt: &HostRuntime, needed: Needed, count: u32) -> Result<()> {
-        for _ in 0..count {
-            let stop = needed.drawn_stop(&mut self.draws);
+    /// Plays the run with the stops that it asks for: each one; or so many that are drawn, and at last each file in turn as
+    /// one that stops no more.
+    fn stop_all(&mut self, rt: &HostRuntime, needed: Needed) -> Result<()> {
+        let stops = self.start.run.stops;
+        for number in 0..stops.count(needed.stops()) {
+            let stop = match stops {
+                Stops::Each => needed.stop(number),
+                Stops::Drawn(_) => needed.drawn_stop(&mut self.draws),
+            };
             self.stop_at(rt, stop)?;
+        }
+        if matches!(stops, Stops::Each) {
+            return Ok(());
         }
         self.stop_at(rt, needed.stop(needed.db))?;
         self.stop_at(rt, needed.stop(needed.stops().saturating_sub(1)))
-    }
-
-    /// Plays the run with the stops that it asks for.
-    fn stop_all(&mut self, rt: &HostRuntime, needed: Needed) -> Result<()> {
-        match self.start.run.stops {
-            Stops::Each => self.stop_each_call(rt, needed),
-            Stops::Drawn(count) => self.stop_drawn(rt, needed, count),
-        }
     }
 
     /// Prints the line of the run, which without a stop needs so much.
@@ -362,29 +312,20 @@ impl<'a> Player<'a> {
         Ok(())
     }
 
-    /// Whether what came is what was wanted. A stop that is not as it must be is never wanted.
-    fn is_as_wanted(&self) -> bool {
-        let is_wrong = self.counts.wrong > 0;
-        self.counts.faults == 0 && is_wrong == (self.start.run.wanted == Wanted::Wrong)
-    }
-
-    /// Plays the run with its stops, and prints a line. Gives whether what came is what was wanted.
+    /// Plays the run with its stops, and prints a line. Gives whether what came is what was wanted. A stop that is not as it
+    /// must be is never wanted.
     fn play(&mut self, rt: &HostRuntime) -> Result<bool> {
         let needed = self.start.needed(rt.alloc())?;
         self.stop_all(rt, needed)?;
         self.print(rt, needed)?;
         self.check_outcomes()?;
-        Ok(self.is_as_wanted())
+        let is_wrong = self.counts.wrong > 0;
+        Ok(self.counts.faults == 0 && is_wrong == (self.start.run.wanted == Wanted::Wrong))
     }
-}
-
-/// Plays a run. Gives whether what came is what was wanted.
-fn played(rt: &HostRuntime, start: Start<'_>, draws: Pcg32) -> Result<bool> {
-    let mut player = Player::new(rt.alloc(), start, draws)?;
-    player.play(rt)
 }
 
 /// Plays a run. Gives whether what came is what was wanted. An error names the run.
 pub(crate) fn play_on(rt: &HostRuntime, start: Start<'_>, draws: Pcg32) -> Result<bool> {
-    played(rt, start, draws).context(start.run.name)
+    let mut player = Player::new(rt.alloc(), start, draws).context(start.run.name)?;
+    player.play(rt).context(start.run.name)
 }

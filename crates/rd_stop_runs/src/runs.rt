@@ -77,6 +77,14 @@ pub(crate) enum Stops {
 }
 
 impl Stops {
+    /// How many they are, of so many that there are.
+    pub(crate) fn count(self, all: u64) -> u64 {
+        match self {
+            Stops::Each => all,
+            Stops::Drawn(count) => u64::from(count),
+        }
+    }
+
     /// What the output says of it.
     pub(crate) fn words(self, alloc: Global) -> Result<String, AllocError> {
         match self {

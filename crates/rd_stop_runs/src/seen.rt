@@ -27,14 +27,12 @@ fn number<S: Alter>(conn: &mut Connection<S>, sql: &str) -> Result<i64, Error> {
     conn.query_row(sql, &[])?.get(0)
 }
 
-/// Whether a database has no table, nor anything else.
-fn is_empty<S: Alter>(conn: &mut Connection<S>) -> bool {
-    matches!(number(conn, "SELECT count(*) FROM sqlite_master"), Ok(0))
-}
-
 /// What stands where no desk is: an empty database, in which one can be made, or something else.
 fn without_desk<S: Alter + Drop>(mut conn: Connection<S>) -> &'static str {
-    if !is_empty(&mut conn) {
+    if !matches!(
+        number(&mut conn, "SELECT count(*) FROM sqlite_master"),
+        Ok(0)
+    ) {
         return "not-a-desk";
     }
     if create(conn).is_ok() {

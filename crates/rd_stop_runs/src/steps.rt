@@ -63,40 +63,25 @@ fn resize_or_not(file: &mut Vec<u8>, len: usize, draws: &mut Pcg32) -> Result<()
 
 // Calls that a crash keeps whole.
 
-/// Makes a change in a file or not, as a draw says.
-fn apply_or_not(file: &mut Vec<u8>, step: &Step, draws: &mut Pcg32) -> Result<(), AllocError> {
-    if is_drawn(draws) {
-        apply(file, step)?;
-    }
-    Ok(())
-}
-
 /// Makes some of the changes in a file, each of them whole.
 fn keep_calls(file: &mut Vec<u8>, steps: &[Step], draws: &mut Pcg32) -> Result<(), AllocError> {
     for step in steps {
-        apply_or_not(file, step, draws)?;
+        if is_drawn(draws) {
+            apply(file, step)?;
+        }
     }
     Ok(())
 }
 
 // The first calls.
 
-/// Writes the first of these bytes over those of a file from an offset on: as many as a draw says,
-/// from none to all.
-fn write_front(
-    file: &mut Vec<u8>,
-    at: usize,
-    bytes: &[u8],
-    draws: &mut Pcg32,
-) -> Result<(), AllocError> {
-    let count = draws.next_u32() as usize % (bytes.len() + 1);
-    write_over(file, at, &bytes[..count])
-}
-
-/// Makes the front of a change in a file.
+/// Makes the front of a change in a file: of a write the first bytes, as many as a draw says, from none to all.
 fn apply_front(file: &mut Vec<u8>, step: &Step, draws: &mut Pcg32) -> Result<(), AllocError> {
     match step {
-        Step::Write(at, bytes) => write_front(file, *at, bytes.as_slice(), draws),
+        Step::Write(at, bytes) => {
+            let count = draws.next_u32() as usize % (bytes.len() + 1);
+            write_over(file, *at, &bytes[..count])
+        }
         Step::Length(len) => resize_or_not(file, *len, draws),
     }
 }
@@ -113,19 +98,14 @@ fn keep_front(file: &mut Vec<u8>, steps: &[Step], draws: &mut Pcg32) -> Result<(
 
 // All but a piece or two.
 
-/// How many pieces a change writes.
-fn pieces_in(step: &Step) -> usize {
-    match step {
-        Step::Write(_, bytes) => bytes.len().saturating_add(PIECE - 1) / PIECE,
-        Step::Length(_) => 0,
-    }
-}
-
 /// How many pieces changes write.
 fn pieces_of(steps: &[Step]) -> usize {
     let mut count = 0usize;
     for step in steps {
-        count = count.saturating_add(pieces_in(step));
+        if let Step::Write(_, bytes) = step {
+            let pieces = bytes.len().saturating_add(PIECE - 1) / PIECE;
+            count = count.saturating_add(pieces);
+        }
     }
     count
 }
@@ -221,21 +201,6 @@ fn write_drawn(
     write_over(file, at, bytes.as_slice())
 }
 
-/// Writes a piece over the bytes of a file from an offset on, as its fate says.
-fn write_piece(
-    file: &mut Vec<u8>,
-    at: usize,
-    piece: &[u8],
-    any_from: usize,
-    draws: &mut Pcg32,
-) -> Result<(), AllocError> {
-    match fate_at(at, any_from, draws) {
-        Fate::Kept => write_over(file, at, piece),
-        Fate::Lost => Ok(()),
-        Fate::Harmed => write_drawn(file, at, piece.len(), draws),
-    }
-}
-
 /// Writes the pieces of these bytes over those of a file from an offset on, each as its fate says.
 fn write_pieces(
     file: &mut Vec<u8>,
@@ -246,7 +211,11 @@ fn write_pieces(
 ) -> Result<(), AllocError> {
     let mut place = at;
     for piece in bytes.chunks(PIECE) {
-        write_piece(file, place, piece, any_from, draws)?;
+        match fate_at(place, any_from, draws) {
+            Fate::Kept => write_over(file, place, piece)?,
+            Fate::Lost => {}
+            Fate::Harmed => write_drawn(file, place, piece.len(), draws)?,
+        }
         place = place.saturating_add(PIECE);
     }
     Ok(())
