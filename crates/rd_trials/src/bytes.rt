@@ -42,18 +42,12 @@ fn write_at(bytes: &mut [u8], place: usize, unit: &[u8]) -> Result<()> {
     Ok(())
 }
 
-/// Writes a text over a place.
-fn write_over(alloc: Global, bytes: &mut Vec<u8>, text: &str) -> Result<()> {
-    let (place, text) = number_and_text(text)?;
-    let unit = bytes_of(alloc, text)?;
-    write_at(bytes.as_mut_slice(), place, unit.as_slice())
-}
-
-/// Writes a text over places at equal steps: the first place, the step, the count and the text.
-fn write_over_each(alloc: Global, bytes: &mut Vec<u8>, text: &str) -> Result<()> {
+/// Writes a text over a place: the place and the text. Or over places at equal steps: the first place, the step, the count
+/// and the text.
+fn write_over(alloc: Global, bytes: &mut Vec<u8>, text: &str, is_each: bool) -> Result<()> {
     let (first, text) = number_and_text(text)?;
-    let (step, text) = number_and_text(text)?;
-    let (count, text) = number_and_text(text)?;
+    let (step, text) = if is_each { number_and_text(text)? } else { (0, text) };
+    let (count, text) = if is_each { number_and_text(text)? } else { (1, text) };
     let unit = bytes_of(alloc, text)?;
     let mut place = first;
     for _ in 0..count {
@@ -78,8 +72,8 @@ pub(crate) fn build(alloc: Global, bytes: &mut Vec<u8>, word: &str, text: &str) 
     match word {
         "send" => add_bytes(bytes, text),
         "fill" => fill(alloc, bytes, text),
-        "over" => write_over(alloc, bytes, text),
-        "over-each" => write_over_each(alloc, bytes, text),
+        "over" => write_over(alloc, bytes, text, false),
+        "over-each" => write_over(alloc, bytes, text, true),
         "cut" => cut(bytes, text),
         _ => bail!("no such word"),
     }

@@ -20,11 +20,6 @@ fn base_of(text: &str) -> (Option<&str>, &str) {
     }
 }
 
-/// The text of an image of this name.
-fn text_of(rt: &HostRuntime, name: &str) -> Result<String> {
-    fs::read_to_string(rt, name).context(name)
-}
-
 /// The texts of an image and of those it begins with, each before the one that it begins with.
 fn texts_of(rt: &HostRuntime, name: &str) -> Result<Vec<String>> {
     let mut texts = Vec::new(rt.alloc());
@@ -33,7 +28,7 @@ fn texts_of(rt: &HostRuntime, name: &str) -> Result<Vec<String>> {
         let Some(name) = next else {
             return Ok(texts);
         };
-        let text = text_of(rt, name.as_str())?;
+        let text = fs::read_to_string(rt, name.as_str()).context(format_args!("{name}"))?;
         next = match base_of(text.as_str()) {
             (Some(base), _) => Some(String::from_str(rt.alloc(), base)?),
             (None, _) => None,

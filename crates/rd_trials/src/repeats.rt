@@ -43,6 +43,17 @@ fn words_of(alloc: Global, text: &str) -> Result<Vec<String>> {
     Ok(words)
 }
 
+/// A text with a value in place of a name, and what stands behind it, in braces.
+fn with_value(
+    alloc: Global,
+    text: &str,
+    (name, more): (&str, &str),
+    value: &str,
+) -> Result<String, AllocError> {
+    let mark = format!(in alloc; "{{{name}{more}}}")?;
+    text.replace(alloc, mark.as_str(), value)
+}
+
 impl<'a> Block<'a> {
     fn new(alloc: Global, place: &'a str, word: &str, text: &'a str) -> Result<Block<'a>> {
         let (name, values) = text.split_once(' ').context("no values")?;
@@ -60,20 +71,14 @@ impl<'a> Block<'a> {
 
     /// A line of the block with one value.
     fn line_with(&self, alloc: Global, line: &Line, value: &str) -> Result<Line, AllocError> {
-        let name = self.name;
-        let mark = format!(in alloc; "{{{name}}}")?;
-        let text = line.text.as_str().replace(alloc, mark.as_str(), value)?;
-        let Ok(number) = value.parse::<u32>() else {
-            return Ok(Line {
-                place: line.place.clone()?,
-                text,
-            });
-        };
-        let next = number.saturating_add(1).to_string(alloc)?;
-        let mark = format!(in alloc; "{{{name}+1}}")?;
+        let mut text = with_value(alloc, line.text.as_str(), (self.name, ""), value)?;
+        if let Ok(number) = value.parse::<u32>() {
+            let next = number.saturating_add(1).to_string(alloc)?;
+            text = with_value(alloc, text.as_str(), (self.name, "+1"), next.as_str())?;
+        }
         Ok(Line {
             place: line.place.clone()?,
-            text: text.as_str().replace(alloc, mark.as_str(), next.as_str())?,
+            text,
         })
     }
 

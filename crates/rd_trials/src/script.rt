@@ -54,35 +54,35 @@ fn add_copies(lines: &mut Vec<Line>, more: &[Line]) -> Result<(), AllocError> {
     Ok(())
 }
 
-/// The lines of a trial, with the lines of the files that it plays in their places: once after a
-/// line `play`; after a line `given`, there and after each line `anew`.
-fn with_played(rt: &HostRuntime, lines: Vec<Line>) -> Result<Vec<Line>> {
-    let mut all = Vec::new(rt.alloc());
-    let mut given = Vec::new(rt.alloc());
-    for line in lines {
-        match parts_of(line.text.as_str()) {
-            ("play", file) => {
-                add_copies(
-                    &mut all,
-                    &lines_of(rt, file).context(format_args!("{}", line.place))?,
-                )?;
-            }
-            ("given", file) => {
-                given = lines_of(rt, file).context(format_args!("{}", line.place))?;
-                add_copies(&mut all, &given)?;
-            }
-            ("anew", _) => {
-                all.push(line)?;
-                add_copies(&mut all, &given)?;
-            }
-            _ => all.push(line)?,
+/// Adds a line of a trial, with the lines of the file that it plays in its place: once after a line `play`; after a line
+/// `given`, there and after each line `anew`.
+fn add_played(
+    rt: &HostRuntime,
+    all: &mut Vec<Line>,
+    given: &mut Vec<Line>,
+    line: &Line,
+) -> Result<()> {
+    match parts_of(line.text.as_str()) {
+        ("play", file) => add_copies(all, &lines_of(rt, file)?)?,
+        ("given", file) => {
+            *given = lines_of(rt, file)?;
+            add_copies(all, given)?;
         }
+        ("anew", _) => {
+            all.push(line.copy()?)?;
+            add_copies(all, given)?;
+        }
+        _ => all.push(line.copy()?)?,
     }
-    Ok(all)
+    Ok(())
 }
 
 /// The lines of a trial in the order of play.
 pub(crate) fn script_of(rt: &HostRuntime, file: &str) -> Result<Vec<Line>> {
-    let lines = with_played(rt, lines_of(rt, file)?)?;
-    repeated(rt.alloc(), &lines)
+    let mut all = Vec::new(rt.alloc());
+    let mut given = Vec::new(rt.alloc());
+    for line in &lines_of(rt, file)? {
+        add_played(rt, &mut all, &mut given, line).context(format_args!("{}", line.place))?;
+    }
+    repeated(rt.alloc(), &all)
 }
