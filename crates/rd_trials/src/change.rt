@@ -5,7 +5,7 @@ use anyhow::{Result, bail};
 use rd_played::{Tally, answer_of};
 use sqlite::types::ValueRef;
 use sqlite::{Connection, Error, MemStore};
-use std::alloc::{AllocError, Global};
+use std::alloc::Global;
 
 /// What a statement must do.
 #[derive(Clone, Copy, PartialEq, Eq)]
@@ -44,29 +44,31 @@ pub(crate) struct Change<'a> {
     pub(crate) place: &'a str,
     statement: &'a str,
     wanted: Effect,
-    value: Option<Vec<u8>>,
+    value: Vec<u8>,
+    has_value: bool,
 }
 
 impl<'a> Change<'a> {
     /// The change by a statement at a place of a trial, without bytes for `?1`.
-    pub(crate) fn new(place: &'a str, wanted: Effect, statement: &'a str) -> Change<'a> {
+    pub(crate) fn new(
+        alloc: Global,
+        place: &'a str,
+        wanted: Effect,
+        statement: &'a str,
+    ) -> Change<'a> {
         Change {
             place,
             statement,
             wanted,
-            value: None,
+            value: Vec::new(alloc),
+            has_value: false,
         }
     }
 
     /// Reads a line about the bytes for `?1`: its first word, and the text after it.
     pub(crate) fn read(&mut self, rt: &HostRuntime, word: &str, text: &str) -> Result<()> {
-        let mut bytes = match self.value.take() {
-            Some(bytes) => bytes,
-            None => Vec::new(rt.alloc()),
-        };
-        build_with(rt, &mut bytes, word, text)?;
-        self.value = Some(bytes);
-        Ok(())
+        self.has_value = true;
+        build_with(rt, &mut self.value, word, text)
     }
 
     /// Changes tables. A statement that SQL must refuse is a case; if any other statement does not
@@ -90,11 +92,9 @@ impl<'a> Change<'a> {
 
     /// Runs the statement, and gives what it did.
     fn run(&self, conn: &mut Connection<MemStore>) -> Effect {
-        let changed = match &self.value {
-            None => execute(conn, self.statement),
-            Some(bytes) => execute_with(conn, self.statement, bytes.as_slice()),
-        };
-        match changed {
+        let value = [ValueRef::Blob(self.value.as_slice())];
+        let values = if self.has_value { value.as_slice() } else { &[] };
+        match execute(conn, self.statement, values) {
             Ok(0) => Effect::Idle,
             Ok(_) => Effect::Rows,
             Err(_) => Effect::Refused,
@@ -102,12 +102,12 @@ impl<'a> Change<'a> {
     }
 }
 
-fn execute(conn: &mut Connection<MemStore>, sql: &str) -> Result<usize, Error> {
-    conn.execute(sql, &[])
-}
-
-fn execute_with(conn: &mut Connection<MemStore>, sql: &str, value: &[u8]) -> Result<usize, Error> {
-    conn.execute(sql, &[ValueRef::Blob(value)])
+fn execute(
+    conn: &mut Connection<MemStore>,
+    sql: &str,
+    values: &[ValueRef<'_>],
+) -> Result<usize, Error> {
+    conn.execute(sql, values)
 }
 
 /// A question in SQL, its place, and the rows that it must give, each ended by a line feed.
@@ -140,16 +140,12 @@ impl<'a> Question<'a> {
         tally.judge(rt, case, self.rows.as_bytes(), answer.as_bytes())
     }
 
-    fn add_row(&mut self, text: &str) -> Result<(), AllocError> {
-        self.rows.push_str(text)?;
-        self.rows.push('\n')
-    }
-
     /// Reads a line: its first word, and the text after it.
     pub(crate) fn read(&mut self, word: &str, text: &str) -> Result<()> {
-        match word {
-            "row" => Ok(self.add_row(text)?),
-            _ => bail!("no such word"),
+        if word != "row" {
+            bail!("no such word");
         }
+        self.rows.push_str(text)?;
+        Ok(self.rows.push('\n')?)
     }
 }

@@ -2,7 +2,6 @@
 
 ghost use Rattle.std.specs.Result.{result_ok};
 
-use crate::image::build_with;
 use anyhow::Result;
 use rd_fakes::desk::new_connection;
 use rd_fakes::wire::new_door;
@@ -16,7 +15,7 @@ use std::alloc::{AllocError, Global};
 #[derive(Drop)]
 pub(crate) struct File {
     path: String,
-    bytes: Vec<u8>,
+    pub(crate) bytes: Vec<u8>,
 }
 
 impl File {
@@ -26,27 +25,23 @@ impl File {
             bytes: Vec::new(alloc),
         })
     }
-
-    /// Reads a line about the bytes of the file: its first word, and the text after it.
-    pub(crate) fn read(&mut self, rt: &HostRuntime, word: &str, text: &str) -> Result<()> {
-        build_with(rt, &mut self.bytes, word, text)
-    }
 }
 
 /// What the machine does not give, and why: the `store`, a `new` one, `sums` for one with sums, the `door`, the `clock`, or
 /// the file at a path.
 #[derive(Drop)]
-struct Lack {
-    what: String,
-    fault: MachineFault,
+pub(crate) struct Lack {
+    pub(crate) what: String,
+    pub(crate) fault: MachineFault,
 }
 
 /// What the machine gives beside its store and its door.
 #[derive(Drop)]
 pub(crate) struct Given {
     alloc: Global,
-    files: Vec<File>,
-    lacks: Vec<Lack>,
+    /// If there are several at a path, the last one counts.
+    pub(crate) files: Vec<File>,
+    pub(crate) lacks: Vec<Lack>,
     /// What the clock shows, or why it shows nothing.
     clock: Result<i64, MachineFault>,
     /// The last place that the program asked for, and how long a visitor may take there if that is not as usual, as the
@@ -110,22 +105,6 @@ fn front_of(bytes: &[u8]) -> &[u8] {
 }
 
 impl Given {
-    /// Takes in a file. If there are several at a path, the last one counts.
-    pub(crate) fn keep(&mut self, file: File) -> Result<()> {
-        Ok(self.files.push(file)?)
-    }
-
-    /// Lacks nothing from now on.
-    pub(crate) fn give_all(&mut self) {
-        self.lacks.clear();
-    }
-
-    /// Does not give something from now on, and why.
-    pub(crate) fn lack(&mut self, alloc: Global, what: &str, fault: MachineFault) -> Result<()> {
-        let what = String::from_str(alloc, what)?;
-        Ok(self.lacks.push(Lack { what, fault })?)
-    }
-
     /// Sets what the clock shows from now on; `None` if it shows nothing. It shows nothing either if the machine does not give
     /// it.
     pub(crate) fn set_clock(&mut self, shown: Option<i64>) {

@@ -1,12 +1,16 @@
 //! Trials of the program, played line by line.
 
 use super::machine::{File, Museum, new_museum};
-use super::run::Run;
+use super::run::{Run, words_of};
 use super::visitor::Visitor;
+use super::wanted::Wanted;
 use crate::change::{Change, Effect, Question};
+use crate::image::build_with;
 use crate::script::{Line, parts_of};
 use anyhow::{Context, Result, bail};
 use rd_played::{KeptTables, Tally, contents_of};
+use sqlite::{Connection, MemStore};
+use std::alloc::Global;
 use std::mem;
 
 /// A part of a trial that takes more than one line.
@@ -47,6 +51,14 @@ fn is_first(word: &str) -> bool {
     )
 }
 
+/// The store of a machine.
+fn store_of(museum: &mut Museum) -> Result<&mut Connection<MemStore>> {
+    match &mut museum.conn {
+        Some(conn) => Ok(conn),
+        None => bail!("no store"),
+    }
+}
+
 impl<'a> Player<'a> {
     fn new(rt: &HostRuntime) -> Result<Player<'a>> {
         Ok(Player {
@@ -84,10 +96,11 @@ impl<'a> Player<'a> {
         }
         match &mut self.item {
             Item::Run(run) if word == "visit" => {
-                run.add_visitor(Visitor::new(rt.alloc(), place, text, self.seconds))
+                let visitor = Visitor::new(rt.alloc(), place, text, self.seconds);
+                Ok(run.visitors.push(visitor)?)
             }
             Item::Run(run) => run.read(rt, word, text),
-            Item::File(file) => file.read(rt, word, text),
+            Item::File(file) => build_with(rt, &mut file.bytes, word, text),
             Item::Change(change) => change.read(rt, word, text),
             Item::Question(question) => question.read(word, text),
             Item::Nothing => bail!("no such word"),
@@ -103,55 +116,57 @@ impl<'a> Player<'a> {
         text: &'a str,
     ) -> Result<()> {
         match word {
-            "run" => self.item = Item::Run(Run::new(rt.alloc(), place, text, self.seconds)),
+            "run" => self.begin_run(rt.alloc(), (place, text), Vec::new(rt.alloc()), false),
             "no-command" => {
-                self.item = Item::Run(Run::mistake(rt.alloc(), place, text, self.seconds)?)
+                let words = words_of(rt.alloc(), text)?;
+                self.begin_run(rt.alloc(), (place, text), words, true)
             }
             "file" => self.item = Item::File(File::new(rt.alloc(), text)?),
             "query" => self.item = Item::Question(Question::new(rt.alloc(), place, text)),
             "anew" => self.museum = new_museum(rt.alloc())?,
             "swap" => mem::swap(&mut self.museum.conn, &mut self.museum.fresh),
             "tables" => self.compare(rt, place, text)?,
-            _ => self.item = Item::Change(Change::new(place, Effect::of(word), text)),
+            _ => self.item = Item::Change(Change::new(rt.alloc(), place, Effect::of(word), text)),
         }
         Ok(())
+    }
+
+    /// Begins a run of words that come later, or one of words that are no command.
+    fn begin_run(
+        &mut self,
+        alloc: Global,
+        case: (&'a str, &'a str),
+        words: Vec<String>,
+        is_mistake: bool,
+    ) {
+        let wanted = Wanted::new(alloc, is_mistake);
+        self.item = Item::Run(Run::new(alloc, case, self.seconds, words, wanted));
     }
 
     /// Does what the lines up to here say.
     fn finish(&mut self, rt: &HostRuntime) -> Result<()> {
         match mem::replace(&mut self.item, Item::Nothing) {
             Item::Nothing => Ok(()),
-            Item::Run(run) => run
+            Item::Run(mut run) => run
                 .play(rt, &mut self.museum, &mut self.tally)
                 .context(run.place),
-            Item::File(file) => self.museum.supply.keep(file),
-            Item::Change(change) => self.change(rt, &change).context(change.place),
-            Item::Question(question) => self.ask(rt, &question).context(question.place),
-        }
-    }
-
-    /// Changes the tables of the store.
-    fn change(&mut self, rt: &HostRuntime, change: &Change<'a>) -> Result<()> {
-        match &mut self.museum.conn {
-            Some(conn) => change.play(rt, conn, &mut self.tally),
-            None => bail!("no store"),
-        }
-    }
-
-    /// Asks the tables of the store for rows.
-    fn ask(&mut self, rt: &HostRuntime, question: &Question<'a>) -> Result<()> {
-        match &mut self.museum.conn {
-            Some(conn) => question.play(rt, conn, &mut self.tally),
-            None => bail!("no store"),
+            Item::File(file) => Ok(self.museum.supply.files.push(file)?),
+            Item::Change(change) => {
+                let conn = store_of(&mut self.museum).context(change.place)?;
+                change.play(rt, conn, &mut self.tally).context(change.place)
+            }
+            Item::Question(question) => {
+                let conn = store_of(&mut self.museum).context(question.place)?;
+                question
+                    .play(rt, conn, &mut self.tally)
+                    .context(question.place)
+            }
         }
     }
 
     /// Keeps what the tables of the store hold, or compares it with what it has kept.
     fn compare(&mut self, rt: &HostRuntime, place: &'a str, word: &'a str) -> Result<()> {
-        let contents = match &mut self.museum.conn {
-            Some(conn) => contents_of(rt.alloc(), conn)?,
-            None => bail!("no store"),
-        };
+        let contents = contents_of(rt.alloc(), store_of(&mut self.museum)?)?;
         self.contents
             .play(rt, (place, word), contents, &mut self.tally)
     }

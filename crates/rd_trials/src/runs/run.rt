@@ -1,6 +1,6 @@
 //! Runs as a trial describes them.
 
-use super::machine::Museum;
+use super::machine::{Lack, Museum};
 use super::visitor::{Visitor, outcome_at};
 use super::wanted::{Ran, Wanted};
 use crate::image::build_with;
@@ -11,14 +11,7 @@ use rd_http::MemoryDoor;
 use rd_played::{Tally, bytes_of};
 use rd_program::{MachineFault, run};
 use std::alloc::{AllocError, Global};
-
-/// What the machine does not give, and why: the `store`, a `new` one, `sums` for one with sums, the `door`, the `clock`, or
-/// the file at a path.
-#[derive(Clone, Copy)]
-struct Lack<'a> {
-    what: &'a str,
-    fault: MachineFault,
-}
+use std::mem;
 
 /// A run: its name and its place, the words, the standard input, how much the output takes, what
 /// the machine does not give, the visits, and what the run must leave.
@@ -31,10 +24,10 @@ pub(crate) struct Run<'a> {
     /// How many bytes the output takes, and how many flushes.
     room: usize,
     flushes: usize,
-    lacks: Vec<Lack<'a>>,
+    lacks: Vec<Lack>,
     /// What the clock of the machine shows.
     clock: Option<i64>,
-    visitors: Vec<Visitor<'a>>,
+    pub(crate) visitors: Vec<Visitor<'a>>,
     wanted: Wanted<'a>,
 }
 
@@ -51,7 +44,7 @@ fn word_of(alloc: Global, text: &str) -> Result<String> {
 }
 
 /// The words of a command, separated by blanks.
-fn words_of(alloc: Global, text: &str) -> Result<Vec<String>> {
+pub(crate) fn words_of(alloc: Global, text: &str) -> Result<Vec<String>> {
     let mut words = Vec::new(alloc);
     if !text.is_empty() {
         for part in text.split(' ') {
@@ -90,7 +83,7 @@ fn door_of(rt: &HostRuntime, visitors: &[Visitor<'_>]) -> Result<MemoryDoor> {
 
 impl<'a> Run<'a> {
     /// A run of words that must leave this, with nothing else set.
-    fn of(
+    pub(crate) fn new(
         alloc: Global,
         (place, name): (&'a str, &'a str),
         clock: Option<i64>,
@@ -111,28 +104,6 @@ impl<'a> Run<'a> {
         }
     }
 
-    /// A run whose words come later.
-    pub(crate) fn new(alloc: Global, place: &'a str, name: &'a str, clock: Option<i64>) -> Run<'a> {
-        let words = Vec::new(alloc);
-        Run::of(alloc, (place, name), clock, words, Wanted::new(alloc))
-    }
-
-    /// A run of words that are no command.
-    pub(crate) fn mistake(
-        alloc: Global,
-        place: &'a str,
-        words: &'a str,
-        clock: Option<i64>,
-    ) -> Result<Run<'a>> {
-        let given = words_of(alloc, words)?;
-        Ok(Run::of(alloc, (place, words), clock, given, Wanted::mistake(alloc)))
-    }
-
-    /// Begins one more visit of the run.
-    pub(crate) fn add_visitor(&mut self, visitor: Visitor<'a>) -> Result<()> {
-        Ok(self.visitors.push(visitor)?)
-    }
-
     /// Reads a line: its first word, and the text after it. After a visit has begun, the line is
     /// about the last visit.
     pub(crate) fn read(&mut self, rt: &HostRuntime, word: &str, text: &'a str) -> Result<()> {
@@ -143,8 +114,8 @@ impl<'a> Run<'a> {
             "words" => self.words = words_of(rt.alloc(), text)?,
             "room" => self.room = text.parse()?,
             "flushes" => self.flushes = text.parse()?,
-            "fails" => self.add_lack(text, MachineFault::Failed)?,
-            "no-memory" => self.add_lack(text, MachineFault::NoMemory)?,
+            "fails" => self.add_lack(rt.alloc(), text, MachineFault::Failed)?,
+            "no-memory" => self.add_lack(rt.alloc(), text, MachineFault::NoMemory)?,
             "status" | "out" | "out-fill" | "errors" | "port" | "socket" | "limits" | "part" => {
                 self.wanted.read(rt.alloc(), word, text)?
             }
@@ -154,19 +125,17 @@ impl<'a> Run<'a> {
     }
 
     /// Adds what the machine does not give: the store, a new one, one with sums, the clock, the door, or the file at a path.
-    fn add_lack(&mut self, what: &'a str, fault: MachineFault) -> Result<()> {
+    fn add_lack(&mut self, alloc: Global, what: &str, fault: MachineFault) -> Result<()> {
         if !matches!(what, "store" | "new" | "sums" | "clock" | "door") && !what.contains('.') {
             bail!("the machine has no such thing");
         }
+        let what = String::from_str(alloc, what)?;
         Ok(self.lacks.push(Lack { what, fault })?)
     }
 
     /// Makes the machine ready for the run.
-    fn prepare(&self, rt: &HostRuntime, museum: &mut Museum) -> Result<()> {
-        museum.supply.give_all();
-        for lack in &self.lacks {
-            museum.supply.lack(rt.alloc(), lack.what, lack.fault)?;
-        }
+    fn prepare(&mut self, rt: &HostRuntime, museum: &mut Museum) -> Result<()> {
+        mem::swap(&mut museum.supply.lacks, &mut self.lacks);
         museum.supply.set_clock(self.clock);
         museum.door = door_of(rt, self.visitors.as_slice())?;
         museum.supply.place = None;
@@ -213,7 +182,7 @@ impl<'a> Run<'a> {
 
     /// Plays the run on a machine. The run is a case, and so is each of its visits.
     pub(crate) fn play(
-        &self,
+        &mut self,
         rt: &HostRuntime,
         museum: &mut Museum,
         tally: &mut Tally,

@@ -71,23 +71,16 @@ fn limits_of(text: &str) -> Result<TimeLimits> {
 }
 
 impl<'a> Wanted<'a> {
-    pub(crate) fn new(alloc: Global) -> Wanted<'a> {
+    /// What a run must leave whose other lines come later, or one of words that are no command.
+    pub(crate) fn new(alloc: Global, is_mistake: bool) -> Wanted<'a> {
         Wanted {
-            status: 0,
+            status: if is_mistake { 2 } else { 0 },
             output: Vec::new(alloc),
             errors: Vec::new(alloc),
             place: None,
             parts: Vec::new(alloc),
-            is_mistake: false,
+            is_mistake,
         }
-    }
-
-    /// What a run of words that are no command must leave.
-    pub(crate) fn mistake(alloc: Global) -> Wanted<'a> {
-        let mut wanted = Wanted::new(alloc);
-        wanted.status = 2;
-        wanted.is_mistake = true;
-        wanted
     }
 
     /// Reads a line: its first word, and the text after it.

@@ -149,7 +149,7 @@ impl<'a> Player<'a> {
             "opens" => self.open_twice(rt, (place, word), text, Way::Open)?,
             "migrates" => self.open_twice(rt, (place, word), text, Way::Migrate)?,
             "tables" => self.compare(rt, place, text)?,
-            _ => self.item = Item::Change(Change::new(place, Effect::of(word), text)),
+            _ => self.item = Item::Change(Change::new(rt.alloc(), place, Effect::of(word), text)),
         }
         Ok(())
     }
@@ -207,44 +207,33 @@ impl<'a> Player<'a> {
                 .judge(rt, case, wanted.as_slice(), outcome.as_slice())?;
         }
         match visit.likeness {
-            Some(Likeness::Alike(name)) => self.judge_alike(rt, visit, name, outcome),
-            Some(Likeness::Unlike(name)) => self.judge_unlike(rt, visit, name, outcome.as_slice()),
+            Some(likeness) => self.judge_likeness(rt, visit, likeness, outcome),
             None if told.is_none() => bail!("no reply is told"),
             None => Ok(()),
         }
     }
 
-    /// Compares the outcome of a visit with the first one that is `alike` this name, or keeps it
-    /// as the first.
-    fn judge_alike(
+    /// Compares the outcome of a visit with the first one that is `alike` this name, or keeps it as the first. It must be
+    /// the same, or another.
+    fn judge_likeness(
         &mut self,
         rt: &HostRuntime,
         visit: &Visit<'a>,
-        name: &'a str,
+        likeness: Likeness<'a>,
         outcome: Vec<u8>,
     ) -> Result<()> {
+        let Likeness { name, is_alike } = likeness;
         let case = (visit.place, visit.name);
         match self.replies.iter().find(|kept| kept.name == name) {
-            Some(kept) => self
-                .tally
-                .judge(rt, case, kept.outcome.as_slice(), outcome.as_slice()),
-            None => Ok(self.replies.push(Kept { name, outcome })?),
-        }
-    }
-
-    /// The same, but the outcome must be another.
-    fn judge_unlike(
-        &mut self,
-        rt: &HostRuntime,
-        visit: &Visit<'a>,
-        name: &'a str,
-        outcome: &[u8],
-    ) -> Result<()> {
-        let case = (visit.place, visit.name);
-        match self.replies.iter().find(|kept| kept.name == name) {
-            Some(kept) => self
-                .tally
-                .judge_other(rt, case, kept.outcome.as_slice(), outcome),
+            Some(kept) if is_alike => {
+                let wanted = kept.outcome.as_slice();
+                self.tally.judge(rt, case, wanted, outcome.as_slice())
+            }
+            Some(kept) => {
+                let other = kept.outcome.as_slice();
+                self.tally.judge_other(rt, case, other, outcome.as_slice())
+            }
+            None if is_alike => Ok(self.replies.push(Kept { name, outcome })?),
             None => bail!("no visit is alike {name}"),
         }
     }

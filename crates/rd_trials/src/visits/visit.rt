@@ -10,9 +10,9 @@ use std::alloc::{AllocError, Global};
 
 /// How a reply must compare with that of the first visit in the file that is `alike` a name.
 #[derive(Clone, Copy)]
-pub(crate) enum Likeness<'a> {
-    Alike(&'a str),
-    Unlike(&'a str),
+pub(crate) struct Likeness<'a> {
+    pub(crate) name: &'a str,
+    pub(crate) is_alike: bool,
 }
 
 /// A visit: its name and place, what comes, what must go out (if the trial says so), over which
@@ -102,20 +102,18 @@ impl<'a> Visit<'a> {
         match word {
             "ask" | "key" | "body" => Ok(self.came.read_request(word, text)?),
             "json" | "csv" | "octets" | "field" => Ok(self.reply.read_head(word, text)?),
-            "out" | "out-fill" | "alike" | "unlike" => self.read_reply(rt.alloc(), word, text),
+            "out" | "out-fill" => add_out(rt.alloc(), &mut self.reply.body, word, text),
+            "alike" | "unlike" => {
+                let is_alike = word == "alike";
+                self.likeness = Some(Likeness {
+                    name: text,
+                    is_alike,
+                });
+                Ok(())
+            }
             "reads" | "writes" | "takes" | "ends" | "front" => self.read_plan(word, text),
             _ => build_with(rt, &mut self.came.body, word, text),
         }
-    }
-
-    /// Reads a line about the body of the reply, or about the reply to compare it with.
-    fn read_reply(&mut self, alloc: Global, word: &str, text: &'a str) -> Result<()> {
-        match word {
-            "alike" => self.likeness = Some(Likeness::Alike(text)),
-            "unlike" => self.likeness = Some(Likeness::Unlike(text)),
-            _ => add_out(alloc, &mut self.reply.body, word, text)?,
-        }
-        Ok(())
     }
 
     /// Reads a line about the connection.
