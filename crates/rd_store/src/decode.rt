@@ -1,4 +1,4 @@
-ghost use Rattle.std.specs.Prelude.{◌≡◌, IfOk, IfErr, option_map, pos, string_bytes};
+ghost use Rattle.std.specs.Prelude.{◌≡◌, ◌/◌, IfOk, IfErr, length, option_map, pos, string_bytes};
 ghost use Rattle.sqlite.specs.declared.types.Value.TheVariants.{Int, Text as Words, Blob};
 ghost use Rattle.sqlite.specs.Order.{column};
 ghost use Rattle.sqlite.specs.Values.{or_null};
@@ -165,19 +165,26 @@ pub(crate) fn class(code: u32) -> bool
     code == 1
 }
 
+/// Fills a slice with the units that bytes spell, two for each, the high byte first.
+fn spell_out(units: &mut [u16], bytes: &[u8])
+    requires { length units.old ≡ length bytes.now / 2 }
+    ensures { units.new ≡ units_in bytes.now }
+{
+    let count = bytes.len() / 2;
+    for at in 0..count {
+        units[at] = 256 * bytes[2 * at] as u16 + bytes[2 * at + 1] as u16;
+    }
+}
+
 /// The units that bytes spell, two for each, the high byte first.
 pub(crate) fn units(alloc: Global, bytes: &[u8]) -> Result<Vec<u16>, StoreFault>
     ensures value { IfOk result (λ units. units.items ≡ units_in bytes.now) }
     ensures fault { IfErr result (λ fault. fault ≡ StoreFault.Sql) }
 {
     let mut units = Vec::new(alloc);
-    let mut at = 0;
-    while at + 1 < bytes.len() {
-        let unit = 256 * u16::from(bytes[at]) + u16::from(bytes[at + 1]);
-        if units.push(unit).is_err() {
-            return Err(StoreFault::Sql);
-        }
-        at += 2;
+    if units.resize(bytes.len() / 2, 0).is_err() {
+        return Err(StoreFault::Sql);
     }
+    spell_out(units.as_mut_slice(), bytes);
     Ok(units)
 }
