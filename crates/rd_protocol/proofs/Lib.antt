@@ -31,3 +31,4 @@ pub mod RehearsalLemmas
 pub mod RuleTextLemmas
 pub mod LineLemmas
 pub mod StaffListLemmas
+pub mod UnitLemmas

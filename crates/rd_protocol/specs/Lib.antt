@@ -34,4 +34,5 @@ pub mod Hidden
 pub mod Parts
 -- ---- inside: what only private functions and proofs cite
 pub mod Written
+pub mod UnitBytes
 pub mod Queries

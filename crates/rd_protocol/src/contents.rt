@@ -1,8 +1,10 @@
 //! The contents of a file, kept as its image and lent as slices of it.
 
-ghost use Rattle.std.specs.Prelude.{◌≡◌, ◌↔◌, IfSome, IsSome, length};
+ghost use Rattle.std.specs.Prelude.{◌≡◌, ◌↔◌, ◌<◌, ◌^◌, IfSome, IsSome, SomeIff, length};
+ghost use Rattle.rd_volume.specs.Kinds.{room_of};
 ghost use Rattle.rd_volume.specs.Volumes.{contents_of};
 ghost use Rattle.rd_protocol.specs.Lent.{CanBeLent, bytes_lent};
+ghost use Rattle.rd_protocol.specs.UnitBytes.{bytes_in};
 
 use rd_geometry::{Image, Items, Kind};
 use rd_volume::{Found, Pieces, pieces};
@@ -30,6 +32,28 @@ impl Model for Contents {
     ghost invariant = { AreOfSoundFile };
 }
 
+/// How many bytes of a file a unit holds at most.
+fn room(kind: Kind) -> usize
+    ensures { result ≡ room_of kind }
+{
+    match kind {
+        Kind::Cpm8 => 128,
+        Kind::D64 | Kind::D64e => 254,
+    }
+}
+
+/// How many bytes the units of a file hold, if each but the last holds `room` of them and the last one `last_len`;
+/// `None` if these are 2^64 or more.
+fn bytes_of_units(units: &[u16], room: usize, last_len: u16) -> Option<usize>
+    ensures { SomeIff result (bytes_in room units.now last_len < 2 ^ 64) (bytes_in room units.now last_len) }
+{
+    let Some((_, rest)) = units.split_first() else {
+        return Some(0);
+    };
+    let full = rest.len().checked_mul(room)?;
+    full.checked_add(usize::from(last_len))
+}
+
 /// How many bytes the pieces of a file have together; `None` if they cannot be lent.
 fn count(kind: Kind, image: &[u8], file: &Found) -> Option<usize>
     ensures taken { IsSome result ↔ CanBeLent kind image.now file.now }
@@ -41,11 +65,7 @@ fn count(kind: Kind, image: &[u8], file: &Found) -> Option<usize>
     if !file.sound() || !file.fits(&image) {
         return None;
     }
-    let mut len: usize = 0;
-    for piece in pieces(&image, file) {
-        len = len.checked_add(piece.len())?;
-    }
-    Some(len)
+    bytes_of_units(file.units.as_slice(), room(kind), file.last_len)
 }
 
 impl Contents {
