@@ -3,12 +3,13 @@ use Rattle.std.proofs.Common.{◌≡◌, ◌∙◌, ℕ, ◌+◌, ◌-◌, ◌<�
 use Rattle.std.specs.List.{concat}
 use Rattle.std.specs.Io.KnownBytes.{Appends, Keeps}
 use Rattle.std.proofs.KnownBytes.{Appends-kept, Appends-trans}
-use Rattle.std.proofs.lemmas.List.{take-append-drop, take_all}
+use Rattle.std.proofs.lemmas.List.{length-take-le, take-append-drop, take-append-le, take-take, take_all}
+use Rattle.std.proofs.Math.Seq.{take-append-add}
 use Rattle.std.proofs.lemmas.List.Folds.{concat-append}
 use lib.Seq.{take-add}
 use Rattle.rd_protocol.specs.declared.response.Reply.{Reply}
 use Rattle.rd_messages.specs.ReplyText.{head_text, reply_bytes}
-use Rattle.rd_messages.specs.Sent.{Sends, SendsPart}
+use Rattle.rd_messages.specs.Sent.{PutsFront, Sends, SendsPart}
 
 -- one more write of what is left
 pub sent_more : (old mid new : Option (List ℕ)) (text : List ℕ) (at n : ℕ) → at ≤ length text → Appends old mid (take at text)
@@ -35,23 +36,78 @@ then_second old mid new (Ok done) first second before sent = Appends-trans old m
 then_second old mid new (Err fault) first second before (part, rest, whole, some, out) =
     (first ++ part, rest, ap (λ t. first ++ t) whole ∙ sym (append_assoc first part rest), some, Appends-trans old mid new first part before out)
 
--- one more piece
-pub piece_more : (old mid new : Option (List ℕ)) (before : List (List ℕ)) (piece : List ℕ) → Appends old mid (concat before) → Appends mid new piece
-    → Appends old new (concat (before ++ piece ∷ []))
-piece_more old mid new before piece sent more =
-    subst (Appends old new) (sym (concat-append before (piece ∷ []) ∙ ap (λ l. concat before ++ l) (append-nil piece)))
-    (Appends-trans old mid new (concat before) piece sent more)
+-- What of a body has gone out, and which pieces are left of it.
+pub record SentSoFar (old new : Option (List ℕ)) (left : List (List ℕ)) (text : List ℕ) : Type 0 where
+  pub done : List ℕ
+  pub whole : done ++ concat left ≡ text
+  pub out : Appends old new done
+
+-- the pieces that a wire takes at first
+pub begun : (old new : Option (List ℕ)) (pieces left : List (List ℕ)) (text : List ℕ) → concat pieces ≡ text → PutsFront pieces left old new
+    → SentSoFar old new left text
+begun old new pieces left text are put = record {
+  done = concat put.front;
+  whole = sym (concat-append put.front left) ∙ ap concat (sym put.left) ∙ are;
+  out = put.out;
+}
+
+-- one more piece, and those that the wire takes behind it
+pub piece_sent : (old mid next new : Option (List ℕ)) (pieces more left : List (List ℕ)) (piece text : List ℕ) → SentSoFar old mid pieces text
+    → pieces ≡ piece ∷ more → Appends mid next piece → PutsFront more left next new → SentSoFar old new left text
+piece_sent old mid next new pieces more left piece text before steps sent put = record {
+  done = (before.done ++ piece) ++ concat put.front;
+  whole = append_assoc (before.done ++ piece) (concat put.front) (concat left)
+      ∙ ap (λ rest. (before.done ++ piece) ++ rest) (sym (concat-append put.front left) ∙ ap concat (sym put.left))
+      ∙ append_assoc before.done piece (concat more) ∙ ap (λ l. before.done ++ concat l) (sym steps) ∙ before.whole;
+  out = Appends-trans old next new (before.done ++ piece) (concat put.front) (Appends-trans old mid next before.done piece before.out sent) put.out;
+}
 
 -- a piece of which a part has gone out, after the pieces before it
-pub piece_part : (old mid new : Option (List ℕ)) (before after : List (List ℕ)) (piece text : List ℕ) → concat (before ++ (piece ∷ after)) ≡ text
-    → Appends old mid (concat before) → SendsPart mid new piece → SendsPart old new text
-piece_part old mid new before after piece text are sent (part, rest, whole, some, out) = (
-  concat before ++ part,
-  rest ++ concat after,
-  sym are ∙ concat-append before (piece ∷ after) ∙ ap (λ l. concat before ++ (l ++ concat after)) whole ∙ simp append_assoc,
-  omega (arith, some, length-append rest (concat after)),
-  Appends-trans old mid new (concat before) part sent out,
+pub piece_part : (old mid new : Option (List ℕ)) (pieces more : List (List ℕ)) (piece text : List ℕ) → SentSoFar old mid pieces text
+    → pieces ≡ piece ∷ more → SendsPart mid new piece → SendsPart old new text
+piece_part old mid new pieces more piece text before steps (part, rest, whole, some, out) = (
+  before.done ++ part,
+  rest ++ concat more,
+  sym before.whole ∙ ap (λ l. before.done ++ concat l) steps ∙ ap (λ l. before.done ++ (l ++ concat more)) whole ∙ simp append_assoc,
+  omega (arith, some, length-append rest (concat more)),
+  Appends-trans old mid new before.done part before.out out,
 )
+
+-- no piece is left
+pub all_sent : (old new : Option (List ℕ)) (left : List (List ℕ)) (text : List ℕ) → SentSoFar old new left text → left ≡ [] → Appends old new text
+all_sent old new left text before none =
+    subst (Appends old new) (sym (append-nil before.done) ∙ ap (λ l. before.done ++ concat l) (sym none) ∙ before.whole) before.out
+
+-- fewer pieces are left after one more, and after those that the wire takes behind it
+pub fewer_left : (old new : Option (List ℕ)) (pieces more left : List (List ℕ)) (piece : List ℕ) → pieces ≡ piece ∷ more → PutsFront more left old new
+    → length left < length pieces
+fewer_left old new pieces more left piece steps put =
+    omega (arith, ap length steps, ap length put.left, length-append put.front left)
+
+-- a wire that takes no piece
+pub none_put : (pieces : List (List ℕ)) (out : Option (List ℕ)) → PutsFront pieces pieces out out
+none_put pieces None = record { front = []; left = refl; out = tt }
+none_put pieces (Some bytes) = record { front = []; left = refl; out = sym (append-nil bytes) }
+
+-- a wire that does not tell its bytes
+pub untold_put : (before after : List (List ℕ)) (old new : List ℕ) → PutsFront before after (Some old) (Some new) → PutsFront before after None None
+untold_put before after old new put = record { front = put.front; left = put.left; out = tt }
+
+-- bytes that were written behind the first ones of a room, in a list that has the room at its front, and so many of them
+pub held_more : (held count len : ℕ) (items room part after tail : List ℕ) → room ≡ items → held ≤ length room → count ≤ length part → held + count ≤ len
+    → take (held + count) (take len ((take held room ++ (part ++ after)) ++ tail)) ≡ take held items ++ take count part
+held_more held count len items room part after tail same within low fits =
+    take-take (held + count) len ((take held room ++ (part ++ after)) ++ tail) fits
+    ∙ ap (take (held + count)) (append_assoc (take held room) (part ++ after) tail ∙ ap (λ l. take held room ++ l) (append_assoc part after tail))
+    ∙ ap (λ n. take (n + count) (take held room ++ (part ++ (after ++ tail)))) (sym (length-take-le held room within))
+    ∙ take-append-add (take held room) (part ++ (after ++ tail)) count
+    ∙ ap (λ l. take held room ++ l) (take-append-le count part (after ++ tail) low)
+    ∙ ap (λ l. take held l ++ take count part) same
+
+-- the pieces that were copied behind the bytes held back
+pub held_front : (before front after : List (List ℕ)) (old new bytes : List ℕ) → before ≡ front ++ after → bytes ≡ concat front → new ≡ old ++ bytes
+    → PutsFront before after (Some old) (Some new)
+held_front before front after old new bytes left joined are = record { front = front; left = left; out = are ∙ ap (λ l. old ++ l) joined }
 
 -- no reply is empty
 pub some_reply : (extra : List ℕ) (reply : Reply) → 0 < length (reply_bytes extra reply)

@@ -1,6 +1,14 @@
 -- What writing a text leaves.
 use Rattle.std.specs.Prelude.{◌≡◌, ◌<◌, ℕ, List, ◌++◌, length, Option, Result, Ok, Err}
 use Rattle.std.specs.Io.KnownBytes.{Appends}
+use Rattle.std.specs.List.{concat}
+
+-- Pieces were left, and fewer are left now: those that are not went from the front, and all their bytes went out, one
+-- piece after the other, and nothing else.
+pub record PutsFront (before after : List (List ℕ)) (old new : Option (List ℕ)) : Type 0 where
+  pub front : List (List ℕ)
+  pub left : before ≡ front ++ after
+  pub out : Appends old new (concat front)
 
 -- a front part of the text went out, and not all of it
 abbrev pub SendsPart : Option (List ℕ) → Option (List ℕ) → List ℕ → Type 0

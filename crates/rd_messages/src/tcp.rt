@@ -3,12 +3,15 @@
 ghost use Rattle.std.specs.Duration.{as_nanos};
 ghost use Rattle.std.specs.Io.{ReadsAtMost, WritesAtMost};
 ghost use Rattle.std.specs.Io.KnownBytes.{Appends, WriteAppends};
-ghost use Rattle.std.specs.Prelude.{◌≡◌, ◌↔◌, ◌≤◌, ◌*◌, ◌+◌, ◌<◌, ◌++◌, None, true, false, length, take, vec_len, IfOk, IfSome, IsErr, OnOk};
+ghost use Rattle.std.specs.Prelude.{◌≡◌, ◌↔◌, ◌≤◌, ◌*◌, ◌+◌, ◌<◌, ◌++◌, None, Some, true, false, length, take, vec_len, IfOk, IfSome, IsErr, OnOk};
+ghost use Rattle.rd_protocol.specs.BodyPieces.{pieces_left};
+ghost use Rattle.rd_messages.specs.Sent.{PutsFront};
 ghost use Rattle.rd_messages.specs.Streams.{limits_of};
 
 use crate::pace::{Clock, Pace, TimeLimits, time_left};
 use crate::stream::{Listener, Stream};
 use crate::wire::{Broken, Door, Shut, Wire};
+use rd_protocol::BodyPieces;
 use std::alloc::Global;
 use std::mem;
 use std::net::{TcpListener, TcpStream};
@@ -201,6 +204,19 @@ impl<S: Stream, C: Clock + Drop> StreamWire<S, C> {
         self.held = end;
     }
 
+    /// Holds pieces of a body back, from the front of those that are left: of a file as many as there is room for, but
+    /// never the last.
+    #[inline]
+    fn hold_front_of(&mut self, pieces: &mut BodyPieces<'_>)
+        ensures held { PutsFront (pieces_left pieces.old) (pieces_left pieces.new)
+            (Some (take self.old.held self.old.room.items)) (Some (take self.new.held self.new.room.items)) }
+        ensures unchanged { self.new.write_failed ≡ self.old.write_failed }
+        ensures reads_unchanged { self.new.read_failed ≡ self.old.read_failed }
+    {
+        let count = pieces.copy_front(&mut self.room[self.held..]);
+        self.held += count;
+    }
+
     /// Holds back as many bytes from the front of a slice as there is room for, and gives how many. Where there is no
     /// room, it sends what it holds back before. Without memory for any room, it sends at once what it would hold back.
     ///
@@ -255,6 +271,11 @@ impl<S: Stream, C: Clock + Drop> Wire for StreamWire<S, C> {
             return Ok(bytes.len());
         }
         self.put_front(bytes)
+    }
+
+    #[tactic(auto, using(crate::proofs::SentBytes::untold_put))]
+    fn put_front_of(&mut self, pieces: &mut BodyPieces<'_>) {
+        self.hold_front_of(pieces);
     }
 
     fn flush(&mut self) -> Result<(), Broken> {

@@ -4,7 +4,11 @@ ghost use Rattle.std.specs.Prelude.{◌≡◌, ◌↔◌, ℕ, List, Option, Non
 ghost use Rattle.std.specs.Result.{result_ok};
 ghost use Rattle.std.specs.Io.{ReadsAtMost, WritesAtMost};
 ghost use Rattle.std.specs.Io.KnownBytes.{ReadConsumes, WriteAppends};
+ghost use Rattle.rd_protocol.specs.BodyPieces.{pieces_left};
 ghost use Rattle.rd_messages.specs.DoorVisits.{Admits, Coming, Leaves, NoneToCome, TakesNext, TellsToo, VisitsSoFar};
+ghost use Rattle.rd_messages.specs.Sent.{PutsFront};
+
+use rd_protocol::BodyPieces;
 
 /// A read or a write of a connection failed, or a write took no byte.
 #[derive(Clone, Copy, Debug, PartialEq, Eq)]
@@ -58,6 +62,19 @@ pub trait Wire {
         ensures came { came self.new ≡ came self.old }
         ensures kept { incoming self.new ≡ incoming self.old }
         ensures reads_unchanged { read_failed self.new ≡ read_failed self.old };
+
+    /// Writes pieces of a body from the front of those that are left, each of them whole and one after the other, and
+    /// nothing else. How many these are is the wire's choice: a wire that holds bytes back takes pieces that it has
+    /// room for, and another one takes none. It does not fail.
+    #[tactic(auto, using(crate::proofs::SentBytes::none_put))]
+    fn put_front_of(&mut self, pieces: &mut BodyPieces<'_>)
+        requires { write_failed self.old ≡ false }
+        ensures bytes { PutsFront (pieces_left pieces.old) (pieces_left pieces.new) (outgoing self.old) (outgoing self.new) }
+        ensures working { write_failed self.new ≡ false }
+        ensures came { came self.new ≡ came self.old }
+        ensures kept { incoming self.new ≡ incoming self.old }
+        ensures reads_unchanged { read_failed self.new ≡ read_failed self.old }
+    {}
 
     /// Sends what was put and is held back. A wire that shows its bytes sends them as they are
     /// put, so that this does not fail there.

@@ -28,7 +28,7 @@ pub(crate) fn put_all<W: Wire>(wire: &mut W, bytes: &[u8]) -> Result<(), Broken>
     Ok(())
 }
 
-/// Writes a body, piece by piece.
+/// Writes a body: piece by piece, but for those that the wire takes at once.
 ///
 /// It fails with `Broken` when a write fails: then a front part went out, and not all of it.
 pub(crate) fn put_pieces<W: Wire>(wire: &mut W, body: &Body) -> Result<(), Broken>
@@ -39,8 +39,11 @@ pub(crate) fn put_pieces<W: Wire>(wire: &mut W, body: &Body) -> Result<(), Broke
     ensures came { W.came wire.new ≡ W.came wire.old }
     ensures reads_unchanged { W.read_failed wire.new ≡ W.read_failed wire.old }
 {
-    for piece in body.pieces() {
+    let mut pieces = body.pieces();
+    wire.put_front_of(&mut pieces);
+    while let Some(piece) = pieces.next() {
         put_all(wire, piece)?;
+        wire.put_front_of(&mut pieces);
     }
     Ok(())
 }

@@ -20,6 +20,7 @@ pub mod OneReport
 pub mod CatalogueLemmas
 pub mod Tables
 pub mod SliceLemmas
+pub mod FrontLemmas
 pub mod VerdictOrder
 pub mod JsonWriting
 pub mod PartLemmas

@@ -1,6 +1,7 @@
-ghost use Rattle.std.specs.Prelude.{◌≡◌, ◌<◌, All, IfSome, length};
+ghost use Rattle.std.specs.Prelude.{◌≡◌, ◌<◌, ◌≤◌, All, IfSome, length, take};
 ghost use Rattle.std.specs.Iterator.{YieldsFirstBy};
 ghost use Rattle.std.specs.List.{concat};
+ghost use Rattle.rd_volume.specs.Fronts.{AreOfFront};
 ghost use Rattle.rd_volume.specs.PiecesLeft.{pieces_left as pieces_of_file_left};
 ghost use Rattle.rd_protocol.specs.BodyPieces.{in_one_piece, pieces_left};
 ghost use Rattle.rd_protocol.specs.Lent.{bytes_lent, held, lent_out};
@@ -166,6 +167,31 @@ fn next_of_file<'a>(pieces: &mut Pieces<'a>) -> Option<&'a [u8]>
         }
     }
     None
+}
+
+/// Copies pieces of a file to the front of a slice, one after the other: as many as have room there, but never the last.
+/// It gives how many bytes they have. They do not come again.
+fn copy_front_of_file(pieces: &mut Pieces<'_>, into: &mut [u8]) -> usize
+    ensures within { result ≤ length into.new }
+    ensures copied { AreOfFront (not_empty (pieces_of_file_left pieces.old)) (not_empty (pieces_of_file_left pieces.new))
+        (take result into.new) }
+{
+    pieces.copy_front(into)
+}
+
+impl BodyPieces<'_> {
+    /// Copies pieces to the front of a slice, one after the other, and gives how many bytes they have: of the pieces of
+    /// a file as many as have room there, but never the last; of a text or a table none. They do not come again.
+    #[tactic(auto, using(crate::proofs::FrontLemmas::no_front))]
+    pub fn copy_front(&mut self, into: &mut [u8]) -> usize
+        ensures within { result ≤ length into.new }
+        ensures copied { AreOfFront (pieces_left self.old) (pieces_left self.new) (take result into.new) }
+    {
+        match &mut self.left {
+            Left::Text(_) => 0,
+            Left::File(pieces) => copy_front_of_file(pieces, into),
+        }
+    }
 }
 
 impl<'a> Iterator for BodyPieces<'a> {

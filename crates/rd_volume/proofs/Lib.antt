@@ -5,6 +5,7 @@ pub mod FoundFile
 mod CpmLemmas
 mod CbmLemmas
 mod PieceLemmas
+mod FrontLemmas
 mod CountLemmas
 mod CpmReport
 mod CbmReport

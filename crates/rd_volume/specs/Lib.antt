@@ -15,6 +15,7 @@ pub mod Reports
 pub mod Disks
 pub mod Parts
 pub mod PiecesLeft
+pub mod Fronts
 pub mod Needed
 -- ---- inside: what only private functions and proofs cite
 pub mod Tells

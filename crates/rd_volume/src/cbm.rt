@@ -1,6 +1,6 @@
 //! The files of a 1541 disk, in the form that all kinds share.
 
-ghost use Rattle.std.specs.Prelude.{◌≡◌, ◌≢◌, ◌-◌, ◌<◌, ◌≤◌, ◌==◌, All, IfOk, IfSome, None, Some, count_by, length, not, true};
+ghost use Rattle.std.specs.Prelude.{◌≡◌, ◌≢◌, ◌*◌, ◌-◌, ◌<◌, ◌≤◌, ◌==◌, All, IfOk, IfSome, None, Some, count_by, flat_map, length, not, take, true};
 ghost use Rattle.rd_cbm.specs.BlockMap.{map_of};
 ghost use Rattle.rd_geometry.specs.Blocks.{CBM_BLOCKS, CBM_BLOCK_LENGTH};
 ghost use Rattle.rd_geometry.specs.CbmDisks.{cbm_bytes, cbm_kind};
@@ -27,6 +27,23 @@ pub(crate) fn body<'a>(disk: &CbmDisk<'a>, n: u16) -> &'a [u8]
     ensures sized { length result.now ≡ 254 }
 {
     &disk.unit(n)[2..]
+}
+
+/// Copies what blocks hold of a file to the front of a slice, one after the other: of as many blocks as have room there.
+/// It gives how many these are.
+pub(crate) fn copy_blocks(disk: &CbmDisk<'_>, blocks: &[u16], into: &mut [u8]) -> usize
+    requires { All (λ n. n < CBM_BLOCKS) blocks.now }
+    ensures count { result ≤ length blocks.now }
+    ensures within { 254 * result ≤ length into.new }
+    ensures copied { take (254 * result) into.new
+        ≡ flat_map (body_of (cbm_kind disk.now) (cbm_bytes disk.now)) (take result blocks.now) }
+{
+    let count = blocks.len().min(into.len() / 254);
+    for at in 0..count {
+        let start = 254 * at;
+        into[start..start + 254].copy_from_slice(body(disk, blocks[at]));
+    }
+    count
 }
 
 /// Whether desk serves files of a class.

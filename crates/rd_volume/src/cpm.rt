@@ -1,7 +1,9 @@
 //! The files of a CP/M disk, in the form that all kinds share.
 
-ghost use Rattle.std.specs.Prelude.{◌≡◌, ◌≢◌, ◌*◌, ◌≤◌, ◌==◌, All, IfOk, IfSome, None, Some, count_by, length, not};
+ghost use Rattle.std.specs.Prelude.{◌≡◌, ◌≢◌, ◌*◌, ◌<◌, ◌≤◌, ◌==◌, All, IfOk, IfSome, None, Some, count_by, length, not, take};
+ghost use Rattle.rd_cpm.specs.Contents.{bytes_of_sectors};
 ghost use Rattle.rd_geometry.specs.CpmDisks.{cpm_bytes};
+ghost use Rattle.rd_geometry.specs.Places.{CPM_UNITS};
 ghost use Rattle.rd_volume.specs.CpmFounds.{last_sector_length};
 ghost use Rattle.rd_volume.specs.Tells.{TellsCpm, TellsCpmFiles};
 ghost use Rattle.rd_volume.specs.Founds.{Fits};
@@ -13,7 +15,7 @@ use crate::printed::{cpm_name, cpm_type};
 use crate::reports::Report;
 use rd_cbm::{End, MapReport};
 use rd_cpm::CpmFile;
-use rd_geometry::{CpmDisk, Kind, NoMemory, Text};
+use rd_geometry::{CpmDisk, Geometry, Kind, NoMemory, Text};
 use std::alloc::Global;
 
 /// The counts for a disk without a block map.
@@ -25,6 +27,21 @@ const NO_MAP: MapReport = MapReport {
 
 /// How many bytes a sector has.
 const SECTOR: u16 = 128;
+
+/// Copies sectors to the front of a slice, one after the other: as many as have room there. It gives how many these are.
+pub(crate) fn copy_sectors(disk: &CpmDisk<'_>, sectors: &[u16], into: &mut [u8]) -> usize
+    requires { All (λ n. n < CPM_UNITS) sectors.now }
+    ensures count { result ≤ length sectors.now }
+    ensures within { 128 * result ≤ length into.new }
+    ensures copied { take (128 * result) into.new ≡ bytes_of_sectors (cpm_bytes disk.now) (take result sectors.now) }
+{
+    let count = sectors.len().min(into.len() / 128);
+    for at in 0..count {
+        let start = 128 * at;
+        into[start..start + 128].copy_from_slice(disk.unit(sectors[at]));
+    }
+    count
+}
 
 /// The size of a file in bytes, if it has no fault: its sectors are its records.
 fn size(file: &CpmFile) -> Option<u32>

@@ -1,9 +1,11 @@
-ghost use Rattle.std.specs.Prelude.{◌≡◌, ◌<◌, length};
+ghost use Rattle.std.specs.Prelude.{◌≡◌, ◌*◌, ◌<◌, ◌≤◌, All, flat_map, length, take};
 ghost use Rattle.rd_geometry.specs.Images.{bytes_of, kind_of};
 ghost use Rattle.rd_volume.specs.Kinds.{room_of, unit_count_of};
 ghost use Rattle.rd_volume.specs.Volumes.{body_of};
 
-use crate::cbm::body;
+use crate::cbm::{body, copy_blocks};
+use crate::cpm::copy_sectors;
+use crate::kinds::room;
 use rd_geometry::{CbmDisk, CpmDisk, Geometry, Image, Kind};
 
 /// A disk of either kind.
@@ -37,6 +39,31 @@ impl<'a> Disk<'a> {
         match self {
             Disk::Cpm(disk) => disk.unit(n),
             Disk::Cbm(disk) => body(disk, n),
+        }
+    }
+
+    /// How many bytes of a file a unit holds at most.
+    pub(crate) fn room(&self) -> usize
+        ensures { result ≡ room_of (disk_kind self.now) }
+    {
+        match self {
+            Disk::Cpm(_) => usize::from(room(Kind::Cpm8)),
+            Disk::Cbm(disk) => usize::from(room(disk.kind())),
+        }
+    }
+
+    /// Copies what units hold of a file to the front of a slice, one after the other: of as many units as have room
+    /// there. It gives how many these are.
+    pub(crate) fn copy_bodies(&self, units: &[u16], into: &mut [u8]) -> usize
+        requires { All (λ unit. unit < unit_count_of (disk_kind self.now)) units.now }
+        ensures count { result ≤ length units.now }
+        ensures within { room_of (disk_kind self.now) * result ≤ length into.new }
+        ensures copied { take (room_of (disk_kind self.now) * result) into.new
+            ≡ flat_map (body_of (disk_kind self.now) (disk_bytes self.now)) (take result units.now) }
+    {
+        match self {
+            Disk::Cpm(disk) => copy_sectors(disk, units, into),
+            Disk::Cbm(disk) => copy_blocks(disk, units, into),
         }
     }
 }

@@ -1,4 +1,4 @@
-ghost use Rattle.std.specs.Prelude.{◌≡◌, ◌<◌, ◌≤◌, All};
+ghost use Rattle.std.specs.Prelude.{◌≡◌, ◌<◌, ◌≤◌, All, length, take};
 ghost use Rattle.rd_volume.specs.Disks.{disk_bytes, disk_kind};
 ghost use Rattle.rd_volume.specs.Kinds.{room_of, unit_count_of};
 
@@ -15,6 +15,7 @@ pub struct Pieces<'a> {
 }
 
 impl<'a> Pieces<'a> {
+    ghost use Rattle.rd_volume.specs.Fronts.{AreOfFront};
     ghost use Rattle.rd_volume.specs.PiecesLeft.{pieces_left};
     ghost use Rattle.rd_volume.specs.Volumes.{pieces_of};
 
@@ -30,6 +31,18 @@ impl<'a> Pieces<'a> {
             units,
             last_len,
         }
+    }
+
+    /// Copies pieces to the front of a slice, one after the other: as many as have room there, but never the last. It
+    /// gives how many bytes they have. They do not come again.
+    pub fn copy_front(&mut self, into: &mut [u8]) -> usize
+        ensures within { result ≤ length into.new }
+        ensures copied { AreOfFront (pieces_left self.old) (pieces_left self.new) (take result into.new) }
+    {
+        let before_last = self.units.len().saturating_sub(1);
+        let count = self.disk.copy_bodies(&self.units[..before_last], into);
+        self.units = &self.units[count..];
+        self.disk.room() * count
     }
 }
 
