@@ -5,12 +5,7 @@ use Rattle.serde.specs.Event.{Log, Logs, WritesEach, WritesOption, WritesSeq}
 use Rattle.serde_json.specs.Data.{Data, array, string}
 use Rattle.serde_json.specs.Events.{SendsItems, SendsValue, items_len}
 use Rattle.serde_json.specs.View.{items_of}
-use Rattle.rd_protocol.specs.Texts.{natural_or_null, text_or_null, texts}
-
--- a number, or none
-pub sent_option : (number : Option ℕ) (old new : Log) → WritesOption (λ n before after. Logs before after (event.unsigned n)) number old new → SendsValue (natural_or_null number) old new
-sent_option None old new is = is
-sent_option (Some number) old new is = is
+use Rattle.rd_protocol.specs.Texts.{text_or_null, texts}
 
 module _ {A : Type 0} where
   sent_items : (f : A → Data) (xs : List A) (first last new : Log) → WritesEach (λ x. SendsValue (f x)) xs first last → Logs last new event.seq_ends → SendsItems (items_of (map f xs)) first new

@@ -33,3 +33,4 @@ pub mod RuleTextLemmas
 pub mod LineLemmas
 pub mod StaffListLemmas
 pub mod UnitLemmas
+pub mod TokenLemmas

@@ -34,5 +34,6 @@ pub mod Hidden
 pub mod Parts
 -- ---- inside: what only private functions and proofs cite
 pub mod Written
+pub mod Tokens
 pub mod UnitBytes
 pub mod Queries

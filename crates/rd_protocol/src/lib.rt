@@ -6,6 +6,7 @@ mod catalogue;
 mod checks;
 mod contents;
 mod laws;
+mod listings;
 mod lists;
 pub mod parts;
 mod refusal;

@@ -11,7 +11,8 @@ ghost use Rattle.rd_protocol.specs.Texts.{DONE, UNAVAILABLE, counts_data, detail
 
 use crate::body::Body;
 use crate::catalogue::table;
-use crate::lists::{images_reply, listing_reply};
+use crate::listings::listing_reply;
+use crate::lists::images_reply;
 use crate::refusal::Refusal;
 use crate::response::{Form, Reply, Response, Survey};
 use crate::staff_lists::list_reply;
