@@ -1,8 +1,9 @@
 //! The files of an accession as JSON (RFC 8259): written token by token, without building a value first.
 
-ghost use Rattle.std.specs.Prelude.{◌≡◌, IfOk, OnOk, map};
+ghost use Rattle.std.specs.Prelude.{◌≡◌, IfOk, OnOk, map, string_bytes};
 ghost use Rattle.serde_json.specs.Data.{array};
 ghost use Rattle.serde_json.specs.View.{items_of};
+ghost use Rattle.rd_policy.specs.Verdicts.{label_text};
 ghost use Rattle.rd_volume.specs.Words.{words_of};
 ghost use Rattle.rd_protocol.specs.Lent.{held};
 ghost use Rattle.rd_protocol.specs.Texts.{file_data, in_json, line_data, listing_data, natural_or_null, texts};
@@ -12,6 +13,7 @@ use crate::body::Body;
 use crate::response::{Form, Line, Listing, Reply};
 use json::Writer;
 use rd_geometry::{Items, Kind, NoMemory};
+use rd_policy::Label;
 use rd_volume::{Found, fault_words};
 use std::alloc::{AllocError, Global};
 
@@ -78,13 +80,41 @@ fn put_file(
     out.end_object()
 }
 
-/// Writes a listed file of an image of a kind.
-fn put_line(out: &mut Writer, alloc: Global, kind: Kind, line: &Line) -> Result<(), AllocError>
+/// The label of a rule with its text.
+#[derive(Drop)]
+struct RuleText {
+    label: Label,
+    text: String,
+    ghost of_label: { string_bytes text ≡ label_text label },
+}
+
+impl RuleText {
+    fn of(alloc: Global, label: Label) -> Result<RuleText, AllocError>
+        ensures { IfOk result (λ rule. rule.label ≡ label) }
+    {
+        let text = label.to_string(alloc)?;
+        Ok(RuleText { label, text })
+    }
+
+    /// A label with its text, which is not made again if it is the one here.
+    fn with_label(self, alloc: Global, label: Label) -> Result<RuleText, AllocError>
+        ensures { IfOk result (λ rule. rule.label ≡ label) }
+    {
+        if self.label == label {
+            Ok(self)
+        } else {
+            RuleText::of(alloc, label)
+        }
+    }
+}
+
+/// Writes a listed file of an image of a kind, with the label of the rule that decided.
+fn put_line(out: &mut Writer, kind: Kind, rule: &RuleText, line: &Line) -> Result<(), AllocError>
+    requires { rule.now.label ≡ line.now.verdict.label }
     ensures { OnOk result (Gains out.old out.new (tokens_of (line_data kind line.now))) }
 {
     let effect = line.verdict.effect.word();
-    let rule = line.verdict.label.to_string(alloc)?;
-    put_file(out, effect, rule.as_str(), kind, &line.file)
+    put_file(out, effect, rule.text.as_str(), kind, &line.file)
 }
 
 /// Writes the files of an image of a kind as an array.
@@ -92,8 +122,10 @@ fn put_lines(out: &mut Writer, alloc: Global, kind: Kind, lines: &[Line]) -> Res
     ensures { OnOk result (Gains out.old out.new (tokens_of (array (items_of (map (line_data kind) lines.now))))) }
 {
     out.begin_array()?;
+    let mut rule = RuleText::of(alloc, Label::Default)?;
     for line in lines {
-        put_line(out, alloc, kind, line)?;
+        rule = rule.with_label(alloc, line.verdict.label)?;
+        put_line(out, kind, &rule, line)?;
     }
     out.end_array()
 }
