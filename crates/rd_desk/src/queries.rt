@@ -29,6 +29,7 @@ pub(crate) struct Caller {
     pub day: i32,
 }
 
+#[inline(always)]
 fn judge(rules: &[Rule], caller: &Caller, file: &Found) -> Verdict
     requires { AreInOrder rules.now }
     ensures { IsVerdict (Contains rules.now) caller.now.audience caller.now.day file.now result }
@@ -37,6 +38,7 @@ fn judge(rules: &[Rule], caller: &Caller, file: &Found) -> Verdict
 }
 
 /// The verdict of takedowns on a file, for a caller, and where none of them matches, of rules.
+#[inline(always)]
 pub(crate) fn judge_in_turn(
     takedowns: &[Rule],
     rules: &[Rule],

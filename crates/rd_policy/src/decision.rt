@@ -39,6 +39,7 @@ pub fn in_order(rules: &[Rule]) -> bool
 /// The rules are the takedowns of the file's accession and the rules of its deed, in order. The
 /// first rule that matches decides; if none matches, the file is denied. The day is counted from
 /// 1970-01-01.
+#[inline(always)]
 pub fn decide(rules: &[Rule], audience: Audience, day: i32, file: &Found) -> Verdict
     requires { AreInOrder rules.now }
     ensures { IsVerdict (Contains rules.now) audience day file.now result }

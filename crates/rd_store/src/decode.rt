@@ -22,6 +22,7 @@ pub(crate) fn number_at(row: &Row, at: usize) -> Result<u32, StoreFault>
 }
 
 /// The natural number in a column that may be NULL.
+#[inline(always)]
 pub(crate) fn some_number_at(row: &Row, at: usize) -> Result<Option<u32>, StoreFault>
     ensures value { IfOk result (λ number. column row.now at ≡ or_null Int (option_map pos number)) }
     ensures fault { IfErr result (λ fault. fault ≡ StoreFault.Sql) }
@@ -177,6 +178,7 @@ fn spell_out(units: &mut [u16], bytes: &[u8])
 }
 
 /// The units that bytes spell, two for each, the high byte first.
+#[inline(always)]
 pub(crate) fn units(alloc: Global, bytes: &[u8]) -> Result<Vec<u16>, StoreFault>
     ensures value { IfOk result (λ units. units.items ≡ units_in bytes.now) }
     ensures fault { IfErr result (λ fault. fault ≡ StoreFault.Sql) }

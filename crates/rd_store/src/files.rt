@@ -53,6 +53,7 @@ fn u16_at(row: &Row, at: usize) -> Result<u16, StoreFault>
 }
 
 /// The number below 256 in a column.
+#[inline(always)]
 fn byte_at(row: &Row, at: usize) -> Result<u8, StoreFault>
     ensures value { IfOk result (λ number. number ≡ natural (column row.now at)) }
     ensures fault { IfErr result (λ fault. fault ≡ StoreFault.Sql) }
@@ -72,6 +73,7 @@ fn user_at(row: &Row, at: usize) -> Result<Option<u8>, StoreFault>
 }
 
 /// The units in a column.
+#[inline(always)]
 fn units_at(alloc: Global, row: &Row, at: usize) -> Result<Items<u16>, StoreFault>
     ensures value { IfOk result (λ items. items ≡ units_in (bytes (column row.now at))) }
     ensures fault { IfErr result (λ fault. fault ≡ StoreFault.Sql) }
@@ -83,6 +85,7 @@ fn units_at(alloc: Global, row: &Row, at: usize) -> Result<Items<u16>, StoreFaul
 }
 
 /// The file that a row shows.
+#[inline(always)]
 fn read_file(alloc: Global, row: &Row) -> Result<Found, StoreFault>
     ensures file { IfOk result (λ file. file ≡ file_in row.now) }
     ensures fault { IfErr result (λ fault. fault ≡ StoreFault.Sql) }
