@@ -1,0 +1,20 @@
+use Rattle.std.proofs.Common.{◌≡◌, subst, sym}
+use Rattle.core.specs.Fmt.{HasWritten}
+use Rattle.rd_explanations.specs.Lines.{line_text}
+use Rattle.rd_explanations.proofs.line.LineDisplay.fmt.Goals as goal
+
+pub returns-in-Size-clause-writes : goal.returns-in-Size-clause-writes
+returns-in-Size-clause-writes g c = λ plain ok.
+    subst (λ line. HasWritten g.W.Write.write_str_gives c.args.f.now (line_text line) c.write-in-Size.new.self) (sym c.in-Size.is) (c.write-in-Size.ensures.writes plain ok)
+
+pub returns-in-TooLong-clause-writes : goal.returns-in-TooLong-clause-writes
+returns-in-TooLong-clause-writes g c = λ plain ok.
+    subst (λ line. HasWritten g.W.Write.write_str_gives c.args.f.now (line_text line) c.write-in-TooLong.new.self) (sym c.in-TooLong.is) (c.write-in-TooLong.ensures.writes plain ok)
+
+pub returns-in-Length-clause-writes : goal.returns-in-Length-clause-writes
+returns-in-Length-clause-writes g c = λ plain ok.
+    subst (λ line. HasWritten g.W.Write.write_str_gives c.args.f.now (line_text line) c.write-in-Length.new.self) (sym c.in-Length.is) (c.write-in-Length.ensures.writes plain ok)
+
+pub returns-in-More-clause-writes : goal.returns-in-More-clause-writes
+returns-in-More-clause-writes g c = λ plain ok.
+    subst (λ line. HasWritten g.W.Write.write_str_gives c.args.f.now (line_text line) c.write-in-More.new.self) (sym c.in-More.is) (c.write-in-More.ensures.writes plain ok)

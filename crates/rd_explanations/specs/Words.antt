@@ -1,0 +1,80 @@
+-- The words of an explanation.
+use Rattle.std.specs.Prelude.{ℕ, List, codes}
+use Rattle.std.specs.declared.io.ErrorKind.{ErrorKind}
+use Rattle.std.specs.declared.io.ErrorKind.TheVariants as system
+use Rattle.rd_explanations.specs.declared.said.Said.{Said}
+use Rattle.rd_explanations.specs.declared.said.Said.TheVariants as said
+use Rattle.rd_explanations.specs.declared.words.Advice.{Advice}
+use Rattle.rd_explanations.specs.declared.words.Advice.TheVariants.{CheckKey, CheckPath, CopyAgain, CopyAnew, FreshPath, InitFirst, KeepGoing, KnownNumber, ListSlots, MakeFolder, NameColumns, OtherMoment, OtherPlace, OtherProgram, OtherType, Restore, ShortKey, StaffKey, UseCommas, ZoneFile}
+use Rattle.rd_explanations.specs.declared.words.Column.{Column}
+use Rattle.rd_explanations.specs.declared.words.Column.TheVariants as column
+use Rattle.rd_explanations.specs.declared.words.Reason.{Reason}
+use Rattle.rd_explanations.specs.declared.words.Reason.TheVariants as reason
+
+-- the name of a column in the first row of a sheet
+abbrev pub column_word : Column → List ℕ
+column_word column.Accession = codes "accession"
+column_word column.Kind = codes "kind"
+column_word column.Deed = codes "deed"
+column_word column.Digest = codes "sha256"
+column_word column.File = codes "file"
+
+-- what to do next
+abbrev pub advice_text : Advice → List ℕ
+advice_text CheckPath = codes "Check how the path is written, and that you may read it."
+advice_text InitFirst = codes "Make a desk there with desk init, or give the path of one."
+advice_text OtherPlace = codes "Give another port, or stop what uses this one."
+advice_text CopyAgain = codes "No kind of disk has images of this size: copy the disk again."
+advice_text NameColumns = codes "The first row must be: accession,kind,deed,sha256,file"
+advice_text UseCommas = codes "Save the sheet as CSV with commas between the fields."
+advice_text ListSlots = codes "Give a slot as the number that desk list shows first."
+advice_text CheckKey = codes "Give a key that the desk knows: one of the staff may show all keys."
+advice_text StaffKey = codes "Only the staff may do this: give a key of the staff."
+advice_text OtherMoment = codes "Set the clock of this machine, or name a moment by --at."
+advice_text OtherProgram = codes "Use the desk that made this store, or a newer one."
+advice_text Restore = codes "Give the file of a store, or bring back a backup of it."
+advice_text ShortKey = codes "Put the key alone into the first line of the file: at most 4096 bytes."
+advice_text ZoneFile = codes "Give a file as those below /usr/share/zoneinfo, or a rule by --zone."
+advice_text MakeFolder = codes "Make the folder first, or give the path of one."
+advice_text KeepGoing = codes "Import again: what is done stays, and --keep-going goes past such files."
+advice_text FreshPath = codes "Give a path where nothing is yet, or move away what is there."
+advice_text CopyAnew = codes "Remove the new file and its log, if they are there, and copy again."
+advice_text OtherType = codes "Give the slot of a file of the type SEQ, PRG or USR: desk gives the bytes of these."
+advice_text KnownNumber = codes "Give the number of an accession that stands: desk show checks names them all."
+
+-- why the desk does not take in the image of a row
+abbrev pub reason_text : Reason → List ℕ
+reason_text reason.NoDeed = codes "no deed of this number stands; put the deed first."
+reason_text reason.Size = codes "the file has another size than an image of this kind."
+reason_text reason.Digest = codes "the file has another SHA-256 than the sheet says."
+reason_text reason.Conflict = codes "another image stands at this accession."
+reason_text reason.Key = codes "the key is none of the staff."
+reason_text reason.Other = codes "the desk refuses it."
+
+-- what the system says
+abbrev pub said_text : Said → List ℕ
+said_text said.Missing = codes "there is no such file"
+said_text said.Denied = codes "the system does not allow it"
+said_text said.Folder = codes "it is a folder"
+said_text said.NoFolder = codes "a part of the path is no folder"
+said_text said.Standing = codes "there is one already"
+said_text said.Full = codes "the disk is full"
+said_text said.Closed = codes "nobody reads what is written there"
+said_text said.Taken = codes "another program uses it"
+said_text said.Unfit = codes "it is no file of the right sort"
+said_text said.Failed = codes "the system failed, and says no more"
+
+-- what a kind of error says
+abbrev pub said_of : ErrorKind → Said
+said_of system.NotFound = said.Missing
+said_of system.PermissionDenied = said.Denied
+said_of system.IsADirectory = said.Folder
+said_of system.NotADirectory = said.NoFolder
+said_of system.AlreadyExists = said.Standing
+said_of system.StorageFull = said.Full
+said_of system.QuotaExceeded = said.Full
+said_of system.BrokenPipe = said.Closed
+said_of system.AddrInUse = said.Taken
+said_of system.InvalidData = said.Unfit
+said_of system.FileTooLarge = said.Unfit
+said_of _ = said.Failed
