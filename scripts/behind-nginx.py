@@ -195,7 +195,7 @@ def see_zones(seen, room):
         places.write_text(good.replace("ZONE=UTC0", f"ZONE={text}"))
         seen.same(f"zones: {text!r} to configure", 0 if taken else 1, configured(places, folder)[0])
         if taken:
-            seen.same(f"zones: {text} in the service", True, f" --zone {text} --count " in service_of(folder))
+            seen.same(f"zones: {text} in the service", True, f" --zone {text}\n" in service_of(folder))
     for offset, rule in OFFSETS.items():
         places.write_text(good.replace("ZONE=UTC0", f"OFFSET={offset}"))
         told = f"OFFSET is now ZONE: OFFSET={offset} becomes ZONE={rule}, or better the rule of your own clock"

@@ -236,11 +236,11 @@ def see_ends(seen, machine):
         machine.says(RELOAD)
         seen.same(f"SIG{signal}: a visit before", FIRST_LINE, machine.says(FILE))
         see_end(seen, machine, f"SIG{signal}", f"kill -{signal} {PID}")
-    machine.says(f"sed -i 's/--count 1000000/--count 3/' {UNIT}; {RELOAD}")
+    machine.says(f"sed -i 's/^ExecStart=.*/& --count 3/' {UNIT}; {RELOAD}")
     seen.same("count: a visit before", FIRST_LINE, machine.says(FILE))
     see_end(seen, machine, "count", f"{STATUS}; {STATUS}")
     seen.same("count: told", "served 3", machine.says("journalctl -u desk -o cat | grep ^served"))
-    machine.says(f"sed -i 's/--count 3/--count 1000000/; s/^RestartSec=.*/RestartSec=2/' {UNIT}; {RELOAD}")
+    machine.says(f"sed -i 's/ --count 3$//; s/^RestartSec=.*/RestartSec=2/' {UNIT}; {RELOAD}")
 
 
 def main():

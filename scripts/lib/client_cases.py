@@ -709,8 +709,10 @@ PATHS = [
 USAGE = [
     ("no key", "init --store STORE"),
     ("no store", "init --key abc"),
-    ("no port", "serve --store STORE --count 0"),
-    ("no count", "serve --store STORE --port PORT"),
+    ("a port and a socket", "serve --store STORE --port PORT --socket door --count 0"),
+    ("two keys", "init --store STORE --key abc --key-file key.txt"),
+    ("two rules of clocks", "serve --store STORE --port PORT --count 0 --zone UTC0 --zone-file Prague"),
+    ("a moment that is none", "export --store STORE --at today"),
     ("port 0", "serve --store STORE --port 0 --count 0"),
     ("port 65,536", "serve --store STORE --port 65536 --count 0"),
     ("a count below 0", "serve --store STORE --port PORT --count=-1"),

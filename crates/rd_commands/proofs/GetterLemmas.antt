@@ -24,8 +24,9 @@ use Rattle.rd_policy.specs.declared.zone.Zone.{Zone}
 use Rattle.rd_policy.specs.declared.zone.ZoneFault.{ZoneFault}
 use Rattle.rd_geometry.specs.Kinds.{word_of}
 use Rattle.clap.specs.declared.error.kind.ErrorKind.{ErrorKind}
-use Rattle.rd_commands.specs.Asks.{EntersAs, EntersByRule, EntersCat, EntersCheck, EntersCopy, EntersExport, EntersImport, EntersInit, EntersList, EntersNaming, EntersNamingNone, EntersNoPlace, EntersServe, EntersShow, EntersStaffKey, EntersSumming, EntersTelling, EntersTimed, HasTimeouts, IsCopyAsk, EntersTrusting, IsMistake, IsWithinLimits, IsFaultOf, IsForMemory, IsFileAsk, IsFilesAsk, IsHelp, IsImportAsk, IsInitAsk, IsMomentNamed, IsOneQuestionAsk, IsServeAsk, IsStaffKeyAsk, TellsOnOutput, has_sums, is_trusting}
+use Rattle.rd_commands.specs.Asks.{EntersAs, EntersByRule, EntersCat, EntersCheck, EntersCopy, EntersExport, EntersImport, EntersInit, EntersList, EntersNaming, EntersNamingNone, EntersNoPlace, EntersServe, EntersShow, EntersStaffKey, EntersSumming, EntersTelling, EntersTimed, HasTimeouts, IsCopyAsk, IsFaultOf, IsFileAsk, IsFilesAsk, IsForMemory, IsHelp, IsImportAsk, IsInitAsk, IsMistake, IsMomentNamed, IsOneQuestionAsk, IsServeAsk, IsStaffKeyAsk, IsWithinLimits, TellsOnOutput, has_sums, EntersTrusting, is_trusting}
 use Rattle.rd_commands.specs.CommandLine.{AsksForHelp, Enters, HasFault, IsDeskApp, IsTaken, IsTakenAs, IsTakenTelling, NameList, desk_app}
+use Rattle.rd_commands.specs.Beside.{EntersApart, IsTakenApart}
 use Rattle.rd_commands.specs.Commands.{AsksCheck, AsksCopy, AsksExport, AsksImport, AsksInit, AsksServe, AsksShow, AsksStaffKey, IsAskOf, IsCommand, IsTakenServingNowhere, IsTakenShowingNothing, NamesWhatItShows, Sums, TellsARule, Trusts}
 use Rattle.rd_commands.specs.Serving.{Place}
 use Rattle.rd_commands.specs.Words.{AsksCat, AsksList, IsSlotText}
@@ -34,7 +35,7 @@ use Rattle.rd_commands.specs.declared.words.Ask.{Ask}
 use Rattle.rd_commands.specs.declared.words.Question.TheVariants.{Catalogue, Check, Show}
 use Rattle.rd_commands.specs.declared.words.Shown.{Shown}
 use Rattle.rd_commands.specs.declared.words.Unread.{Unread}
-use Rattle.rd_commands.specs.declared.words.Unread.TheVariants.{Day, NoMemory, Place as NoPlace, Clap, Usage}
+use Rattle.rd_commands.specs.declared.words.Unread.TheVariants.{Day, Key, Moment, NoMemory, Place as NoPlace, Clap, Usage, Zones}
 use Rattle.rd_commands.proofs.CatLine.{gives_cat, simple, takes_cat}
 use Rattle.rd_commands.proofs.ListLine.{gives_list, takes_list}
 use Rattle.rd_commands.proofs.ShowWords.{command_names, named_given, named_some}
@@ -91,17 +92,6 @@ slot_is text slot r read number = number_is 16 text slot r read number.reads
 -- how `parse` reads a number of 64 bits with a sign
 abbrev pub ReadsSigned : Text → Result ℤ ParseIntError → Type 0
 ReadsSigned text r = ParsesSigned w64 10 text r × ExplainsSignedError 10 text r × HasSignedDigitsIfOk text r
-
-signed_is : (text : Text) (number : ℤ) (r : Option ℤ) → ReadsOne ReadsSigned text r → ParsesSigned {E = ParseIntError} w64 10 text (Ok number)
-    → r ≡ Some number
-signed_is text number (Some n) read parses = ap Some (read.0.1 ∙ sym parses.1)
-signed_is text number None read parses = absurd (read.1.0 parses.0)
-
--- the moment that is read is the one that is told
-pub moment_is : (o : Option Text) (moment r : Option ℤ) → (o ≡ None → r ≡ None) → ((text : Text) → o ≡ Some text → ReadsOne ReadsSigned text r)
-    → IsMomentNamed o moment → r ≡ moment
-moment_is (Some text) moment r none value told = signed_is text told.0 r (value text refl) told.1 ∙ sym told.2
-moment_is None moment r none value told = none refl ∙ sym told
 
 -- the truth value that is read is the one that is told
 pub flag_is : (o : Option Text) (flag r : Bool) → (o ≡ None → r ≡ false) → (o ≡ Some (codes "true") → r ≡ true) → (o ≡ Some (codes "false") → r ≡ false)
@@ -219,6 +209,9 @@ help_asked words (Clap error) help fault = elim fault [
 help_asked words Usage help fault = absurd help
 help_asked words Day help fault = absurd help
 help_asked words NoPlace help fault = absurd help
+help_asked words Key help fault = absurd help
+help_asked words Zones help fault = absurd help
+help_asked words Moment help fault = absurd help
 help_asked words NoMemory help fault = absurd help
 
 -- a command is found
@@ -424,6 +417,10 @@ module _ (app : App) (words : List Text) (m : ArgMatches) (desk : IsDeskApp app)
   pub taken_serving : EntersNoPlace (subcommand_rows_of m) → IsTakenServingNowhere words
   taken_serving entered = (taken_as (codes "serve") (entered.0, entered.1), entered.2)
 
+  -- words whose options do not go together are taken as their command
+  pub taken_apart : EntersApart (subcommand_rows_of m) → IsTakenApart words
+  taken_apart entered = (entered.0, taken_as entered.0 (entered.1, entered.2), entered.3)
+
   taken_telling : EntersTelling (subcommand_rows_of m) → IsTakenTelling words
   taken_telling (inl import) = inl (taken_as (codes "import") import)
   taken_telling (inr check) = inr (taken_as (codes "check") check)
@@ -433,3 +430,16 @@ module _ (app : App) (words : List Text) (m : ArgMatches) (desk : IsDeskApp app)
       → IfSome o (λ ask. TellsOnOutput ask → EntersTelling (subcommand_rows_of m)) → IfOk r (λ ask. TellsOnOutput ask → IsTakenTelling words)
   taken_on_output (Some ask) fault r is enters = subst (λ x. IfOk x (λ ask. TellsOnOutput ask → IsTakenTelling words)) (sym is) (λ tells. taken_telling (enters tells))
   taken_on_output None fault r is enters = subst (λ x. IfOk x (λ ask. TellsOnOutput ask → IsTakenTelling words)) (sym is) tt
+
+-- the command that a parse went into, with its rows
+pub entered_here : (m : ArgMatches) (name : Text) (rows : List Row) → Some name ≡ subcommand_name_of m
+    → Some rows ≡ option_map (λ (p : Text × List Row). p.1) (subcommand_rows_of m) → subcommand_rows_of m ≡ Some (name, rows)
+entered_here m name rows is are =
+    let entered = entered_as m name rows is are in
+    let same : entered.0 ≡ rows = rows_met m name entered.0 rows entered.1 (sym are) in
+    entered.1 ∙ ap (λ (r : List Row). Some (name, r)) same
+
+-- the same, by another spelling of its name
+pub entered_named : (m : ArgMatches) (name shown : Text) (rows : List Row) → Some name ≡ subcommand_name_of m
+    → Some rows ≡ option_map (λ (p : Text × List Row). p.1) (subcommand_rows_of m) → name ≡ shown → subcommand_rows_of m ≡ Some (shown, rows)
+entered_named m name shown rows is are same = entered_here m name rows is are ∙ ap (λ (n : Text). Some (n, rows)) same

@@ -7,8 +7,11 @@ mod HelpNames
 pub mod VersionLine
 pub mod ShowWords
 pub mod GetterLemmas
+pub mod Together
+pub mod Looks
 pub mod Places
 pub mod WriterLemmas
+pub mod ExplainLemmas
 pub mod ReadLimits
 pub mod RefusalLine
 pub mod ListLemmas
@@ -16,3 +19,4 @@ pub mod CatLemmas
 pub mod RunLemmas
 pub mod BlankedWords
 pub mod RowFields
+pub mod Locals

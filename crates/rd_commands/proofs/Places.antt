@@ -1,15 +1,19 @@
 -- The place and the seconds that the words of `serve` give.
 use Rattle.std.proofs.Common.{◌≡◌, ◌⊎◌, ◌∙◌, ◌==◌, ℕ, IfErr, IfSome, List, [], ◌∷◌, None, Option, Result, Some, Ok, Err, ap, codes, false, inl, inr, refl, subst, sym, true}
-use Rattle.std.specs.Prelude.{IsSomeAnd, ok_or, unwrap_or}
+use Rattle.std.specs.Prelude.{IsSomeAnd, find, ok_or, option_and_then, option_map, slice_get, unwrap_or}
+use Rattle.std.specs.Str.{bytes_eq}
 use Rattle.std.specs.Str.Parse.{ParsesUnsigned}
 use Rattle.std.specs.declared.num.ParseIntError.{ParseIntError}
-use Rattle.clap.specs.Words.{App, HasMatchesOf, Row, Text, first_of, one_of, subcommand_of, subcommand_rows_of}
+use Rattle.clap.specs.Walk.{row_text}
+use Rattle.clap.specs.Words.{App, HasMatchesOf, Row, Text, first_of, one_of, read_as, subcommand_of, subcommand_rows_of}
 use Rattle.clap.specs.Matches.{ReadsOne}
 use Rattle.clap.specs.declared.parser.matches.ArgMatches.{ArgMatches}
-use Rattle.rd_commands.specs.Asks.{EntersAtAPlace, EntersNamingNone, EntersNoPlace, IsFaultOf, IsForMemory, IsMistake}
+use Rattle.rd_commands.specs.Asks.{EntersAtAPlace, EntersNamed, EntersNamingNone, EntersNoPlace, IsFaultOf, IsForMemory, IsMistake, IsSeenFault}
+use Rattle.rd_commands.specs.Beside.{EntersApart, EntersBeside, EntersTogether, FitsTogether, IsApart, TellsBeside}
+use Rattle.rd_commands.specs.declared.beside.Beside.{Beside}
 use Rattle.rd_commands.specs.CommandLine.{IsDeskApp}
 use Rattle.rd_commands.specs.Commands.{IsCommand, NamesAPlace, NamesWhatItShows}
-use Rattle.rd_commands.specs.Serving.{AreSeconds, GivesTimeouts, IsNumberTold, NamesOnePlace, NamesPlace, Place, place_of}
+use Rattle.rd_commands.specs.Serving.{AreSeconds, GivesTimeouts, IsCountGiven, IsCountTold, IsNumberTold, IsPortTold, NamesOnePlace, NamesPlace, Place, place_of}
 use Rattle.rd_commands.specs.Serving.Place.{Port, Socket}
 use Rattle.rd_commands.specs.declared.serving.Place.{Place as Told}
 use Rattle.rd_commands.specs.declared.serving.Timeouts.{Timeouts}
@@ -17,6 +21,7 @@ use Rattle.rd_commands.specs.declared.words.Ask.{Ask}
 use Rattle.rd_commands.specs.declared.words.Unread.{Unread}
 use Rattle.rd_commands.specs.declared.words.Unread.TheVariants.{Day, NoMemory, Place as NoPlace, Usage}
 use Rattle.rd_commands.proofs.GetterLemmas.{ReadsAs, day_mistake, day_no_fault, entered_is, number_is, unnamed}
+use Rattle.rd_commands.proofs.Together.{command_together}
 use Rattle.rd_commands.proofs.CatLine.{gives_cat}
 use Rattle.rd_commands.proofs.ListLine.{gives_list}
 
@@ -59,14 +64,14 @@ socket_named rows path None there given = tt
 
 -- where there is no socket, a place that is named is the port that is read
 pub port_is : (rows : List Row) (read : Option ℕ) (place : Place) → None ≡ first_of (codes "socket") rows
-    → ((text : Text) (port : ℕ) → one_of (codes "port") rows ≡ Some text → ParsesUnsigned {E = ParseIntError} 16 10 text (Ok port) → read ≡ Some port)
+    → ((port : ℕ) → IsPortTold rows port → read ≡ Some port)
     → NamesPlace rows place → (port : ℕ) × (place ≡ Port port) × (read ≡ Some port)
-port_is rows read (Port port) absent asked named = (port, refl, asked named.0.0 port named.0.1 named.0.2)
+port_is rows read (Port port) absent asked named = (port, refl, asked port named.0)
 port_is rows read (Socket path) absent asked named = absurd (there_and_absent _ path (sym named.0) (sym absent))
 
 -- so none is named where no port is read
 pub no_port : (rows : List Row) (place : Place) → None ≡ first_of (codes "socket") rows
-    → ((text : Text) (port : ℕ) → one_of (codes "port") rows ≡ Some text → ParsesUnsigned {E = ParseIntError} 16 10 text (Ok port) → None ≡ Some port)
+    → ((port : ℕ) → IsPortTold rows port → None ≡ Some port)
     → NamesPlace rows place → ⊥
 no_port rows place absent asked named =
     let is = port_is rows None place absent asked named in
@@ -74,13 +79,63 @@ no_port rows place absent asked named =
 
 -- and the one that is read is the place
 pub port_place : (rows : List Row) (port : ℕ) (place : Place) → None ≡ first_of (codes "socket") rows
-    → ((text : Text) (other : ℕ) → one_of (codes "port") rows ≡ Some text → ParsesUnsigned {E = ParseIntError} 16 10 text (Ok other) → Some port ≡ Some other)
+    → ((other : ℕ) → IsPortTold rows other → Some port ≡ Some other)
     → NamesPlace rows place → Port port ≡ place
 port_place rows port place absent asked named =
     let is = port_is rows (Some port) place absent asked named in
     let both : Some port ≡ Some is.0 = is.2 in
     let same : port ≡ is.0 = cc both in
     ap Port same ∙ sym is.1
+
+-- ---- what is told, or absent
+
+-- an option of which no text is read first has no text that is read as one
+pub absent_one : (id : Text) (rows : List Row) → first_of id rows ≡ None → one_of id rows ≡ None
+absent_one id rows absent = row (find (λ r. bytes_eq r.id id) rows) absent
+  where
+    row : (found : Option Row) → option_and_then (λ (r : Row). slice_get r.values 0) found ≡ None → option_and_then row_text found ≡ None
+    row (Some r) none = ap (option_map (read_as r.reading)) none
+    row None none = refl
+
+-- so one of them is not there where the other is absent
+pub one_and_absent : (id : Text) (rows : List Row) (text : Text) → one_of id rows ≡ Some text → first_of id rows ≡ None → ⊥
+one_and_absent id rows text there absent = there_and_absent (one_of id rows) text (sym there) (absent_one id rows absent)
+
+-- a port that is read is told
+pub port_told : (rows : List Row) (read : Option ℕ) → IfSome read (IsNumberTold (one_of (codes "port") rows)) → IfSome read (IsPortTold rows)
+port_told rows (Some port) told = inl told
+port_told rows None told = tt
+
+-- where there is a text, a port that is told is the one that is read
+pub port_read : (rows : List Row) (text : Text) (read : Option ℕ) (port : ℕ) → Some text ≡ first_of (codes "port") rows
+    → ((text : Text) (port : ℕ) → one_of (codes "port") rows ≡ Some text → ParsesUnsigned {E = ParseIntError} 16 10 text (Ok port) → read ≡ Some port)
+    → IsPortTold rows port → read ≡ Some port
+port_read rows text read port there asked (inl told) = asked told.0 port told.1 told.2
+port_read rows text read port there asked (inr none) = absurd (there_and_absent _ text there none.0)
+
+-- where there is none, it is the usual one
+pub port_usual : (rows : List Row) (port : ℕ) → None ≡ first_of (codes "port") rows → IsPortTold rows port → port ≡ 8_041
+port_usual rows port absent (inl told) = absurd (one_and_absent (codes "port") rows told.0 told.1 (sym absent))
+port_usual rows port absent (inr none) = none.1
+
+-- a number of visits that is read is given
+pub count_given : (told : Option Text) (r : Option ℕ) → (told ≡ None → r ≡ None) → ((text : Text) → told ≡ Some text → ReadsOne (ReadsAs 32) text r)
+    → IfSome r (IsCountGiven told)
+count_given None r none value = subst (λ x. IfSome x (IsCountGiven None)) (sym (none refl)) tt
+count_given (Some text) (Some n) none value = (text, refl, (value text refl).0)
+count_given (Some text) None none value = tt
+
+-- where there is a text, the number that is told is the one that is read
+pub count_read : (rows : List Row) (text : Text) (read : Option ℕ) (count : ℕ) → Some text ≡ first_of (codes "count") rows
+    → ((text : Text) (count : ℕ) → one_of (codes "count") rows ≡ Some text → ParsesUnsigned {E = ParseIntError} 32 10 text (Ok count) → read ≡ Some count)
+    → IsCountTold rows count → read ≡ Some count
+count_read rows text read count there asked (inl told) = asked told.0 count told.1 told.2
+count_read rows text read count there asked (inr none) = absurd (there_and_absent _ text there none.0)
+
+-- where there is none, it is the greatest
+pub count_endless : (rows : List Row) (count : ℕ) → None ≡ first_of (codes "count") rows → IsCountTold rows count → count ≡ 18_446_744_073_709_551_615
+count_endless rows count absent (inl told) = absurd (one_and_absent (codes "count") rows told.0 told.1 (sym absent))
+count_endless rows count absent (inr none) = none.1
 
 -- ---- the command that a parse goes into
 
@@ -143,26 +198,24 @@ no_place_said (Err fault) P failed = λ place. absurd (elim failed as (λ _. ⊥
   | inr memory ↦ let no : NoPlace ≡ NoMemory = sym place ∙ memory in cc
 ])
 
--- it is one of three
-pub one_of_three : {T : Type 0} (r : Result T Unread) → IfErr r (λ fault. (fault ≡ Day) ⊎ (fault ≡ NoMemory))
-    → IfErr r (λ fault. (fault ≡ NoPlace) ⊎ ((fault ≡ Day) ⊎ (fault ≡ NoMemory)))
-one_of_three (Ok value) failed = tt
-one_of_three (Err fault) failed = inr failed
-
 -- words that give a command, or are not whole, are no fault of a place
 pub no_place_of : (P : Unread → Type 0) (o : Option Ask) (r : Result Ask Unread) → r ≡ ok_or o Usage → IfErr r (λ fault. fault ≡ NoPlace → P fault)
 no_place_of P (Some ask) r is = subst (λ x. IfErr x (λ fault. fault ≡ NoPlace → P fault)) (sym is) tt
 no_place_of P None r is = subst (λ x. IfErr x (λ fault. fault ≡ NoPlace → P fault)) (sym is) (λ place. absurd cc)
 
 -- words at which it fails are a mistake, or memory ran out
-pub look_mistake : (fault : Unread) → (fault ≡ NoPlace) ⊎ ((fault ≡ Day) ⊎ (fault ≡ NoMemory)) → IsMistake fault ⊎ IsForMemory fault
-look_mistake fault (inl place) = inl (inr (inr place))
-look_mistake fault (inr other) = day_mistake fault other
+pub look_mistake : (fault : Unread) → IsSeenFault fault → IsMistake fault ⊎ IsForMemory fault
+look_mistake fault (inl apart) = inl (inr (inr (inr apart)))
+look_mistake fault (inr (inl place)) = inl (inr (inr (inl place)))
+look_mistake fault (inr (inr other)) = day_mistake fault other
 
 -- and `clap` finds no fault in them
-pub look_no_fault : (words : List Text) (fault : Unread) → (fault ≡ NoPlace) ⊎ ((fault ≡ Day) ⊎ (fault ≡ NoMemory)) → IsFaultOf words fault
-look_no_fault words fault (inl place) = subst (IsFaultOf words) (sym place) tt
-look_no_fault words fault (inr other) = day_no_fault words fault other
+pub look_no_fault : (words : List Text) (fault : Unread) → IsSeenFault fault → IsFaultOf words fault
+look_no_fault words fault (inl (inl key)) = subst (IsFaultOf words) (sym key) tt
+look_no_fault words fault (inl (inr (inl zones))) = subst (IsFaultOf words) (sym zones) tt
+look_no_fault words fault (inl (inr (inr moment))) = subst (IsFaultOf words) (sym moment) tt
+look_no_fault words fault (inr (inl place)) = subst (IsFaultOf words) (sym place) tt
+look_no_fault words fault (inr (inr other)) = day_no_fault words fault other
 
 module _ (app : App) (words : List Text) (m : ArgMatches) (desk : IsDeskApp app) (matches : HasMatchesOf app words m) where
   same : subcommand_of app words ≡ subcommand_rows_of m
@@ -172,6 +225,18 @@ module _ (app : App) (words : List Text) (m : ArgMatches) (desk : IsDeskApp app)
   pub names_a_place : EntersAtAPlace (subcommand_rows_of m) → NamesAPlace words
   names_a_place entered = λ rows enters. entered rows (sym same ∙ enters.into app desk)
 
+  -- words that it takes as `show` name what it shows
+  pub names_shown : EntersNamed (subcommand_rows_of m) → NamesWhatItShows words
+  names_shown entered = λ rows enters. entered rows (sym same ∙ enters.into app desk)
+
+  -- the options of words that it takes go together
+  pub fits_together : EntersTogether (subcommand_rows_of m) → FitsTogether words
+  fits_together entered = λ name rows enters. entered name rows (sym same ∙ enters.into app desk)
+
+  -- and say what stands beside the operands
+  pub tells_beside : (beside : Beside) → EntersBeside (subcommand_rows_of m) beside → TellsBeside words beside
+  tells_beside beside entered = λ name rows enters. entered name rows (sym same ∙ enters.into app desk)
+
   -- words that it takes as `serve` are not those of `show`
   serve_shows : (serving : List Row) → subcommand_rows_of m ≡ Some (codes "serve", serving) → NamesWhatItShows words
   serve_shows serving into = λ rows enters. absurd (no_other _ (codes "show") rows serving refl (enters.into app desk) (same ∙ into))
@@ -180,37 +245,49 @@ module _ (app : App) (words : List Text) (m : ArgMatches) (desk : IsDeskApp app)
   show_places : (showing : List Row) → subcommand_rows_of m ≡ Some (codes "show", showing) → NamesAPlace words
   show_places showing into = λ rows enters. absurd (no_other _ (codes "show") showing rows refl (same ∙ into) (enters.into app desk))
 
-  module _ (fault : Unread) (failed : (fault ≡ NoPlace) ⊎ ((fault ≡ Day) ⊎ (fault ≡ NoMemory))) (none : fault ≡ Day → EntersNamingNone (subcommand_rows_of m))
-      (no_place : fault ≡ NoPlace → EntersNoPlace (subcommand_rows_of m)) where
+  module _ (fault : Unread) (failed : IsSeenFault fault) (none : fault ≡ Day → EntersNamingNone (subcommand_rows_of m))
+      (no_place : fault ≡ NoPlace → EntersNoPlace (subcommand_rows_of m)) (apart : IsApart fault → EntersApart (subcommand_rows_of m))
+      (shown : IsApart fault → EntersNamed (subcommand_rows_of m)) (placed : IsApart fault → EntersAtAPlace (subcommand_rows_of m)) where
     -- they are no command, or memory ran out
     pub look_unread : IsCommand words → IsForMemory fault
     look_unread command = elim failed [
-      | inl place ↦ let entered = no_place place in absurd (entered.2 (command_place app words entered.0 desk (same ∙ entered.1) command))
-      | inr other ↦ unnamed app words m fault desk matches other none command
+      | inl is ↦ let entered = apart is in absurd (entered.3 (command_together app words entered.0 entered.1 desk (same ∙ entered.2) command))
+      | inr rest ↦ elim rest [
+        | inl place ↦ let entered = no_place place in absurd (entered.2 (command_place app words entered.0 desk (same ∙ entered.1) command))
+        | inr other ↦ unnamed app words m fault desk matches other none command
+      ]
     ]
 
     -- the day is a mistake, or memory ran out, where `show` names nothing
     pub look_not_shown : (NamesWhatItShows words → ⊥) → (fault ≡ Day) ⊎ IsForMemory fault
     look_not_shown unshown = elim failed [
-      | inl place ↦ let entered = no_place place in absurd (unshown (serve_shows entered.0 entered.1))
-      | inr other ↦ elim other [
-        | inl day ↦ inl day
-        | inr memory ↦ inr (subst IsForMemory (sym memory) tt)
+      | inl is ↦ absurd (unshown (names_shown (shown is)))
+      | inr rest ↦ elim rest [
+        | inl place ↦ let entered = no_place place in absurd (unshown (serve_shows entered.0 entered.1))
+        | inr other ↦ elim other [
+          | inl day ↦ inl day
+          | inr memory ↦ inr (subst IsForMemory (sym memory) tt)
+        ]
       ]
     ]
 
     -- the place is, or memory ran out, where `serve` names none
     pub look_not_placed : (NamesAPlace words → ⊥) → (fault ≡ NoPlace) ⊎ IsForMemory fault
     look_not_placed unplaced = elim failed [
-      | inl place ↦ inl place
-      | inr other ↦ elim other [
-        | inl day ↦ let entered = none day in absurd (unplaced (show_places entered.0 entered.1))
-        | inr memory ↦ inr (subst IsForMemory (sym memory) tt)
+      | inl is ↦ absurd (unplaced (names_a_place (placed is)))
+      | inr rest ↦ elim rest [
+        | inl place ↦ inl place
+        | inr other ↦ elim other [
+          | inl day ↦ let entered = none day in absurd (unplaced (show_places entered.0 entered.1))
+          | inr memory ↦ inr (subst IsForMemory (sym memory) tt)
+        ]
       ]
     ]
 
--- a mistake that is none of what `show` shows and none of a place is one of a rule
-pub no_other_mistake : (nothing nowhere : Type 0) (fault : Unread) → IsMistake fault → (fault ≡ Day → nothing) → (fault ≡ NoPlace → nowhere) → ¬ nothing → ¬ nowhere → fault ≡ Usage
-no_other_mistake nothing nowhere fault (inl usage) day placeless named placed = usage
-no_other_mistake nothing nowhere fault (inr (inl is)) day placeless named placed = absurd (named (day is))
-no_other_mistake nothing nowhere fault (inr (inr is)) day placeless named placed = absurd (placed (placeless is))
+-- a mistake that is none of what `show` shows, of a place and of options that do not go together is one of a rule
+pub no_other_mistake : (nothing nowhere apart : Type 0) (fault : Unread) → IsMistake fault → (fault ≡ Day → nothing) → (fault ≡ NoPlace → nowhere) → (IsApart fault → apart)
+    → ¬ nothing → ¬ nowhere → ¬ apart → fault ≡ Usage
+no_other_mistake nothing nowhere apart fault (inl usage) day placeless mixed named placed fit = usage
+no_other_mistake nothing nowhere apart fault (inr (inl is)) day placeless mixed named placed fit = absurd (named (day is))
+no_other_mistake nothing nowhere apart fault (inr (inr (inl is))) day placeless mixed named placed fit = absurd (placed (placeless is))
+no_other_mistake nothing nowhere apart fault (inr (inr (inr is))) day placeless mixed named placed fit = absurd (fit (mixed is))

@@ -10,7 +10,7 @@ use Rattle.rd_commands.specs.Asks.{IsFaultOf, IsForMemory, IsHelp, IsVersion}
 use Rattle.rd_commands.specs.CommandLine.{AsksForVersion, HasFault, IsDeskApp, IsTaken, NameList, desk_app}
 use Rattle.rd_commands.specs.Words.{AsksVersion}
 use Rattle.rd_commands.specs.declared.words.Unread.{Unread}
-use Rattle.rd_commands.specs.declared.words.Unread.TheVariants.{Day, NoMemory, Place, Clap, Usage}
+use Rattle.rd_commands.specs.declared.words.Unread.TheVariants.{Clap, Day, Key, Moment, NoMemory, Place, Usage, Zones}
 
 long_shows : (kinds others shown : NameList) (rest : List Text) → fault_of (desk_app kinds others shown) (codes "--version" ∷ rest) ≡ DisplayVersion ∷ []
 unfolding clap_on_literals
@@ -74,6 +74,9 @@ version_asked words (Clap error) shown fault = elim fault [
 ]
 version_asked words Usage shown fault = absurd shown
 version_asked words Day shown fault = absurd shown
+version_asked words Key shown fault = absurd shown
+version_asked words Zones shown fault = absurd shown
+version_asked words Moment shown fault = absurd shown
 version_asked words Place shown fault = absurd shown
 version_asked words NoMemory shown fault = absurd shown
 
@@ -82,5 +85,8 @@ pub version_no_help : (unread : Unread) → IsVersion unread → IsHelp unread �
 version_no_help (Clap error) shown help = let same : DisplayVersion ≡ DisplayHelp = sym shown ∙ help in absurd (cc same)
 version_no_help Usage shown help = absurd shown
 version_no_help Day shown help = absurd shown
+version_no_help Key shown help = absurd shown
+version_no_help Zones shown help = absurd shown
+version_no_help Moment shown help = absurd shown
 version_no_help Place shown help = absurd shown
 version_no_help NoMemory shown help = absurd shown

@@ -26,9 +26,10 @@ use Rattle.rd_commands.specs.declared.words.Shown.{Shown}
 use Rattle.rd_commands.specs.declared.words.StaffKeyAsk.{StaffKeyAsk}
 use Rattle.rd_commands.specs.declared.words.Unread.{Unread}
 use Rattle.rd_commands.specs.declared.words.WhenAsk.{WhenAsk}
-use Rattle.rd_commands.specs.declared.words.Unread.TheVariants.{Day, Place as NoPlace, Clap, Usage, NoMemory}
+use Rattle.rd_commands.specs.declared.words.Unread.TheVariants.{Day, Key, Moment, Place as NoPlace, Clap, Usage, NoMemory, Zones}
+use Rattle.rd_commands.specs.Beside.{IsApart, IsSeconds}
 use Rattle.rd_commands.specs.CommandLine.{HasFault}
-use Rattle.rd_commands.specs.Serving.{GivesTimeouts, NamesOnePlace, NamesPlace, Place, place_of}
+use Rattle.rd_commands.specs.Serving.{GivesTimeouts, IsCountTold, NamesOnePlace, NamesPlace, Place, place_of}
 use Rattle.rd_commands.specs.Shown.{IsShowable, NamesAny, NamesShown}
 use Rattle.rd_commands.specs.Words.{IsSlotText}
 use Rattle.rd_commands.specs.Zones.{HasClocks, HasZoneRule, IsFlagTold, IsRuleNamed, TellsTrust}
@@ -210,6 +211,9 @@ abbrev pub IsHelp : Unread → Type 0
 IsHelp (Clap error) = kind_of error ≡ DisplayHelp
 IsHelp Usage = ⊥
 IsHelp Day = ⊥
+IsHelp Key = ⊥
+IsHelp Zones = ⊥
+IsHelp Moment = ⊥
 IsHelp NoPlace = ⊥
 IsHelp NoMemory = ⊥
 
@@ -218,13 +222,16 @@ abbrev pub IsVersion : Unread → Type 0
 IsVersion (Clap error) = kind_of error ≡ DisplayVersion
 IsVersion Usage = ⊥
 IsVersion Day = ⊥
+IsVersion Key = ⊥
+IsVersion Zones = ⊥
+IsVersion Moment = ⊥
 IsVersion NoPlace = ⊥
 IsVersion NoMemory = ⊥
 
 -- the words are no command, although `clap` accepts them: the text of --zone is no rule, that of --on does not go
--- with what `show` shows, or `serve` has neither a port nor a socket, or both
+-- with what `show` shows, `serve` has both a port and a socket, or options do not go together
 abbrev pub IsMistake : Unread → Type 0
-IsMistake unread = (unread ≡ Usage) ⊎ ((unread ≡ Day) ⊎ (unread ≡ NoPlace))
+IsMistake unread = (unread ≡ Usage) ⊎ ((unread ≡ Day) ⊎ ((unread ≡ NoPlace) ⊎ IsApart unread))
 
 -- memory ran out, in `clap` or elsewhere
 abbrev pub IsForMemory : Unread → Type 0
@@ -242,6 +249,9 @@ abbrev pub IsFaultOf : List Text → Unread → Type 0
 IsFaultOf words (Clap error) = (kind_of error ≡ OutOfMemory) ⊎ HasFault words (kind_of error)
 IsFaultOf words Usage = Unit {0}
 IsFaultOf words Day = Unit {0}
+IsFaultOf words Key = Unit {0}
+IsFaultOf words Zones = Unit {0}
+IsFaultOf words Moment = Unit {0}
 IsFaultOf words NoPlace = Unit {0}
 IsFaultOf words NoMemory = Unit {0}
 
@@ -276,6 +286,7 @@ pub record EntersList (entered : Option (Text × List Row)) (kind : Kind) (image
 pub record AreInitRows (rows : List Row) (store key : List ℕ) : Type 0 where
   pub store_found : first_of (codes "store") rows ≡ Some store
   pub key_found : first_of (codes "key") rows ≡ Some key
+  pub no_key_file : first_of (codes "key-file") rows ≡ None
 
 -- the parse went into `init`, and found its options
 pub record EntersInit (entered : Option (Text × List Row)) (store key : List ℕ) : Type 0 where
@@ -291,10 +302,9 @@ EntersSumming entered summed = (rows : List Row) × (entered ≡ Some (codes "in
 pub record AreServeRows (rows : List Row) (store : List ℕ) (place : Place) (count : ℕ) (rule : List ℕ) : Type 0 where
   pub store_found : first_of (codes "store") rows ≡ Some store
   pub place_named : NamesPlace rows place
-  pub count_text : List ℕ
-  pub count_found : one_of (codes "count") rows ≡ Some count_text
-  pub count_number : ParsesUnsigned {E = ParseIntError} 32 10 count_text (Ok count)
+  pub count_told : IsCountTold rows count
   pub rule_named : IsRuleNamed (first_of (codes "zone") rows) rule
+  pub no_zone_file : first_of (codes "zone-file") rows ≡ None
 
 -- the parse went into `serve`, and found its options
 pub record EntersServe (entered : Option (Text × List Row)) (store : List ℕ) (place : Place) (count : ℕ) (rule : List ℕ) : Type 0 where
@@ -317,16 +327,18 @@ EntersTimed entered ask = (rows : List Row) → entered ≡ Some (codes "serve",
 -- what the option for a moment gives: nothing if it is absent, and otherwise the number that its
 -- text writes
 abbrev pub IsMomentNamed : Option (List ℕ) → Option ℤ → Type 0
-IsMomentNamed (Some text) moment = (seconds : ℤ) × ParsesSigned {E = ParseIntError} w64 10 text (Ok seconds) × (moment ≡ Some seconds)
+IsMomentNamed (Some text) moment = (seconds : ℤ) × IsSeconds text seconds × (moment ≡ Some seconds)
 IsMomentNamed None moment = moment ≡ None
 
 -- the options that `clap` found for `import`: of the moment and the zone those that are there
 pub record AreImportRows (rows : List Row) (store key sheet : List ℕ) (moment : Option ℤ) (rule : List ℕ) : Type 0 where
   pub store_found : first_of (codes "store") rows ≡ Some store
   pub key_found : first_of (codes "key") rows ≡ Some key
+  pub no_key_file : first_of (codes "key-file") rows ≡ None
   pub sheet_found : first_of (codes "sheet") rows ≡ Some sheet
-  pub moment_named : IsMomentNamed (one_of (codes "at") rows) moment
+  pub moment_named : IsMomentNamed (first_of (codes "at") rows) moment
   pub rule_named : IsRuleNamed (first_of (codes "zone") rows) rule
+  pub no_zone_file : first_of (codes "zone-file") rows ≡ None
 
 -- the parse went into `import`, and found its options
 pub record EntersImport (entered : Option (Text × List Row)) (store key sheet : List ℕ) (moment : Option ℤ) (rule : List ℕ)
@@ -351,8 +363,10 @@ EntersTrusting entered trusted = (name : List ℕ) × (rows : List Row) × (ente
 pub record AreExportRows (rows : List Row) (store : List ℕ) (key : Option (List ℕ)) (moment : Option ℤ) (rule : List ℕ) : Type 0 where
   pub store_found : first_of (codes "store") rows ≡ Some store
   pub key_named : first_of (codes "key") rows ≡ key
-  pub moment_named : IsMomentNamed (one_of (codes "at") rows) moment
+  pub no_key_file : first_of (codes "key-file") rows ≡ None
+  pub moment_named : IsMomentNamed (first_of (codes "at") rows) moment
   pub rule_named : IsRuleNamed (first_of (codes "zone") rows) rule
+  pub no_zone_file : first_of (codes "zone-file") rows ≡ None
 
 -- the parse went into `export`, and found its options
 pub record EntersExport (entered : Option (Text × List Row)) (store : List ℕ) (key : Option (List ℕ)) (moment : Option ℤ) (rule : List ℕ)
@@ -365,12 +379,14 @@ pub record EntersExport (entered : Option (Text × List Row)) (store : List ℕ)
 pub record AreCheckRows (rows : List Row) (store key : List ℕ) (acc : ℕ) (moment : Option ℤ) (rule : List ℕ) : Type 0 where
   pub store_found : first_of (codes "store") rows ≡ Some store
   pub key_found : first_of (codes "key") rows ≡ Some key
+  pub no_key_file : first_of (codes "key-file") rows ≡ None
   pub acc_text : List ℕ
   pub acc_found : one_of (codes "acc") rows ≡ Some acc_text
   pub acc_number : ParsesUnsigned {E = ParseIntError} 32 10 acc_text (Ok acc)
   pub acc_within : IsScope acc
-  pub moment_named : IsMomentNamed (one_of (codes "at") rows) moment
+  pub moment_named : IsMomentNamed (first_of (codes "at") rows) moment
   pub rule_named : IsRuleNamed (first_of (codes "zone") rows) rule
+  pub no_zone_file : first_of (codes "zone-file") rows ≡ None
 
 -- the parse went into `check`, and found its options
 pub record EntersCheck (entered : Option (Text × List Row)) (store key : List ℕ) (acc : ℕ) (moment : Option ℤ) (rule : List ℕ)
@@ -384,8 +400,10 @@ pub record EntersCheck (entered : Option (Text × List Row)) (store key : List �
 pub record AreShowRows (rows : List Row) (store key : List ℕ) (moment : Option ℤ) (rule : List ℕ) : Type 0 where
   pub store_found : first_of (codes "store") rows ≡ Some store
   pub key_found : first_of (codes "key") rows ≡ Some key
-  pub moment_given : IsMomentNamed (one_of (codes "at") rows) moment
+  pub no_key_file : first_of (codes "key-file") rows ≡ None
+  pub moment_given : IsMomentNamed (first_of (codes "at") rows) moment
   pub rule_given : IsRuleNamed (first_of (codes "zone") rows) rule
+  pub no_zone_file : first_of (codes "zone-file") rows ≡ None
 
 -- the parse went into `show`, and found its options
 pub record EntersShow (entered : Option (Text × List Row)) (store key : List ℕ) (moment : Option ℤ) (rule : List ℕ) : Type 0 where
@@ -397,6 +415,7 @@ pub record EntersShow (entered : Option (Text × List Row)) (store key : List �
 pub record AreStaffKeyRows (rows : List Row) (store key : List ℕ) : Type 0 where
   pub store_found : first_of (codes "store") rows ≡ Some store
   pub key_found : first_of (codes "key") rows ≡ Some key
+  pub no_key_file : first_of (codes "key-file") rows ≡ None
 
 -- the parse went into `staff-key`, and found its options
 pub record EntersStaffKey (entered : Option (Text × List Row)) (store key : List ℕ) : Type 0 where
@@ -420,6 +439,10 @@ pub record EntersCopy (entered : Option (Text × List Row)) (store target : List
 abbrev pub EntersNaming : Option (Text × List Row) → Option Shown → Type 0
 EntersNaming entered shown = (rows : List Row) → entered ≡ Some (codes "show", rows) → IsSomeAnd shown (NamesShown rows)
 
+-- if the parse went into `show`, something is named there
+abbrev pub EntersNamed : Option (Text × List Row) → Type 0
+EntersNamed entered = (rows : List Row) → entered ≡ Some (codes "show", rows) → NamesAny rows
+
 -- the parse went into `show`, and nothing is named there
 abbrev pub EntersNamingNone : Option (Text × List Row) → Type 0
 EntersNamingNone entered = (rows : List Row) × (entered ≡ Some (codes "show", rows)) × ¬ NamesAny rows
@@ -427,3 +450,10 @@ EntersNamingNone entered = (rows : List Row) × (entered ≡ Some (codes "show",
 -- the parse went into a command whose output says if not all is well
 abbrev pub EntersTelling : Option (Text × List Row) → Type 0
 EntersTelling entered = EntersAs (codes "import") entered ⊎ EntersAs (codes "check") entered
+
+-- ---- inside
+
+-- what is looked at after `clap` finds a fault: of a place, of a day, of options that do not go together, or that memory
+-- ran out
+abbrev pub IsSeenFault : Unread → Type 0
+IsSeenFault fault = (IsApart fault) ⊎ ((fault ≡ NoPlace) ⊎ ((fault ≡ Day) ⊎ (fault ≡ NoMemory)))

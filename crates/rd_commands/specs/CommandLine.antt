@@ -36,15 +36,6 @@ image_rule = required (codes "IMAGE")
 abbrev pub slot_rule : Rule
 slot_rule = required_by (codes "SLOT") (Signed (pos 0) (pos LAST_SLOT))
 
--- the command `cat`
-abbrev pub cat_app : NameList → App
-cat_app kinds =
-    with_rule (with_rule (with_rule (new_app (codes "cat")) (kind_rule kinds)) image_rule) slot_rule
-
--- the command `list`
-abbrev pub list_app : NameList → App
-list_app kinds = with_rule (with_rule (new_app (codes "list")) (kind_rule kinds)) image_rule
-
 -- a required option, whose value has a name in the help
 abbrev pub required_option : Text → Rule
 required_option id = record (required id) { long = Some id; value_names = 1 }
@@ -53,29 +44,45 @@ required_option id = record (required id) { long = Some id; value_names = 1 }
 abbrev pub store_rule : Rule
 store_rule = required_option (codes "store")
 
+-- an option whose value has a name in the help, which may be absent
+abbrev pub option : Text → Rule
+option id = record (new_rule id) { long = Some id; value_names = 1 }
+
+-- a flag
+abbrev pub flag : Text → Rule
+flag id = record (new_rule id) { long = Some id; action = Some SetTrue }
+
 -- the option for a desk key
 abbrev pub key_rule : Rule
-key_rule = required_option (codes "key")
+key_rule = option (codes "key")
+
+-- the option for a file with a desk key
+abbrev pub key_file_rule : Rule
+key_file_rule = option (codes "key-file")
 
 -- the option for a port, a number from 1 to 65,535, which may be absent
 abbrev pub port_rule : Rule
-port_rule = record (new_rule (codes "port")) { long = Some (codes "port"); value_names = 1; parser = Some (Signed (pos 1) (pos 65535)) }
+port_rule = record (option (codes "port")) { parser = Some (Signed (pos 1) (pos 65535)) }
 
 -- the option for a Unix socket, which may be absent
 abbrev pub socket_rule : Rule
-socket_rule = record (new_rule (codes "socket")) { long = Some (codes "socket"); value_names = 1 }
+socket_rule = option (codes "socket")
 
 -- an option for how long a visitor may take, a number from 1 to 3,600, which may be absent
 abbrev pub timeout_rule : Text → Rule
-timeout_rule name = record (new_rule name) { long = Some name; value_names = 1; parser = Some (Signed (pos 1) (pos 3600)) }
+timeout_rule name = record (option name) { parser = Some (Signed (pos 1) (pos 3600)) }
 
--- the option for a number of visits, from 0 to 4,294,967,295
+-- the option for a number of visits, from 0 to 4,294,967,295, which may be absent
 abbrev pub count_rule : Rule
-count_rule = record (required_option (codes "count")) { parser = Some (Signed (pos 0) (pos 4294967295)) }
+count_rule = record (option (codes "count")) { parser = Some (Signed (pos 0) (pos 4294967295)) }
 
 -- the option for the zone of a desk's clocks, which may be absent
 abbrev pub zone_rule : Rule
-zone_rule = record (new_rule (codes "zone")) { long = Some (codes "zone"); value_names = 1 }
+zone_rule = option (codes "zone")
+
+-- the option for a file with the rule of a desk's clocks, which may be absent
+abbrev pub zone_file_rule : Rule
+zone_file_rule = option (codes "zone-file")
 
 -- the flag that says that the clock is trusted
 abbrev pub trust_rule : Rule
@@ -89,55 +96,78 @@ sums_rule = record (new_rule (codes "sums")) { long = Some (codes "sums"); actio
 abbrev pub sheet_rule : Rule
 sheet_rule = required_option (codes "sheet")
 
--- the option for a moment, a number from 0 to 9,223,372,036,854,775,807, which may be absent
+-- the option for a moment, a number of seconds or a date, which may be absent
 abbrev pub moment_rule : Rule
-moment_rule = record (new_rule (codes "at")) {
-  long = Some (codes "at");
-  value_names = 1;
-  parser = Some (Signed (pos 0) (pos 9223372036854775807));
-}
+moment_rule = option (codes "at")
 
--- the option for a desk key that may be absent
-abbrev pub optional_key_rule : Rule
-optional_key_rule = record (new_rule (codes "key")) { long = Some (codes "key"); value_names = 1 }
+-- the flag that has a refusal explained
+abbrev pub explain_rule : Rule
+explain_rule = flag (codes "explain")
 
 -- the option for an accession, a number from 1 to 999,999
 abbrev pub accession_rule : Rule
 accession_rule = record (required_option (codes "acc")) { parser = Some (Signed (pos 1) (pos LAST_SCOPE)) }
 
+-- ---- commands
+
+-- a command, and then the options for a key
+abbrev pub with_caller : App → App
+with_caller app = with_rule (with_rule app key_rule) key_file_rule
+
+-- a command, and then the options for clocks
+abbrev pub with_clocks : App → App
+with_clocks app = with_rule (with_rule (with_rule app zone_rule) zone_file_rule) trust_rule
+
+-- a command, and then the options for a moment and for clocks
+abbrev pub with_moment : App → App
+with_moment app = with_clocks (with_rule app moment_rule)
+
+-- a command, and then the flag that has a refusal explained
+abbrev pub explained : App → App
+explained app = with_rule app explain_rule
+
+-- a command on an image of a kind
+abbrev pub image_app : Text → NameList → App
+image_app name kinds = with_rule (with_rule (new_app name) (kind_rule kinds)) image_rule
+
+-- the command `cat`
+abbrev pub cat_app : NameList → App
+cat_app kinds = explained (with_rule (image_app (codes "cat") kinds) slot_rule)
+
+-- the command `list`
+abbrev pub list_app : NameList → App
+list_app kinds = explained (image_app (codes "list") kinds)
+
+-- a command on the file of a store
+abbrev pub store_app : Text → App
+store_app name = with_rule (new_app name) store_rule
+
 -- the command `init`
 abbrev pub init_app : App
-init_app = with_rule (with_rule (with_rule (new_app (codes "init")) store_rule) key_rule) sums_rule
+init_app = explained (with_rule (with_caller (store_app (codes "init"))) sums_rule)
 
 -- the command `serve`, without the options for how long a visitor may take
 abbrev pub untimed_app : App
-untimed_app =
-    with_rule (with_rule (with_rule (with_rule (with_rule (with_rule (new_app (codes "serve")) store_rule) port_rule)
-    socket_rule) count_rule) zone_rule) trust_rule
+untimed_app = with_clocks (with_rule (with_rule (with_rule (store_app (codes "serve")) port_rule) socket_rule) count_rule)
 
 -- the command `serve`
 abbrev pub serve_app : App
 serve_app =
-    with_rule (with_rule (with_rule untimed_app (timeout_rule (codes "request-timeout"))) (timeout_rule (codes "write-timeout")))
-    (timeout_rule (codes "reply-timeout"))
+    explained (with_rule (with_rule (with_rule untimed_app (timeout_rule (codes "request-timeout"))) (timeout_rule (codes "write-timeout")))
+    (timeout_rule (codes "reply-timeout")))
 
 -- the command `import`
 abbrev pub import_app : App
 import_app =
-    with_rule (with_rule (with_rule (with_rule (with_rule (with_rule (new_app (codes "import")) store_rule) key_rule)
-    sheet_rule) moment_rule) zone_rule) trust_rule
+    explained (with_moment (with_rule (with_caller (store_app (codes "import"))) sheet_rule))
 
 -- the command `export`
 abbrev pub export_app : App
-export_app =
-    with_rule (with_rule (with_rule (with_rule (with_rule (new_app (codes "export")) store_rule) optional_key_rule)
-    moment_rule) zone_rule) trust_rule
+export_app = explained (with_moment (with_caller (store_app (codes "export"))))
 
 -- the command `check`
 abbrev pub check_app : App
-check_app =
-    with_rule (with_rule (with_rule (with_rule (with_rule (with_rule (new_app (codes "check")) store_rule) key_rule)
-    accession_rule) moment_rule) zone_rule) trust_rule
+check_app = explained (with_moment (with_rule (with_caller (store_app (codes "check"))) accession_rule))
 
 -- the words for what `show` shows
 abbrev pub what_words : List Text
@@ -154,12 +184,12 @@ day_rule = record (new_rule (codes "on")) { long = Some (codes "on"); value_name
 -- the command `show`
 abbrev pub show_app : NameList → App
 show_app names =
-    with_rule (with_rule (with_rule (with_rule (with_rule (with_rule (with_rule (new_app (codes "show")) (what_rule names))
-    store_rule) key_rule) day_rule) moment_rule) zone_rule) trust_rule
+    explained (with_moment (with_rule (with_caller (with_rule (with_rule (new_app (codes "show")) (what_rule names)) store_rule))
+    day_rule))
 
 -- the command `staff-key`
 abbrev pub staff_key_app : App
-staff_key_app = with_rule (with_rule (new_app (codes "staff-key")) store_rule) key_rule
+staff_key_app = explained (with_caller (store_app (codes "staff-key")))
 
 -- the option for the file to which a store is copied
 abbrev pub target_rule : Rule
@@ -167,7 +197,7 @@ target_rule = required_option (codes "to")
 
 -- the command `copy`
 abbrev pub copy_app : App
-copy_app = with_rule (with_rule (with_rule (new_app (codes "copy")) store_rule) target_rule) sums_rule
+copy_app = explained (with_rule (with_rule (store_app (codes "copy")) target_rule) sums_rule)
 
 -- the words come without the program's name, one of them is a command's, and there is a version
 abbrev pub wants_command : Shape → Shape

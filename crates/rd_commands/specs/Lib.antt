@@ -4,9 +4,11 @@
 pub mod Words
 pub mod CommandLine
 pub mod Zones
+pub mod Beside
 pub mod Serving
 pub mod Shown
 pub mod Asks
+pub mod Told
 pub mod Commands
 pub mod Refusals
 pub mod Output
@@ -16,6 +18,7 @@ pub mod Printed
 pub mod Listed
 pub mod RefusalLines
 pub mod Sheets
+pub mod Explaining
 pub mod Versions
 pub mod Helps
 pub mod Mistakes

@@ -17,3 +17,15 @@ day_mistake = codes "error: --on takes a date, as in 2030-01-01; 'show verdicts'
 -- the words of `serve` name no place, or two
 abbrev pub place_mistake : List ℕ
 place_mistake = codes "error: 'serve' needs --port or --socket, and takes only one of them" ++ help_hint
+
+-- there is a key on the command line and one in a file, or none where the command needs one
+abbrev pub key_mistake : List ℕ
+key_mistake = codes "error: give a key by --key or by --key-file, and only by one of them" ++ help_hint
+
+-- there are two rules for clocks, by itself and in a file
+abbrev pub zones_mistake : List ℕ
+zones_mistake = codes "error: give the rule of the clocks by --zone or by --zone-file, and only by one of them" ++ help_hint
+
+-- the text of `--at` is neither a number of seconds nor a date
+abbrev pub moment_mistake : List ℕ
+moment_mistake = codes "error: --at takes seconds since 1970, 0 to 9223372036854775807, or a date, as in 2030-01-01" ++ help_hint

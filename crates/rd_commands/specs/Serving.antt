@@ -1,5 +1,5 @@
 -- Where `serve` has visits come, and how long a visitor may take, as its words give them.
-use Rattle.std.specs.Prelude.{◌≡◌, ℕ, List, None, Ok, Option, Some, codes}
+use Rattle.std.specs.Prelude.{◌≡◌, ◌⊎◌, ℕ, List, None, Ok, Option, Some, codes}
 use Rattle.std.specs.Str.Parse.{ParsesUnsigned}
 use Rattle.std.specs.declared.num.ParseIntError.{ParseIntError}
 use Rattle.clap.specs.Words.{Row, first_of, one_of}
@@ -21,14 +21,27 @@ place_of (told.Socket path) = Socket path.now
 abbrev pub IsNumberTold : Option (List ℕ) → ℕ → Type 0
 IsNumberTold told number = (text : List ℕ) × (told ≡ Some text) × ParsesUnsigned {E = ParseIntError} 16 10 text (Ok number)
 
--- what `clap` found names this place: the option of the other sort of place is absent
+-- the port that is told, or 8041 where none is
+abbrev pub IsPortTold : List Row → ℕ → Type 0
+IsPortTold rows port = IsNumberTold (one_of (codes "port") rows) port ⊎ ((first_of (codes "port") rows ≡ None) × (port ≡ 8_041))
+
+-- what `clap` found names this place: the option of the other sort of place is absent; where both are, it is the port 8041
 abbrev pub NamesPlace : List Row → Place → Type 0
-NamesPlace rows (Port port) = IsNumberTold (one_of (codes "port") rows) port × (first_of (codes "socket") rows ≡ None)
+NamesPlace rows (Port port) = IsPortTold rows port × (first_of (codes "socket") rows ≡ None)
 NamesPlace rows (Socket path) = (first_of (codes "socket") rows ≡ Some path) × (first_of (codes "port") rows ≡ None)
 
 -- it names one
 abbrev pub NamesOnePlace : List Row → Type 0
 NamesOnePlace rows = (place : Place) × NamesPlace rows place
+
+-- an option gives this number of visits: it is there, and its text writes the number
+abbrev pub IsCountGiven : Option (List ℕ) → ℕ → Type 0
+IsCountGiven told count = (text : List ℕ) × (told ≡ Some text) × ParsesUnsigned {E = ParseIntError} 32 10 text (Ok count)
+
+-- the number of visits is the one that is given; if none is, it is greater than that of all visits that will ever come
+abbrev pub IsCountTold : List Row → ℕ → Type 0
+IsCountTold rows count = IsCountGiven (one_of (codes "count") rows) count
+    ⊎ ((first_of (codes "count") rows ≡ None) × (count ≡ 18_446_744_073_709_551_615))
 
 -- what an option for seconds gives: the number that its text writes, and the usual one if it is absent
 abbrev pub AreSeconds : ℕ → Option (List ℕ) → ℕ → Type 0

@@ -1,7 +1,7 @@
 ghost use Rattle.std.specs.Prelude.{◌≡◌, IfOk, codes, false};
 ghost use Rattle.clap.specs.Words.{app_of, rule_of};
 ghost use Rattle.clap.specs.declared.builder.command.Command.TheViews.{out-Command as fields_of};
-ghost use Rattle.rd_commands.specs.CommandLine.{IsCatApp, IsDeskApp, IsKindRule, IsListApp, IsShowApp, IsWhatRule, accession_rule, bare_app, check_app, copy_app, count_rule, day_rule, export_app, image_rule, import_app, init_app, key_rule, moment_rule, optional_key_rule, port_rule, serve_app, sheet_rule, slot_rule, socket_rule, staff_key_app, store_rule, target_rule, sums_rule, timeout_rule, trust_rule, untimed_app, zone_rule};
+ghost use Rattle.rd_commands.specs.CommandLine.{IsCatApp, IsDeskApp, IsKindRule, IsListApp, IsShowApp, IsWhatRule, accession_rule, bare_app, check_app, copy_app, count_rule, day_rule, explain_rule, explained, export_app, image_rule, import_app, init_app, key_file_rule, key_rule, moment_rule, port_rule, serve_app, sheet_rule, slot_rule, socket_rule, staff_key_app, store_rule, sums_rule, target_rule, timeout_rule, untimed_app, with_caller, with_clocks, with_moment, zone_file_rule, zone_rule, trust_rule};
 
 use crate::version::VERSION;
 use clap::{Arg, ArgAction, Command, value_parser};
@@ -41,6 +41,17 @@ fn slot_operand<'a>(alloc: Global) -> Arg<'a>
         .value_parser(value_parser!(u16).range(0..=i64::from(LAST_SLOT)))
 }
 
+/// The flag that has a refusal explained.
+fn explain_flag<'a>(alloc: Global) -> Arg<'a>
+    ensures rule { rule_of result ≡ explain_rule }
+    ensures local { result.global ≡ false }
+{
+    Arg::new(alloc, "explain")
+        .long("explain")
+        .action(ArgAction::SetTrue)
+        .help("Says more about a refusal, in lines below its name")
+}
+
 fn cat_command<'a>(alloc: Global) -> Result<Command<'a>, AllocError>
     ensures shape { IfOk result (λ cat. IsCatApp (app_of cat)) }
     ensures local { IfOk result (λ cat. (fields_of cat).has_globals ≡ false) }
@@ -50,7 +61,8 @@ fn cat_command<'a>(alloc: Global) -> Result<Command<'a>, AllocError>
         .after_help("Examples:\n  desk cat cpm8 disk.img 0\n  desk cat d64 disk.d64 0")
         .arg(kind_operand(alloc))?
         .arg(image_operand(alloc))?
-        .arg(slot_operand(alloc))
+        .arg(slot_operand(alloc))?
+        .arg(explain_flag(alloc))
 }
 
 fn list_command<'a>(alloc: Global) -> Result<Command<'a>, AllocError>
@@ -61,7 +73,8 @@ fn list_command<'a>(alloc: Global) -> Result<Command<'a>, AllocError>
         .about("Lists the files of an image: slot, user, type, size, faults and name")
         .after_help("Examples:\n  desk list cpm8 disk.img\n  desk list d64 disk.d64")
         .arg(kind_operand(alloc))?
-        .arg(image_operand(alloc))
+        .arg(image_operand(alloc))?
+        .arg(explain_flag(alloc))
 }
 
 /// The option for the file of a store.
@@ -76,16 +89,26 @@ fn store_option<'a>(alloc: Global) -> Arg<'a>
         .help("The file of the store")
 }
 
-/// The option for a desk key.
+/// The option for a desk key. A file may have the key in its place, so `clap` does not ask for it; a command that needs a key
+/// says so in a usage line of its own.
 fn key_option<'a>(alloc: Global) -> Arg<'a>
     ensures rule { rule_of result ≡ key_rule }
     ensures local { result.global ≡ false }
 {
-    Arg::new(alloc, "key")
-        .long("key")
-        .value_name("KEY")
-        .required(true)
-        .help("A desk key of the staff, without blanks and tabs at both ends")
+    Arg::new(alloc, "key").long("key").value_name("KEY").help(
+        "A desk key, without blanks and tabs at both ends; other users of this machine can read it here",
+    )
+}
+
+/// The option for a file with a desk key.
+fn key_file_option<'a>(alloc: Global) -> Arg<'a>
+    ensures rule { rule_of result ≡ key_file_rule }
+    ensures local { result.global ≡ false }
+{
+    Arg::new(alloc, "key-file")
+        .long("key-file")
+        .value_name("FILE")
+        .help("A file with the desk key as its first line, or - for standard input")
 }
 
 fn port_option<'a>(alloc: Global) -> Arg<'a>
@@ -95,7 +118,7 @@ fn port_option<'a>(alloc: Global) -> Arg<'a>
     Arg::new(alloc, "port")
         .long("port")
         .value_name("PORT")
-        .help("The port on 127.0.0.1, 1 to 65535; give this or --socket")
+        .help("The port on 127.0.0.1, 1 to 65535; 8041 where neither this nor --socket is given")
         .value_parser(value_parser!(u16).range(1..=65_535))
 }
 
@@ -128,8 +151,7 @@ fn count_option<'a>(alloc: Global) -> Arg<'a>
     Arg::new(alloc, "count")
         .long("count")
         .value_name("COUNT")
-        .required(true)
-        .help("How many visits are served, 0 to 4294967295")
+        .help("How many visits are served, 0 to 4294967295; as many as come where it is not given")
         .value_parser(value_parser!(u32))
 }
 
@@ -164,6 +186,19 @@ fn sums_option<'a>(alloc: Global) -> Arg<'a>
         .help("Puts a sum at the end of each page of the store, so that a bit that flips is seen")
 }
 
+/// The option for a file with the rule of a desk's clocks.
+fn zone_file_option<'a>(alloc: Global) -> Arg<'a>
+    ensures rule { rule_of result ≡ zone_file_rule }
+    ensures local { result.global ≡ false }
+{
+    Arg::new(alloc, "zone-file")
+        .long("zone-file")
+        .value_name("FILE")
+        .help(
+            "A file of the time zone database, in whose last line the rule of the desk's clocks is, in place of --zone",
+        )
+}
+
 fn sheet_option<'a>(alloc: Global) -> Arg<'a>
     ensures rule { rule_of result ≡ sheet_rule }
     ensures local { result.global ≡ false }
@@ -179,27 +214,51 @@ fn moment_option<'a>(alloc: Global) -> Arg<'a>
     ensures rule { rule_of result ≡ moment_rule }
     ensures local { result.global ≡ false }
 {
-    Arg::new(alloc, "at")
-        .long("at")
-        .value_name("SECONDS")
-        .help(
-            "The moment, in seconds since 1970-01-01 of UTC, that of the clock where it is not given",
-        )
-        .value_parser(value_parser!(i64).range(0..=9_223_372_036_854_775_807))
+    Arg::new(alloc, "at").long("at").value_name("SECONDS").help(
+        "The moment, in seconds since 1970-01-01 of UTC, or a date, such as 2030-01-01, for the first second of that day; that of the clock where it is not given",
+    )
+}
+
+/// Adds the options for a key.
+fn add_caller<'a>(alloc: Global, command: Command<'a>) -> Result<Command<'a>, AllocError>
+    ensures shape { IfOk result (λ added. app_of added ≡ with_caller (app_of command.entry)) }
+    ensures local { IfOk result (λ added. (fields_of added).has_globals ≡ (fields_of command.entry).has_globals) }
+{
+    command.arg(key_option(alloc))?.arg(key_file_option(alloc))
+}
+
+/// Adds the options for clocks.
+fn add_clocks<'a>(alloc: Global, command: Command<'a>) -> Result<Command<'a>, AllocError>
+    ensures shape { IfOk result (λ added. app_of added ≡ with_clocks (app_of command.entry)) }
+    ensures local { IfOk result (λ added. (fields_of added).has_globals ≡ (fields_of command.entry).has_globals) }
+{
+    command
+        .arg(zone_option(alloc))?
+        .arg(zone_file_option(alloc))?
+        .arg(trust_option(alloc))
+}
+
+/// Adds the options for a moment and for clocks.
+fn add_moment<'a>(alloc: Global, command: Command<'a>) -> Result<Command<'a>, AllocError>
+    ensures shape { IfOk result (λ added. app_of added ≡ with_moment (app_of command.entry)) }
+    ensures local { IfOk result (λ added. (fields_of added).has_globals ≡ (fields_of command.entry).has_globals) }
+{
+    add_clocks(alloc, command.arg(moment_option(alloc))?)
 }
 
 fn init_command<'a>(alloc: Global) -> Result<Command<'a>, AllocError>
     ensures shape { IfOk result (λ init. app_of init ≡ init_app) }
     ensures local { IfOk result (λ init. (fields_of init).has_globals ≡ false) }
 {
-    Command::new(alloc, "init")
+    let begun = Command::new(alloc, "init")
         .about("Makes a desk with one staff key in the file of a store")
+        .override_usage("desk init [OPTIONS] --store <FILE> --key <KEY>")
         .after_help(
             "Examples:\n  desk init --store museum.sqlite --key 'a long phrase'\n  desk init --sums --store museum.sqlite --key 'a long phrase'",
         )
-        .arg(store_option(alloc))?
-        .arg(key_option(alloc))?
-        .arg(sums_option(alloc))
+        .arg(store_option(alloc))?;
+    let given = add_caller(alloc, begun)?.arg(sums_option(alloc))?;
+    given.arg(explain_flag(alloc))
 }
 
 /// The command `serve`, without the options for how long a visitor may take.
@@ -207,17 +266,16 @@ fn untimed_command<'a>(alloc: Global) -> Result<Command<'a>, AllocError>
     ensures shape { IfOk result (λ serve. app_of serve ≡ untimed_app) }
     ensures local { IfOk result (λ serve. (fields_of serve).has_globals ≡ false) }
 {
-    Command::new(alloc, "serve")
+    let begun = Command::new(alloc, "serve")
         .about("Serves visits over HTTP on 127.0.0.1 or at a Unix socket, one after the other")
         .after_help(
-            "Example:\n  desk serve --store museum.sqlite --port 8041 --count 1000 --zone CET-1CEST,M3.5.0,M10.5.0/3",
+            "Examples:\n  desk serve --store museum.sqlite\n  desk serve --store museum.sqlite --port 8041 --count 1000 --zone CET-1CEST,M3.5.0,M10.5.0/3",
         )
         .arg(store_option(alloc))?
         .arg(port_option(alloc))?
         .arg(socket_option(alloc))?
-        .arg(count_option(alloc))?
-        .arg(zone_option(alloc))?
-        .arg(trust_option(alloc))
+        .arg(count_option(alloc))?;
+    add_clocks(alloc, begun)
 }
 
 fn request_option<'a>(alloc: Global) -> Arg<'a>
@@ -260,34 +318,23 @@ fn serve_command<'a>(alloc: Global) -> Result<Command<'a>, AllocError>
     untimed_command(alloc)?
         .arg(request_option(alloc))?
         .arg(write_option(alloc))?
-        .arg(reply_option(alloc))
+        .arg(reply_option(alloc))?
+        .arg(explain_flag(alloc))
 }
 
 fn import_command<'a>(alloc: Global) -> Result<Command<'a>, AllocError>
     ensures shape { IfOk result (λ import. app_of import ≡ import_app) }
     ensures local { IfOk result (λ import. (fields_of import).has_globals ≡ false) }
 {
-    Command::new(alloc, "import")
+    let begun = Command::new(alloc, "import")
         .about("Takes in the images that a sheet names, and tells what became of each row")
+        .override_usage("desk import [OPTIONS] --store <FILE> --key <KEY> --sheet <SHEET>")
         .after_help(
-            "Example:\n  desk import --store museum.sqlite --key 'a long phrase' --sheet images.csv",
+            "Examples:\n  desk import --store museum.sqlite --key 'a long phrase' --sheet images.csv\n  desk import --store museum.sqlite --key-file key.txt --sheet images.csv",
         )
-        .arg(store_option(alloc))?
-        .arg(key_option(alloc))?
-        .arg(sheet_option(alloc))?
-        .arg(moment_option(alloc))?
-        .arg(zone_option(alloc))?
-        .arg(trust_option(alloc))
-}
-
-/// The option for a desk key that may be absent.
-fn optional_key_option<'a>(alloc: Global) -> Arg<'a>
-    ensures rule { rule_of result ≡ optional_key_rule }
-    ensures local { result.global ≡ false }
-{
-    Arg::new(alloc, "key").long("key").value_name("KEY").help(
-        "A desk key, without blanks and tabs at both ends; the public has none",
-    )
+        .arg(store_option(alloc))?;
+    let given = add_caller(alloc, begun)?.arg(sheet_option(alloc))?;
+    add_moment(alloc, given)?.arg(explain_flag(alloc))
 }
 
 fn accession_option<'a>(alloc: Global) -> Arg<'a>
@@ -306,29 +353,25 @@ fn export_command<'a>(alloc: Global) -> Result<Command<'a>, AllocError>
     ensures shape { IfOk result (λ export. app_of export ≡ export_app) }
     ensures local { IfOk result (λ export. (fields_of export).has_globals ≡ false) }
 {
-    Command::new(alloc, "export")
+    let begun = Command::new(alloc, "export")
         .about("Writes the catalogue: the files of all accessions that the caller may see")
         .after_help("Example:\n  desk export --store museum.sqlite")
-        .arg(store_option(alloc))?
-        .arg(optional_key_option(alloc))?
-        .arg(moment_option(alloc))?
-        .arg(zone_option(alloc))?
-        .arg(trust_option(alloc))
+        .arg(store_option(alloc))?;
+    let given = add_caller(alloc, begun)?;
+    add_moment(alloc, given)?.arg(explain_flag(alloc))
 }
 
 fn check_command<'a>(alloc: Global) -> Result<Command<'a>, AllocError>
     ensures shape { IfOk result (λ check. app_of check ≡ check_app) }
     ensures local { IfOk result (λ check. (fields_of check).has_globals ≡ false) }
 {
-    Command::new(alloc, "check")
+    let begun = Command::new(alloc, "check")
         .about("Tells whether the image of an accession is as it was given, and records it")
+        .override_usage("desk check [OPTIONS] --store <FILE> --key <KEY> --acc <ACCESSION>")
         .after_help("Example:\n  desk check --store museum.sqlite --key 'a long phrase' --acc 12")
-        .arg(store_option(alloc))?
-        .arg(key_option(alloc))?
-        .arg(accession_option(alloc))?
-        .arg(moment_option(alloc))?
-        .arg(zone_option(alloc))?
-        .arg(trust_option(alloc))
+        .arg(store_option(alloc))?;
+    let given = add_caller(alloc, begun)?.arg(accession_option(alloc))?;
+    add_moment(alloc, given)?.arg(explain_flag(alloc))
 }
 
 /// The operand for what to show.
@@ -356,31 +399,30 @@ fn show_command<'a>(alloc: Global) -> Result<Command<'a>, AllocError>
     ensures shape { IfOk result (λ show. IsShowApp (app_of show)) }
     ensures local { IfOk result (λ show. (fields_of show).has_globals ≡ false) }
 {
-    Command::new(alloc, "show")
+    let begun = Command::new(alloc, "show")
         .about(
             "Shows the staff what the desk holds: deeds, takedowns, keys, checks, or the verdicts of a day",
         )
+        .override_usage("desk show [OPTIONS] --store <FILE> --key <KEY> <WHAT>")
         .after_help(
             "Examples:\n  desk show deeds --store museum.sqlite --key 'a long phrase'\n  desk show verdicts --on 2030-01-01 --store museum.sqlite --key 'a long phrase'",
         )
         .arg(what_operand(alloc))?
-        .arg(store_option(alloc))?
-        .arg(key_option(alloc))?
-        .arg(day_option(alloc))?
-        .arg(moment_option(alloc))?
-        .arg(zone_option(alloc))?
-        .arg(trust_option(alloc))
+        .arg(store_option(alloc))?;
+    let given = add_caller(alloc, begun)?.arg(day_option(alloc))?;
+    add_moment(alloc, given)?.arg(explain_flag(alloc))
 }
 
 fn staff_key_command<'a>(alloc: Global) -> Result<Command<'a>, AllocError>
     ensures shape { IfOk result (λ staff_key. app_of staff_key ≡ staff_key_app) }
     ensures local { IfOk result (λ staff_key. (fields_of staff_key).has_globals ≡ false) }
 {
-    Command::new(alloc, "staff-key")
+    let begun = Command::new(alloc, "staff-key")
         .about("Puts a desk key as one of the staff, for whoever may write the store")
+        .override_usage("desk staff-key [OPTIONS] --store <FILE> --key <KEY>")
         .after_help("Example:\n  desk staff-key --store museum.sqlite --key 'another long phrase'")
-        .arg(store_option(alloc))?
-        .arg(key_option(alloc))
+        .arg(store_option(alloc))?;
+    add_caller(alloc, begun)?.arg(explain_flag(alloc))
 }
 
 /// The option for the file to which a store is copied.
@@ -404,7 +446,8 @@ fn copy_command<'a>(alloc: Global) -> Result<Command<'a>, AllocError>
         .after_help("Example:\n  desk copy --store museum.sqlite --to new.sqlite --sums")
         .arg(store_option(alloc))?
         .arg(target_option(alloc))?
-        .arg(sums_option(alloc))
+        .arg(sums_option(alloc))?
+        .arg(explain_flag(alloc))
 }
 
 /// The program's command line, without its commands.

@@ -9,6 +9,8 @@ ghost use Rattle.rd_commands.specs.declared.files.MachineFault.TheVariants as ma
 ghost use Rattle.rd_commands.specs.declared.refusal.Refusal.TheVariants as refusal;
 
 use crate::refusal::Refusal;
+use crate::remembered::{RowNote, SystemFault};
+use rd_explanations::Line;
 use std::alloc::Global;
 use std::io::{self, ErrorKind, Write};
 
@@ -88,4 +90,17 @@ pub trait Files {
     fn read_sheet(&mut self, alloc: Global, path: &str) -> Result<Vec<u8>, MachineFault>
         ensures bytes { IfOk result (λ bytes. IfSome (sheet_bytes self.old path.now) (λ shown. bytes.items ≡ shown)) }
         ensures same { self.new ≡ self.old };
+
+    /// Takes out what the system said when the machine last did not give something; `None` if it does not remember.
+    fn last_fault(&self) -> Option<SystemFault> {
+        None
+    }
+
+    /// Remembers why a row of a sheet was not done, if it remembers such things.
+    fn note_row(&self, _row: u64, _note: RowNote) {}
+
+    /// Takes out the lines of these rows, in their order.
+    fn noted_rows(&self, alloc: Global) -> Vec<Line> {
+        Vec::new(alloc)
+    }
 }

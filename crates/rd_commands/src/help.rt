@@ -53,7 +53,7 @@ Examples:
 /// The help of `cat`.
 pub const CAT_HELP: &str = "Writes the bytes of a file of an image to standard output
 
-Usage: desk cat <KIND> <IMAGE> <SLOT>
+Usage: desk cat [OPTIONS] <KIND> <IMAGE> <SLOT>
 
 Arguments:
   <KIND>   The kind of disk image; a d64e is a d64 with error bytes behind it [possible values: cpm8, d64, d64e]
@@ -61,7 +61,8 @@ Arguments:
   <SLOT>   The slot of the file in the directory, 0 to 9999
 
 Options:
-  -h, --help  Print help
+      --explain  Says more about a refusal, in lines below its name
+  -h, --help     Print help
 
 Examples:
   desk cat cpm8 disk.img 0
@@ -71,14 +72,15 @@ Examples:
 /// The help of `list`.
 pub const LIST_HELP: &str = "Lists the files of an image: slot, user, type, size, faults and name
 
-Usage: desk list <KIND> <IMAGE>
+Usage: desk list [OPTIONS] <KIND> <IMAGE>
 
 Arguments:
   <KIND>   The kind of disk image; a d64e is a d64 with error bytes behind it [possible values: cpm8, d64, d64e]
   <IMAGE>  The path of the image, or - for standard input
 
 Options:
-  -h, --help  Print help
+      --explain  Says more about a refusal, in lines below its name
+  -h, --help     Print help
 
 Examples:
   desk list cpm8 disk.img
@@ -91,10 +93,12 @@ pub const INIT_HELP: &str = "Makes a desk with one staff key in the file of a st
 Usage: desk init [OPTIONS] --store <FILE> --key <KEY>
 
 Options:
-      --store <FILE>  The file of the store
-      --key <KEY>     A desk key of the staff, without blanks and tabs at both ends
-      --sums          Puts a sum at the end of each page of the store, so that a bit that flips is seen
-  -h, --help          Print help
+      --store <FILE>     The file of the store
+      --key <KEY>        A desk key, without blanks and tabs at both ends; other users of this machine can read it here
+      --key-file <FILE>  A file with the desk key as its first line, or - for standard input
+      --sums             Puts a sum at the end of each page of the store, so that a bit that flips is seen
+      --explain          Says more about a refusal, in lines below its name
+  -h, --help             Print help
 
 Examples:
   desk init --store museum.sqlite --key 'a long phrase'
@@ -105,21 +109,24 @@ Examples:
 pub const SERVE_HELP: &str =
     "Serves visits over HTTP on 127.0.0.1 or at a Unix socket, one after the other
 
-Usage: desk serve [OPTIONS] --store <FILE> --count <COUNT>
+Usage: desk serve [OPTIONS] --store <FILE>
 
 Options:
       --store <FILE>               The file of the store
-      --port <PORT>                The port on 127.0.0.1, 1 to 65535; give this or --socket
+      --port <PORT>                The port on 127.0.0.1, 1 to 65535; 8041 where neither this nor --socket is given
       --socket <PATH>              The path of a Unix socket, which desk makes; give this or --port
-      --count <COUNT>              How many visits are served, 0 to 4294967295
+      --count <COUNT>              How many visits are served, 0 to 4294967295; as many as come where it is not given
       --zone <ZONE>                The rule of the desk's clocks as POSIX writes it, such as CET-1CEST,M3.5.0,M10.5.0/3; UTC0 where it is not given
+      --zone-file <FILE>           A file of the time zone database, in whose last line the rule of the desk's clocks is, in place of --zone
       --trust-clock                Goes by the clock even if it shows a day long before that of a recorded check
       --request-timeout <SECONDS>  The most seconds for sending a request, 1 to 3600; 10 where it is not given
       --write-timeout <SECONDS>    The most seconds that a reply waits for room, 1 to 3600; 10 where it is not given
       --reply-timeout <SECONDS>    The most seconds for taking a reply, 1 to 3600; 60 where it is not given
+      --explain                    Says more about a refusal, in lines below its name
   -h, --help                       Print help
 
-Example:
+Examples:
+  desk serve --store museum.sqlite
   desk serve --store museum.sqlite --port 8041 --count 1000 --zone CET-1CEST,M3.5.0,M10.5.0/3
 ";
 
@@ -130,16 +137,20 @@ pub const IMPORT_HELP: &str =
 Usage: desk import [OPTIONS] --store <FILE> --key <KEY> --sheet <SHEET>
 
 Options:
-      --store <FILE>   The file of the store
-      --key <KEY>      A desk key of the staff, without blanks and tabs at both ends
-      --sheet <SHEET>  The file of the sheet: CSV with the header accession,kind,deed,sha256,file
-      --at <SECONDS>   The moment, in seconds since 1970-01-01 of UTC, that of the clock where it is not given
-      --zone <ZONE>    The rule of the desk's clocks as POSIX writes it, such as CET-1CEST,M3.5.0,M10.5.0/3; UTC0 where it is not given
-      --trust-clock    Goes by the clock even if it shows a day long before that of a recorded check
-  -h, --help           Print help
+      --store <FILE>      The file of the store
+      --key <KEY>         A desk key, without blanks and tabs at both ends; other users of this machine can read it here
+      --key-file <FILE>   A file with the desk key as its first line, or - for standard input
+      --sheet <SHEET>     The file of the sheet: CSV with the header accession,kind,deed,sha256,file
+      --at <SECONDS>      The moment, in seconds since 1970-01-01 of UTC, or a date, such as 2030-01-01, for the first second of that day; that of the clock where it is not given
+      --zone <ZONE>       The rule of the desk's clocks as POSIX writes it, such as CET-1CEST,M3.5.0,M10.5.0/3; UTC0 where it is not given
+      --zone-file <FILE>  A file of the time zone database, in whose last line the rule of the desk's clocks is, in place of --zone
+      --trust-clock       Goes by the clock even if it shows a day long before that of a recorded check
+      --explain           Says more about a refusal, in lines below its name
+  -h, --help              Print help
 
-Example:
+Examples:
   desk import --store museum.sqlite --key 'a long phrase' --sheet images.csv
+  desk import --store museum.sqlite --key-file key.txt --sheet images.csv
 ";
 
 /// The help of `export`.
@@ -149,12 +160,15 @@ pub const EXPORT_HELP: &str =
 Usage: desk export [OPTIONS] --store <FILE>
 
 Options:
-      --store <FILE>  The file of the store
-      --key <KEY>     A desk key, without blanks and tabs at both ends; the public has none
-      --at <SECONDS>  The moment, in seconds since 1970-01-01 of UTC, that of the clock where it is not given
-      --zone <ZONE>   The rule of the desk's clocks as POSIX writes it, such as CET-1CEST,M3.5.0,M10.5.0/3; UTC0 where it is not given
-      --trust-clock   Goes by the clock even if it shows a day long before that of a recorded check
-  -h, --help          Print help
+      --store <FILE>      The file of the store
+      --key <KEY>         A desk key, without blanks and tabs at both ends; other users of this machine can read it here
+      --key-file <FILE>   A file with the desk key as its first line, or - for standard input
+      --at <SECONDS>      The moment, in seconds since 1970-01-01 of UTC, or a date, such as 2030-01-01, for the first second of that day; that of the clock where it is not given
+      --zone <ZONE>       The rule of the desk's clocks as POSIX writes it, such as CET-1CEST,M3.5.0,M10.5.0/3; UTC0 where it is not given
+      --zone-file <FILE>  A file of the time zone database, in whose last line the rule of the desk's clocks is, in place of --zone
+      --trust-clock       Goes by the clock even if it shows a day long before that of a recorded check
+      --explain           Says more about a refusal, in lines below its name
+  -h, --help              Print help
 
 Example:
   desk export --store museum.sqlite
@@ -167,13 +181,16 @@ pub const CHECK_HELP: &str =
 Usage: desk check [OPTIONS] --store <FILE> --key <KEY> --acc <ACCESSION>
 
 Options:
-      --store <FILE>     The file of the store
-      --key <KEY>        A desk key of the staff, without blanks and tabs at both ends
-      --acc <ACCESSION>  The number of an accession, 1 to 999999
-      --at <SECONDS>     The moment, in seconds since 1970-01-01 of UTC, that of the clock where it is not given
-      --zone <ZONE>      The rule of the desk's clocks as POSIX writes it, such as CET-1CEST,M3.5.0,M10.5.0/3; UTC0 where it is not given
-      --trust-clock      Goes by the clock even if it shows a day long before that of a recorded check
-  -h, --help             Print help
+      --store <FILE>      The file of the store
+      --key <KEY>         A desk key, without blanks and tabs at both ends; other users of this machine can read it here
+      --key-file <FILE>   A file with the desk key as its first line, or - for standard input
+      --acc <ACCESSION>   The number of an accession, 1 to 999999
+      --at <SECONDS>      The moment, in seconds since 1970-01-01 of UTC, or a date, such as 2030-01-01, for the first second of that day; that of the clock where it is not given
+      --zone <ZONE>       The rule of the desk's clocks as POSIX writes it, such as CET-1CEST,M3.5.0,M10.5.0/3; UTC0 where it is not given
+      --zone-file <FILE>  A file of the time zone database, in whose last line the rule of the desk's clocks is, in place of --zone
+      --trust-clock       Goes by the clock even if it shows a day long before that of a recorded check
+      --explain           Says more about a refusal, in lines below its name
+  -h, --help              Print help
 
 Example:
   desk check --store museum.sqlite --key 'a long phrase' --acc 12
@@ -189,13 +206,16 @@ Arguments:
   <WHAT>  What to show: the verdicts as a CSV table, all else as JSON [possible values: deeds, takedowns, keys, checks, verdicts]
 
 Options:
-      --store <FILE>  The file of the store
-      --key <KEY>     A desk key of the staff, without blanks and tabs at both ends
-      --on <DATE>     The day of the verdicts, such as 2030-01-01; `verdicts` needs it, and nothing else takes it
-      --at <SECONDS>  The moment, in seconds since 1970-01-01 of UTC, that of the clock where it is not given
-      --zone <ZONE>   The rule of the desk's clocks as POSIX writes it, such as CET-1CEST,M3.5.0,M10.5.0/3; UTC0 where it is not given
-      --trust-clock   Goes by the clock even if it shows a day long before that of a recorded check
-  -h, --help          Print help
+      --store <FILE>      The file of the store
+      --key <KEY>         A desk key, without blanks and tabs at both ends; other users of this machine can read it here
+      --key-file <FILE>   A file with the desk key as its first line, or - for standard input
+      --on <DATE>         The day of the verdicts, such as 2030-01-01; `verdicts` needs it, and nothing else takes it
+      --at <SECONDS>      The moment, in seconds since 1970-01-01 of UTC, or a date, such as 2030-01-01, for the first second of that day; that of the clock where it is not given
+      --zone <ZONE>       The rule of the desk's clocks as POSIX writes it, such as CET-1CEST,M3.5.0,M10.5.0/3; UTC0 where it is not given
+      --zone-file <FILE>  A file of the time zone database, in whose last line the rule of the desk's clocks is, in place of --zone
+      --trust-clock       Goes by the clock even if it shows a day long before that of a recorded check
+      --explain           Says more about a refusal, in lines below its name
+  -h, --help              Print help
 
 Examples:
   desk show deeds --store museum.sqlite --key 'a long phrase'
@@ -206,12 +226,14 @@ Examples:
 pub const STAFF_KEY_HELP: &str =
     "Puts a desk key as one of the staff, for whoever may write the store
 
-Usage: desk staff-key --store <FILE> --key <KEY>
+Usage: desk staff-key [OPTIONS] --store <FILE> --key <KEY>
 
 Options:
-      --store <FILE>  The file of the store
-      --key <KEY>     A desk key of the staff, without blanks and tabs at both ends
-  -h, --help          Print help
+      --store <FILE>     The file of the store
+      --key <KEY>        A desk key, without blanks and tabs at both ends; other users of this machine can read it here
+      --key-file <FILE>  A file with the desk key as its first line, or - for standard input
+      --explain          Says more about a refusal, in lines below its name
+  -h, --help             Print help
 
 Example:
   desk staff-key --store museum.sqlite --key 'another long phrase'
@@ -227,6 +249,7 @@ Options:
       --store <FILE>  The file of the store
       --to <FILE>     The file of the new store; there must be none yet
       --sums          Puts a sum at the end of each page of the store, so that a bit that flips is seen
+      --explain       Says more about a refusal, in lines below its name
   -h, --help          Print help
 
 Example:

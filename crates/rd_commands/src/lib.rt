@@ -2,10 +2,12 @@
 //! and the rows of a sheet. It names no database.
 #![tactic(auto)]
 
+mod beside;
 mod blanks;
 pub mod cat;
 mod command_line;
 mod done;
+mod explaining;
 mod files;
 mod help;
 mod input;
@@ -13,6 +15,7 @@ pub mod list;
 mod output;
 mod printed;
 mod refusal;
+mod remembered;
 mod serving;
 mod sheet;
 mod source;
@@ -20,13 +23,16 @@ mod tell;
 mod version;
 mod words;
 
+pub use beside::{Beside, Told};
 pub use done::{Done, whole};
+pub use explaining::tell_notes;
 pub use files::{Files, MachineFault};
 pub use input::read_front;
 pub use output::write_whole;
 pub use refusal::Refusal;
+pub use remembered::{Remembered, RowNote, SystemFault};
 pub use serving::{Place, Timeouts};
-pub use sheet::{SheetRow, is_header, next_row, row_of};
+pub use sheet::{SheetRow, bad_column, is_header, next_row, row_of};
 pub use tell::{exit_code, tell_refusal, tell_unread};
 pub use words::{
     Ask, CopyAsk, FileAsk, ImageAsk, ImportAsk, InitAsk, OneQuestionAsk, Question, ServeAsk, Shown,

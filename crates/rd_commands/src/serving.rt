@@ -5,7 +5,7 @@ ghost use Rattle.std.specs.Str.Parse.{ParsesUnsigned};
 ghost use Rattle.std.specs.declared.num.ParseIntError.{ParseIntError};
 ghost use Rattle.clap.specs.Words.{first_of, found_of, one_of, rows_of, subcommand_rows_of};
 ghost use Rattle.rd_commands.specs.Asks.{EntersAtAPlace, EntersNoPlace};
-ghost use Rattle.rd_commands.specs.Serving.{AreSeconds, GivesTimeouts, IsNumberTold, NamesOnePlace, NamesPlace, place_of};
+ghost use Rattle.rd_commands.specs.Serving.{AreSeconds, GivesTimeouts, IsCountGiven, IsCountTold, IsNumberTold, IsPortTold, NamesOnePlace, NamesPlace, place_of};
 ghost use Rattle.rd_commands.specs.Serving.Place.{Socket};
 ghost use Rattle.rd_commands.specs.Serving as spec;
 ghost use Rattle.rd_commands.specs.declared.words.Unread.TheVariants as Unread;
@@ -56,7 +56,42 @@ fn socket_alone<'a>(found: &ArgMatches, path: &'a str) -> Option<Place<'a>>
     }
 }
 
-/// The place that one of its two options gives; `None` if none does, or both do.
+/// The port of visits where the words name none.
+const USUAL_PORT: u16 = 8_041;
+
+/// The port that its option gives, 8041 if it is absent; `None` if its text is no port.
+fn port_told(found: &ArgMatches) -> Option<u16>
+    ensures asked { (port : ℕ) → IsPortTold (rows_of (found_of found.now)) port → result ≡ Some port }
+    ensures told { IfSome result (IsPortTold (rows_of (found_of found.now))) }
+{
+    match found.get_str("port") {
+        Some(_) => port_asked(found),
+        None => Some(USUAL_PORT),
+    }
+}
+
+/// The number of visits that its option reads as, `None` if there is none.
+fn count_given(found: &ArgMatches) -> Option<u32>
+    ensures asked { (text : List ℕ) (count : ℕ)
+        → one_of (codes "count") (rows_of (found_of found.now)) ≡ Some text
+        → ParsesUnsigned {E = ParseIntError} 32 10 text (Ok count) → result ≡ Some count }
+    ensures told { IfSome result (IsCountGiven (one_of (codes "count") (rows_of (found_of found.now)))) }
+{
+    found.get_one::<u32>("count")
+}
+
+/// How many visits its option gives, more than will ever come if it is absent; `None` if its text is no number.
+pub(crate) fn count_asked(found: &ArgMatches) -> Option<u64>
+    ensures asked { (count : ℕ) → IsCountTold (rows_of (found_of found.now)) count → result ≡ Some count }
+    ensures told { IfSome result (IsCountTold (rows_of (found_of found.now))) }
+{
+    match found.get_str("count") {
+        Some(_) => Some(u64::from(count_given(found)?)),
+        None => Some(u64::MAX),
+    }
+}
+
+/// The place that one of its two options gives, and the port 8041 if neither does; `None` if both do.
 pub(crate) fn place_asked<'a>(found: &ArgMatches<'a>) -> Option<Place<'a>>
     ensures asked { (place : spec.Place) → NamesPlace (rows_of (found_of found.now)) place
         → IsSomeAnd result (λ told. place_of told ≡ place) }
@@ -64,13 +99,13 @@ pub(crate) fn place_asked<'a>(found: &ArgMatches<'a>) -> Option<Place<'a>>
 {
     match found.get_str("socket") {
         Some(path) => socket_alone(found, path),
-        None => Some(Place::Port(port_asked(found)?)),
+        None => Some(Place::Port(port_told(found)?)),
     }
 }
 
 /// Looks whether the options of `serve` name one place.
 ///
-/// It fails with `Place` when they name none, and when they name two.
+/// It fails with `Place` when they name two.
 fn check_one_place(found: &ArgMatches) -> Result<(), Unread>
     ensures named { OnOk result (NamesOnePlace (rows_of (found_of found.now))) }
     ensures none { IfErr result (λ _. ¬ NamesOnePlace (rows_of (found_of found.now))) }

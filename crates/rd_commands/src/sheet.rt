@@ -6,11 +6,13 @@ ghost use Rattle.csv.specs.Reading.{ReadRecord, ReadsOn, Ready, has_failed, read
 ghost use Rattle.csv.specs.Records.{field_at, fields_of};
 ghost use Rattle.csv.specs.declared.reader.Trim.TheVariants as trim;
 ghost use Rattle.rd_policy.specs.Rules.{IsScope};
+ghost use Rattle.rd_commands.specs.Explaining.{IsBadAt};
 ghost use Rattle.rd_commands.specs.Sheets as spec;
 ghost use Rattle.rd_commands.specs.Sheets.{HasOtherLength, IsBad, IsReadRefusal, IsWithin, Says, header};
 
 use crate::refusal::Refusal;
 use csv::{ByteRecord, ErrorKind, Reader};
+use rd_explanations::Column;
 use rd_protocol::{digest, scope};
 use rd_volume::Kind;
 use std::str;
@@ -82,6 +84,30 @@ pub fn row_of(fields: &ByteRecord) -> Option<SheetRow<'_>>
         digest: digest_at(fields, 3)?,
         file: path_at(fields, 4)?,
     })
+}
+
+/// The first column whose field is missing or badly written; `None` if there is none, as in the fields of which `row_of`
+/// gives a row.
+pub fn bad_column(fields: &ByteRecord) -> Option<Column>
+    ensures bad { IfSome result (IsBadAt (fields_of fields.now)) }
+    ensures none { IfNone result ((column : Column) → ¬ IsBadAt (fields_of fields.now) column) }
+{
+    if scope_at(fields, 0).is_none() {
+        return Some(Column::Accession);
+    }
+    if kind_at(fields, 1).is_none() {
+        return Some(Column::Kind);
+    }
+    if scope_at(fields, 2).is_none() {
+        return Some(Column::Deed);
+    }
+    if digest_at(fields, 3).is_none() {
+        return Some(Column::Digest);
+    }
+    if path_at(fields, 4).is_none() {
+        return Some(Column::File);
+    }
+    None
 }
 
 /// Whether the field at a place is this name.

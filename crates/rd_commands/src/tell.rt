@@ -9,7 +9,7 @@ ghost use Rattle.clap.specs.declared.error.kind.ErrorKind.TheVariants.{DisplayHe
 ghost use Rattle.rd_volume.specs.Words.{words_left};
 ghost use Rattle.rd_commands.specs.Asks.{IsForMemory, IsHelp, IsMistake, IsVersion};
 ghost use Rattle.rd_commands.specs.Helps.{help_for};
-ghost use Rattle.rd_commands.specs.Mistakes.{day_mistake, place_mistake, zone_mistake};
+ghost use Rattle.rd_commands.specs.Mistakes.{day_mistake, key_mistake, moment_mistake, place_mistake, zone_mistake, zones_mistake};
 ghost use Rattle.rd_commands.specs.Output.{AppendsPart};
 ghost use Rattle.rd_commands.specs.Printed.{blanked, refusal_line, words_after};
 ghost use Rattle.rd_commands.specs.Refusals.{status_of};
@@ -40,6 +40,18 @@ const DAY_MISTAKE: &[u8] =
 /// What it says about words of `serve` that name no place, or two.
 const PLACE_MISTAKE: &[u8] =
     b"error: 'serve' needs --port or --socket, and takes only one of them\n\nFor more information, try '--help'.\n";
+
+/// What it says about a key that is there twice, or not at all.
+const KEY_MISTAKE: &[u8] =
+    b"error: give a key by --key or by --key-file, and only by one of them\n\nFor more information, try '--help'.\n";
+
+/// What it says about a rule for clocks that is there twice.
+const ZONES_MISTAKE: &[u8] =
+    b"error: give the rule of the clocks by --zone or by --zone-file, and only by one of them\n\nFor more information, try '--help'.\n";
+
+/// What it says about a text that is no moment.
+const MOMENT_MISTAKE: &[u8] =
+    b"error: --at takes seconds since 1970, 0 to 9223372036854775807, or a date, as in 2030-01-01\n\nFor more information, try '--help'.\n";
 
 /// Writes a word after a blank.
 ///
@@ -125,6 +137,15 @@ pub fn exit_code<E: Write>(ran: Result<u8, Refusal>, errors: &mut E) -> ExitCode
     ExitCode::from(status)
 }
 
+/// Writes what is wrong with words that `clap` accepts, and gives the status. Nothing reports a write that fails.
+fn tell_mistake<E: Write>(text: &[u8], errors: &mut E) -> u8
+    ensures status { result ≡ 2 }
+    ensures written { AppendsPart (E.contents errors.old) (E.contents errors.new) text.now }
+{
+    let _ = write_bytes(errors, text);
+    2
+}
+
 /// Writes the help that the words ask for, the version, what is wrong with the words, or that memory ran out, and gives
 /// the status: 0 if the words ask for help or the version and it is written and flushed, 2 if the words are no command, otherwise 3.
 pub fn tell_unread<F: Files, W: Write, E: Write>(
@@ -148,6 +169,9 @@ pub fn tell_unread<F: Files, W: Write, E: Write>(
     ensures place_mistake { unread ≡ Unread.Place → AppendsPart (E.contents errors.old) (E.contents errors.new) place_mistake }
     ensures mistake_written { unread ≡ Unread.Usage → AppendsPart (E.contents errors.old) (E.contents errors.new) zone_mistake }
     ensures day_mistake { unread ≡ Unread.Day → AppendsPart (E.contents errors.old) (E.contents errors.new) day_mistake }
+    ensures key_mistake { unread ≡ Unread.Key → AppendsPart (E.contents errors.old) (E.contents errors.new) key_mistake }
+    ensures zones_mistake { unread ≡ Unread.Zones → AppendsPart (E.contents errors.old) (E.contents errors.new) zones_mistake }
+    ensures moment_mistake { unread ≡ Unread.Moment → AppendsPart (E.contents errors.old) (E.contents errors.new) moment_mistake }
     ensures memory { IsForMemory unread
         → (result ≡ 3) × Keeps (W.contents output.old) (W.contents output.new) }
     ensures no_memory { IsForMemory unread
@@ -176,6 +200,9 @@ pub fn tell_unread<F: Files, W: Write, E: Write>(
             let _ = write_bytes(errors, PLACE_MISTAKE);
             2
         }
+        Unread::Key => tell_mistake(KEY_MISTAKE, errors),
+        Unread::Zones => tell_mistake(ZONES_MISTAKE, errors),
+        Unread::Moment => tell_mistake(MOMENT_MISTAKE, errors),
         Unread::Clap(error) => {
             let written = match error.kind() {
                 ErrorKind::DisplayHelp => tell_help::<F, W>(words, output),

@@ -8,23 +8,27 @@ ghost use Rattle.httparse.specs.Grammar.{trim_ows};
 ghost use Rattle.rd_geometry.specs.Kinds.{word_of};
 ghost use Rattle.rd_policy.specs.Rules.{IsScope};
 ghost use Rattle.rd_policy.specs.Zones.{IsZoneOf};
-ghost use Rattle.rd_commands.specs.Asks.{AreCatRows, AreCheckRows, AreCopyRows, AreExportRows, AreImportRows, AreInitRows, AreListRows, AreServeRows, AreShowRows, AreStaffKeyRows, IsMomentNamed};
-ghost use Rattle.rd_commands.specs.Asks.{AsksCopying, AsksFile, AsksFiles, AsksImages, AsksNew, AsksOneQuestion, AsksStaff, AsksVisits, AsksWhen, IsAskable};
-ghost use Rattle.rd_commands.specs.Asks.{EntersAtAPlace, EntersNoPlace, EntersTimed};
-ghost use Rattle.rd_commands.specs.Asks.{EntersByRule, EntersCat, EntersCheck, EntersCopy, EntersExport, EntersImport, EntersInit, EntersList, EntersNaming, EntersNamingNone, EntersServe, EntersShow, EntersStaffKey, EntersSumming, EntersTelling, EntersTrusting};
-ghost use Rattle.rd_commands.specs.Asks.{IsCopyAsk, IsWithinLimits, IsFaultOf, IsFileAsk, IsFilesAsk, IsForMemory, IsHelp, IsImportAsk, IsInitAsk, IsMistake, IsOneQuestionAsk, IsServeAsk, IsStaffKeyAsk, IsTold, IsVersion, TellsOnOutput, has_sums, is_trusting};
+ghost use Rattle.rd_commands.specs.Asks.{AreCatRows, AreCheckRows, AreExportRows, AreImportRows, AreInitRows, AreListRows, AreServeRows, AreShowRows, IsMomentNamed};
+ghost use Rattle.rd_commands.specs.Asks.{AsksFile, AsksFiles, AsksImages, AsksNew, AsksOneQuestion, AsksVisits, AsksWhen, IsAskable};
+ghost use Rattle.rd_commands.specs.Asks.{EntersAtAPlace, EntersNamed, EntersNoPlace, EntersTimed};
+ghost use Rattle.rd_commands.specs.Asks.{EntersByRule, EntersCat, EntersCheck, EntersExport, EntersImport, EntersInit, EntersList, EntersNaming, EntersNamingNone, EntersServe, EntersShow, EntersTelling, EntersTrusting};
+ghost use Rattle.rd_commands.specs.Asks.{IsSeenFault, IsWithinLimits, IsFaultOf, IsFileAsk, IsFilesAsk, IsForMemory, IsHelp, IsImportAsk, IsInitAsk, IsMistake, IsOneQuestionAsk, IsServeAsk, IsCheck, IsTold, IsVersion, TellsOnOutput};
+ghost use Rattle.rd_commands.specs.Asks.{AreCopyRows, AreStaffKeyRows, AsksCopying, AsksStaff, EntersCopy, EntersStaffKey, EntersSumming, IsCopyAsk, IsStaffKeyAsk, has_sums, is_trusting};
+ghost use Rattle.rd_commands.specs.Beside.{EntersApart, EntersBeside, EntersTogether, FitsTogether, IsApart, IsTakenApart, TellsBeside};
 ghost use Rattle.rd_commands.specs.CommandLine.{IsDeskApp, IsTaken, IsTakenTelling};
 ghost use Rattle.rd_commands.specs.Commands.{IsAskOf, IsCommand, IsTakenServingNowhere, IsTakenShowingNothing, NamesAPlace, NamesWhatItShows, Sums, TellsARule, Trusts};
 ghost use Rattle.rd_commands.specs.Serving.{GivesTimeouts};
 ghost use Rattle.rd_commands.specs.Serving as spec;
 ghost use Rattle.rd_commands.specs.Shown.{IsDayGiven, IsShowable, IsShownAs, NamesAny, NamesShown};
 ghost use Rattle.rd_commands.specs.Words.{AsksHelp, AsksVersion, IsSlotText};
-ghost use Rattle.rd_commands.specs.Zones.{HasZoneRule, IsFlagTold, IsRuleNamed, TellsTrust};
+ghost use Rattle.rd_commands.specs.Told.{AreSecondsTold, CopyFrom, EntersFrom, ImportFrom, InitFrom, IsAccessionTold, IsKeyTold, OneFrom, ServeFrom, StaffKeyFrom, TellsAll, WhenFrom};
+ghost use Rattle.rd_commands.specs.Zones.{HasZoneRule, IsFlagTold, IsRuleNamed, TellsTrust, rule_text};
 ghost use Rattle.rd_commands.specs.declared.words.Unread.TheVariants as Unread;
 
+use crate::beside::{Beside, Told, beside_found, seconds_read};
 use crate::blanks::trimmed;
 use crate::command_line::desk_command;
-use crate::serving::{Place, Timeouts, check_place, place_asked, timeouts_asked};
+use crate::serving::{Place, Timeouts, check_place, count_asked, place_asked, timeouts_asked};
 use clap::{ArgMatches, Command, Error};
 use rd_policy::{DateFault, Zone, date_read, is_scope};
 use rd_volume::Kind;
@@ -69,7 +73,7 @@ pub struct ServeAsk<'a> {
     /// Where the visitors come.
     pub place: Place<'a>,
     /// How many visits.
-    pub count: u32,
+    pub count: u64,
     /// The zone of the desk's clocks.
     pub zone: Zone,
     /// How long a visitor may take.
@@ -194,8 +198,16 @@ pub enum Unread {
     /// The words are no command, although `clap` accepts them: the text of `--on` is no date, `show verdicts` has no
     /// `--on`, or `show` of anything else has one.
     Day,
-    /// The words are no command, although `clap` accepts them: `serve` has neither a port nor a socket, or both.
+    /// The words are no command, although `clap` accepts them: `serve` has both a port and a socket.
     Place,
+    /// The words are no command, although `clap` accepts them: a key is there twice, on the command line and in a file, or
+    /// the command needs one and there is none.
+    Key,
+    /// The words are no command, although `clap` accepts them: a rule for clocks is there twice, by itself and in a file.
+    Zones,
+    /// The words are no command, although `clap` accepts them: the text of `--at` is neither a number of seconds nor a
+    /// date.
+    Moment,
     /// Memory ran out, and `clap` did not say so.
     NoMemory,
 }
@@ -251,14 +263,19 @@ fn files_asked<'a>(found: &ArgMatches<'a>) -> Option<ImageAsk<'a>>
     })
 }
 
-/// The desk key that its option gives, without blanks and tabs at both ends, `None` if there is
-/// none.
+/// The desk key that its option gives, without blanks and tabs at both ends; nothing, as a key, if it is in a file; and
+/// `None` if there is none.
 fn key_asked<'a>(found: &ArgMatches<'a>) -> Option<&'a [u8]>
-    ensures { (key : List ℕ)
+    ensures asked { (key : List ℕ)
         → first_of (codes "key") (rows_of (found_of found.now)) ≡ Some key
         → IsSomeAnd result (λ trimmed. trimmed.now ≡ trim_ows key) }
+    ensures from { IfSome result (λ key. IsKeyTold (rows_of (found_of found.now)) key.now) }
 {
-    Some(trimmed(found.get_str("key")?.as_bytes()))
+    let Some(key) = found.get_str("key") else {
+        found.get_str("key-file")?;
+        return Some(b"");
+    };
+    Some(trimmed(key.as_bytes()))
 }
 
 /// Whether its flag says that the pages of a new store end in sums.
@@ -275,21 +292,13 @@ fn init_asked<'a>(found: &ArgMatches<'a>) -> Option<InitAsk<'a>>
         → IsSomeAnd result (λ ask. AsksNew ask store key) }
     ensures sums { (summed : Bool) → IsFlagTold (one_of (codes "sums") (rows_of (found_of found.now))) summed
         → IfSome result (λ ask. ask.has_sums ≡ summed) }
+    ensures from { IfSome result (InitFrom (rows_of (found_of found.now))) }
 {
     Some(InitAsk {
         store: found.get_str("store")?,
         key: key_asked(found)?,
         has_sums: sums_asked(found),
     })
-}
-
-/// The number of visits that its option reads as, `None` if there is none.
-fn count_asked(found: &ArgMatches) -> Option<u32>
-    ensures { (text : List ℕ) (count : ℕ)
-        → one_of (codes "count") (rows_of (found_of found.now)) ≡ Some text
-        → ParsesUnsigned {E = ParseIntError} 32 10 text (Ok count) → result ≡ Some count }
-{
-    found.get_one::<u32>("count")
 }
 
 /// The zone whose rule its option gives, that of UTC if it is absent, and `None` if the text is no
@@ -299,6 +308,7 @@ fn zone_asked(found: &ArgMatches) -> Option<Zone>
         → IsRuleNamed (first_of (codes "zone") (rows_of (found_of found.now))) rule
         → IsSomeAnd result (IsZoneOf rule) }
     ensures zone { OnSome result (HasZoneRule (rows_of (found_of found.now))) }
+    ensures from { IfSome result (IsZoneOf (rule_text (first_of (codes "zone") (rows_of (found_of found.now))))) }
 {
     let rule = found.get_str("zone").unwrap_or("UTC0");
     Zone::read(rule).ok()
@@ -312,6 +322,7 @@ fn serve_asked<'a>(found: &ArgMatches<'a>) -> Option<ServeAsk<'a>>
     ensures timeouts { IfSome result (λ ask. GivesTimeouts (rows_of (found_of found.now)) ask.timeouts) }
     ensures zone { OnSome result (HasZoneRule (rows_of (found_of found.now))) }
     ensures trust { (trusted : Bool) → TellsTrust (rows_of (found_of found.now)) trusted → IfSome result (λ ask. ask.is_trusting ≡ trusted) }
+    ensures from { IfSome result (ServeFrom (rows_of (found_of found.now))) }
 {
     Some(ServeAsk {
         store: found.get_str("store")?,
@@ -323,12 +334,13 @@ fn serve_asked<'a>(found: &ArgMatches<'a>) -> Option<ServeAsk<'a>>
     })
 }
 
-/// The moment that its option gives; `None` if it is absent.
+/// The moment whose seconds its option gives; `None` if it gives none.
 fn moment_asked(found: &ArgMatches) -> Option<i64>
-    ensures { (moment : Option ℤ)
-        → IsMomentNamed (one_of (codes "at") (rows_of (found_of found.now))) moment → result ≡ moment }
+    ensures asked { (moment : Option ℤ)
+        → IsMomentNamed (first_of (codes "at") (rows_of (found_of found.now))) moment → result ≡ moment }
+    ensures from { AreSecondsTold (rows_of (found_of found.now)) result }
 {
-    found.get_one::<i64>("at")
+    seconds_read(found.get_str("at")?)
 }
 
 /// Whether its flag says that the clock is trusted.
@@ -341,11 +353,12 @@ fn trust_asked(found: &ArgMatches) -> bool
 /// When to do a command, and by which clocks; `None` if the text of `--zone` is no rule.
 fn when_asked(found: &ArgMatches) -> Option<WhenAsk>
     ensures asked { (moment : Option ℤ) (rule : List ℕ)
-        → IsMomentNamed (one_of (codes "at") (rows_of (found_of found.now))) moment
+        → IsMomentNamed (first_of (codes "at") (rows_of (found_of found.now))) moment
         → IsRuleNamed (first_of (codes "zone") (rows_of (found_of found.now))) rule
         → IsSomeAnd result (λ ask. AsksWhen ask moment rule) }
     ensures zone { OnSome result (HasZoneRule (rows_of (found_of found.now))) }
     ensures trust { (trusted : Bool) → TellsTrust (rows_of (found_of found.now)) trusted → IfSome result (λ ask. ask.is_trusting ≡ trusted) }
+    ensures from { IfSome result (WhenFrom (rows_of (found_of found.now))) }
 {
     Some(WhenAsk {
         seconds: moment_asked(found),
@@ -361,6 +374,7 @@ fn import_asked<'a>(found: &ArgMatches<'a>) -> Option<ImportAsk<'a>>
         → IsSomeAnd result (λ ask. AsksImages ask store key sheet moment rule) }
     ensures zone { OnSome result (HasZoneRule (rows_of (found_of found.now))) }
     ensures trust { (trusted : Bool) → TellsTrust (rows_of (found_of found.now)) trusted → IfSome result (λ ask. ask.when.is_trusting ≡ trusted) }
+    ensures from { IfSome result (ImportFrom (rows_of (found_of found.now))) }
 {
     Some(ImportAsk {
         store: found.get_str("store")?,
@@ -388,6 +402,7 @@ fn accession_asked(found: &ArgMatches) -> Option<u32>
         → one_of (codes "acc") (rows_of (found_of found.now)) ≡ Some text
         → ParsesUnsigned {E = ParseIntError} 32 10 text (Ok acc) → IsScope acc → result ≡ Some acc }
     ensures within { IfSome result IsScope }
+    ensures from { IfSome result (IsAccessionTold (rows_of (found_of found.now))) }
 {
     let acc = found.get_one::<u32>("acc")?;
     if is_scope(acc) { Some(acc) } else { None }
@@ -401,6 +416,7 @@ fn export_asked<'a>(found: &ArgMatches<'a>) -> Option<OneQuestionAsk<'a>>
     ensures zone { OnSome result (HasZoneRule (rows_of (found_of found.now))) }
     ensures trust { (trusted : Bool) → TellsTrust (rows_of (found_of found.now)) trusted → IfSome result (λ ask. ask.when.is_trusting ≡ trusted) }
     ensures question { IfSome result (λ ask. ask.question ≡ Question.Catalogue) }
+    ensures from { IfSome result (OneFrom (rows_of (found_of found.now))) }
 {
     Some(OneQuestionAsk {
         store: found.get_str("store")?,
@@ -418,6 +434,8 @@ fn check_asked<'a>(found: &ArgMatches<'a>) -> Option<OneQuestionAsk<'a>>
     ensures zone { OnSome result (HasZoneRule (rows_of (found_of found.now))) }
     ensures trust { (trusted : Bool) → TellsTrust (rows_of (found_of found.now)) trusted → IfSome result (λ ask. ask.when.is_trusting ≡ trusted) }
     ensures question { IfSome result (λ ask. IsAskable ask.question) }
+    ensures from { IfSome result (OneFrom (rows_of (found_of found.now))) }
+    ensures of { IfSome result (λ ask. IsCheck ask.question) }
 {
     Some(OneQuestionAsk {
         store: found.get_str("store")?,
@@ -499,6 +517,7 @@ fn show_asked<'a>(found: &ArgMatches<'a>, shown: Shown) -> Option<OneQuestionAsk
     ensures zone { OnSome result (HasZoneRule (rows_of (found_of found.now))) }
     ensures trust { (trusted : Bool) → TellsTrust (rows_of (found_of found.now)) trusted → IfSome result (λ ask. ask.when.is_trusting ≡ trusted) }
     ensures question { IfSome result (λ ask. ask.question ≡ Question.Show shown) }
+    ensures from { NamesShown (rows_of (found_of found.now)) shown → IfSome result (OneFrom (rows_of (found_of found.now))) }
 {
     Some(OneQuestionAsk {
         store: found.get_str("store")?,
@@ -510,9 +529,10 @@ fn show_asked<'a>(found: &ArgMatches<'a>, shown: Shown) -> Option<OneQuestionAsk
 
 /// What the options of `staff-key` ask for, `None` if one is missing.
 fn staff_key_asked<'a>(found: &ArgMatches<'a>) -> Option<StaffKeyAsk<'a>>
-    ensures { (store : List ℕ) (key : List ℕ)
+    ensures asked { (store : List ℕ) (key : List ℕ)
         → AreStaffKeyRows (rows_of (found_of found.now)) store key
         → IsSomeAnd result (λ ask. AsksStaff ask store key) }
+    ensures from { IfSome result (StaffKeyFrom (rows_of (found_of found.now))) }
 {
     let store = found.get_str("store")?;
     let key = key_asked(found)?;
@@ -521,9 +541,10 @@ fn staff_key_asked<'a>(found: &ArgMatches<'a>) -> Option<StaffKeyAsk<'a>>
 
 /// What the options of `copy` ask for, `None` if one is missing.
 fn copy_asked<'a>(found: &ArgMatches<'a>) -> Option<CopyAsk<'a>>
-    ensures { (store : List ℕ) (target : List ℕ) (summed : Bool)
+    ensures asked { (store : List ℕ) (target : List ℕ) (summed : Bool)
         → AreCopyRows (rows_of (found_of found.now)) store target summed
         → IsSomeAnd result (λ ask. AsksCopying ask store target summed) }
+    ensures from { IfSome result (CopyFrom (rows_of (found_of found.now))) }
 {
     let from = found.get_str("store")?;
     let target = found.get_str("to")?;
@@ -535,20 +556,36 @@ fn copy_asked<'a>(found: &ArgMatches<'a>) -> Option<CopyAsk<'a>>
     })
 }
 
-/// Looks at what `clap` does not look at: whether `serve` has one place, and what `show` shows; `None` if the words are
-/// not of `show`.
+/// What was seen of the words beside what they ask for.
+#[derive(Clone, Copy)]
+struct Seen<'a> {
+    /// What `show` shows; `None` if the words are not of `show`.
+    shown: Option<Shown>,
+    /// What stands beside the operands.
+    beside: Beside<'a>,
+}
+
+/// Looks at what `clap` does not look at: whether `serve` has one place, which options go together, and what `show`
+/// shows.
 ///
-/// It fails with `Place` when `serve` has no place, or two, and as `shown_found` does.
-fn shown_if_placed(alloc: Global, matches: &ArgMatches) -> Result<Option<Shown>, Unread>
-    ensures named { IfOk result (EntersNaming (subcommand_rows_of matches.now)) }
-    ensures within { IfOk result (λ shown. ForSome shown IsShowable) }
+/// It fails with `Place` when `serve` has two places, as `beside_found` does, and as `shown_found` does.
+fn look<'a>(alloc: Global, matches: &ArgMatches<'a>) -> Result<Seen<'a>, Unread>
+    ensures named { IfOk result (λ seen. EntersNaming (subcommand_rows_of matches.now) seen.shown) }
+    ensures within { IfOk result (λ seen. ForSome seen.shown IsShowable) }
+    ensures beside { IfOk result (λ seen. EntersBeside (subcommand_rows_of matches.now) seen.beside) }
     ensures place { OnOk result (EntersAtAPlace (subcommand_rows_of matches.now)) }
+    ensures together { OnOk result (EntersTogether (subcommand_rows_of matches.now)) }
     ensures none { IfErr result (λ fault. fault ≡ Unread.Day → EntersNamingNone (subcommand_rows_of matches.now)) }
     ensures no_place { IfErr result (λ fault. fault ≡ Unread.Place → EntersNoPlace (subcommand_rows_of matches.now)) }
-    ensures failed { IfErr result (λ fault. (fault ≡ Unread.Place) ⊎ ((fault ≡ Unread.Day) ⊎ (fault ≡ Unread.NoMemory))) }
+    ensures apart { IfErr result (λ fault. IsApart fault → EntersApart (subcommand_rows_of matches.now)) }
+    ensures shown_before { IfErr result (λ fault. IsApart fault → EntersNamed (subcommand_rows_of matches.now)) }
+    ensures placed_before { IfErr result (λ fault. IsApart fault → EntersAtAPlace (subcommand_rows_of matches.now)) }
+    ensures failed { IfErr result IsSeenFault }
 {
     check_place(matches)?;
-    shown_asked(alloc, matches)
+    let shown = shown_asked(alloc, matches)?;
+    let beside = beside_found(alloc, matches)?;
+    Ok(Seen { shown, beside })
 }
 
 /// What a command asks for, from a parse of the words, and what `show` shows; `None` if the parse found no command.
@@ -590,6 +627,7 @@ fn ask_found<'a>(matches: &ArgMatches<'a>, shown: Option<Shown>) -> Option<Ask<'
     ensures zone { OnSome result (EntersByRule (subcommand_rows_of matches.now)) }
     ensures trust { (trusted : Bool) → EntersTrusting (subcommand_rows_of matches.now) trusted → IfSome result (λ ask. is_trusting ask ≡ trusted) }
     ensures sums { (summed : Bool) → EntersSumming (subcommand_rows_of matches.now) summed → IfSome result (λ ask. has_sums ask ≡ summed) }
+    ensures from { EntersNaming (subcommand_rows_of matches.now) shown → IfSome result (EntersFrom (subcommand_rows_of matches.now)) }
 {
     let (name, found) = matches.subcommand()?;
     match name {
@@ -611,14 +649,14 @@ fn ask_found<'a>(matches: &ArgMatches<'a>, shown: Option<Shown>) -> Option<Ask<'
 ///
 /// It fails as `read_words` does, but says `NoMemory` of no words in which `clap` finds a fault: of these it gives what
 /// `clap` says.
-fn read_by<'a>(alloc: Global, desk: Command<'a>, words: &'a [&'a str]) -> Result<Ask<'a>, Unread>
+fn read_by<'a>(alloc: Global, desk: Command<'a>, words: &'a [&'a str]) -> Result<Told<'a>, Unread>
     requires { IsDeskApp (app_of desk) }
-    ensures read { IfOk result (IsAskOf (map (λ word. word.now) words.entry.now)) }
-    ensures written_on_output { IfOk result (λ ask. TellsOnOutput ask → IsTakenTelling (map (λ word. word.now) words.entry.now)) }
-    ensures accession { IfOk result IsWithinLimits }
+    ensures read { IfOk result (λ told. IsAskOf (map (λ word. word.now) words.entry.now) told.ask) }
+    ensures written_on_output { IfOk result (λ told. TellsOnOutput told.ask → IsTakenTelling (map (λ word. word.now) words.entry.now)) }
+    ensures accession { IfOk result (λ told. IsWithinLimits told.ask) }
     ensures zone { OnOk result (TellsARule (map (λ word. word.now) words.entry.now)) }
-    ensures trust { (trusted : Bool) → Trusts (map (λ word. word.now) words.entry.now) trusted → IfOk result (λ ask. is_trusting ask ≡ trusted) }
-    ensures sums { (summed : Bool) → Sums (map (λ word. word.now) words.entry.now) summed → IfOk result (λ ask. has_sums ask ≡ summed) }
+    ensures trust { (trusted : Bool) → Trusts (map (λ word. word.now) words.entry.now) trusted → IfOk result (λ told. is_trusting told.ask ≡ trusted) }
+    ensures sums { (summed : Bool) → Sums (map (λ word. word.now) words.entry.now) summed → IfOk result (λ told. has_sums told.ask ≡ summed) }
     ensures shown { OnOk result (NamesWhatItShows (map (λ word. word.now) words.entry.now)) }
     ensures no_rule { IfErr result (λ fault. ¬ TellsARule (map (λ word. word.now) words.entry.now)
         → IsMistake fault ⊎ (IsForMemory fault)) }
@@ -629,6 +667,12 @@ fn read_by<'a>(alloc: Global, desk: Command<'a>, words: &'a [&'a str]) -> Result
     ensures no_place { IfErr result (λ fault. ¬ NamesAPlace (map (λ word. word.now) words.entry.now)
         → (fault ≡ Unread.Place) ⊎ (IsForMemory fault)) }
     ensures placeless { IfErr result (λ fault. fault ≡ Unread.Place → IsTakenServingNowhere (map (λ word. word.now) words.entry.now)) }
+    ensures beside { IfOk result (λ told. TellsBeside (map (λ word. word.now) words.entry.now) told.beside) }
+    ensures all { IfOk result (TellsAll (map (λ word. word.now) words.entry.now)) }
+    ensures together { OnOk result (FitsTogether (map (λ word. word.now) words.entry.now)) }
+    ensures apart { IfErr result (λ fault. ¬ FitsTogether (map (λ word. word.now) words.entry.now)
+        → IsMistake fault ⊎ (IsForMemory fault)) }
+    ensures mixed { IfErr result (λ fault. IsApart fault → IsTakenApart (map (λ word. word.now) words.entry.now)) }
     ensures taken { OnOk result (IsTaken (map (λ word. word.now) words.entry.now)) }
     ensures mistake_in { IfErr result (IsFaultOf (map (λ word. word.now) words.entry.now)) }
     ensures unread { IfErr result (λ fault. IsCommand (map (λ word. word.now) words.entry.now)
@@ -641,8 +685,14 @@ fn read_by<'a>(alloc: Global, desk: Command<'a>, words: &'a [&'a str]) -> Result
 {
     match desk.try_get_matches_from(words) {
         Ok(matches) => {
-            let shown = shown_if_placed(alloc, &matches)?;
-            ask_found(&matches, shown).ok_or(Unread::Usage)
+            let seen = look(alloc, &matches)?;
+            match ask_found(&matches, seen.shown) {
+                Some(ask) => Ok(Told {
+                    ask,
+                    beside: seen.beside,
+                }),
+                None => Err(Unread::Usage),
+            }
         }
         Err(error) => Err(Unread::Clap(error)),
     }
@@ -651,16 +701,17 @@ fn read_by<'a>(alloc: Global, desk: Command<'a>, words: &'a [&'a str]) -> Result
 /// Reads the words of a command, without the program's name.
 ///
 /// It fails with `Clap` when they ask for help or the version or are no command, and when memory runs out while `clap`
-/// reads them; with `Place` when `serve` has neither a port nor a socket, or both; with `Day` when the operand of `show`
-/// and the text of `--on` name nothing that it shows; with `Usage` when the parse gives no command or not all its
-/// operands, or the text of `--zone` is no rule; and with `NoMemory`.
-pub fn read_words<'a>(alloc: Global, words: &'a [&'a str]) -> Result<Ask<'a>, Unread>
-    ensures read { IfOk result (IsAskOf (map (λ word. word.now) words.entry.now)) }
-    ensures written_on_output { IfOk result (λ ask. TellsOnOutput ask → IsTakenTelling (map (λ word. word.now) words.entry.now)) }
-    ensures accession { IfOk result IsWithinLimits }
+/// reads them; with `Place` when `serve` has both a port and a socket; with `Day` when the operand of `show` and the text of
+/// `--on` name nothing that it shows; with `Key` when there is not one key, on the command line or in a file, and with
+/// `Zones` when there are two rules for clocks; with `Moment` when the text of `--at` is no moment; with `Usage` when the
+/// parse gives no command or not all its operands, or the text of `--zone` is no rule; and with `NoMemory`.
+pub fn read_words<'a>(alloc: Global, words: &'a [&'a str]) -> Result<Told<'a>, Unread>
+    ensures read { IfOk result (λ told. IsAskOf (map (λ word. word.now) words.entry.now) told.ask) }
+    ensures written_on_output { IfOk result (λ told. TellsOnOutput told.ask → IsTakenTelling (map (λ word. word.now) words.entry.now)) }
+    ensures accession { IfOk result (λ told. IsWithinLimits told.ask) }
     ensures zone { OnOk result (TellsARule (map (λ word. word.now) words.entry.now)) }
-    ensures trust { (trusted : Bool) → Trusts (map (λ word. word.now) words.entry.now) trusted → IfOk result (λ ask. is_trusting ask ≡ trusted) }
-    ensures sums { (summed : Bool) → Sums (map (λ word. word.now) words.entry.now) summed → IfOk result (λ ask. has_sums ask ≡ summed) }
+    ensures trust { (trusted : Bool) → Trusts (map (λ word. word.now) words.entry.now) trusted → IfOk result (λ told. is_trusting told.ask ≡ trusted) }
+    ensures sums { (summed : Bool) → Sums (map (λ word. word.now) words.entry.now) summed → IfOk result (λ told. has_sums told.ask ≡ summed) }
     ensures shown { OnOk result (NamesWhatItShows (map (λ word. word.now) words.entry.now)) }
     ensures no_rule { IfErr result (λ fault. ¬ TellsARule (map (λ word. word.now) words.entry.now)
         → IsMistake fault ⊎ (IsForMemory fault)) }
@@ -671,6 +722,12 @@ pub fn read_words<'a>(alloc: Global, words: &'a [&'a str]) -> Result<Ask<'a>, Un
     ensures no_place { IfErr result (λ fault. ¬ NamesAPlace (map (λ word. word.now) words.entry.now)
         → (fault ≡ Unread.Place) ⊎ (IsForMemory fault)) }
     ensures placeless { IfErr result (λ fault. fault ≡ Unread.Place → IsTakenServingNowhere (map (λ word. word.now) words.entry.now)) }
+    ensures beside { IfOk result (λ told. TellsBeside (map (λ word. word.now) words.entry.now) told.beside) }
+    ensures all { IfOk result (TellsAll (map (λ word. word.now) words.entry.now)) }
+    ensures together { OnOk result (FitsTogether (map (λ word. word.now) words.entry.now)) }
+    ensures apart { IfErr result (λ fault. ¬ FitsTogether (map (λ word. word.now) words.entry.now)
+        → IsMistake fault ⊎ (IsForMemory fault)) }
+    ensures mixed { IfErr result (λ fault. IsApart fault → IsTakenApart (map (λ word. word.now) words.entry.now)) }
     ensures taken { OnOk result (IsTaken (map (λ word. word.now) words.entry.now)) }
     ensures mistake_in { IfErr result (IsFaultOf (map (λ word. word.now) words.entry.now)) }
     ensures unread { IfErr result (λ fault. IsCommand (map (λ word. word.now) words.entry.now)

@@ -5,7 +5,8 @@ ghost use Rattle.rd_messages.specs.Streams.{limits_of};
 use crate::places::{HostListener, at_port, at_socket};
 use rd_http::{Clock, Door, StreamDoor, TimeLimits};
 use rd_program::{
-    Files, Machine, MachineFault, Place, Refusal, connect_fault, exit_code, read_front, run,
+    Files, Line, Machine, MachineFault, Place, Refusal, Remembered, RowNote, Said, SystemFault,
+    Why, connect_fault, exit_code, explain, read_front, run,
 };
 use rd_tables::is_blank;
 use rd_volume::Kind;
@@ -18,7 +19,7 @@ use std::io::{BufWriter, ErrorKind, Read, Write};
 use std::os::unix::fs::OpenOptionsExt;
 use std::process::ExitCode;
 use std::time::{Instant, SystemTime, UNIX_EPOCH};
-use std::{env, fs};
+use std::{env, fs, io};
 
 /// The most bytes that a sheet may have: 64 MiB.
 const SHEET_LIMIT: u64 = 67_108_864;
@@ -92,7 +93,7 @@ fn is_without_sums(rt: &HostRuntime, path: &str) -> Result<bool, MachineFault> {
 /// does nothing.
 ///
 /// It fails when the file cannot be made.
-fn make_file(rt: &HostRuntime, path: &str) -> Result<bool, MachineFault> {
+fn make_file(rt: &HostRuntime, path: &str) -> io::Result<bool> {
     let made = OpenOptions::new()
         .write(true)
         .create_new(true)
@@ -101,7 +102,7 @@ fn make_file(rt: &HostRuntime, path: &str) -> Result<bool, MachineFault> {
     match made {
         Ok(_file) => Ok(true),
         Err(error) if error.kind() == ErrorKind::AlreadyExists => Ok(false),
-        Err(error) => Err(error.into()),
+        Err(error) => Err(error),
     }
 }
 
@@ -125,10 +126,8 @@ impl Clock for HostClock {
 
 /// What opens doors at places of the machine itself.
 pub trait Places<D: Door> {
-    /// A door at a place, for visitors who may take so long.
-    ///
-    /// It fails with `NoMemory`, and with `Failed` when the place cannot be opened.
-    fn open(&self, place: Place, limits: TimeLimits) -> Result<D, MachineFault>;
+    /// A door at a place, for visitors who may take so long. It fails when the place cannot be opened.
+    fn open(&self, place: Place, limits: TimeLimits) -> io::Result<D>;
 }
 
 /// The places of the machine that the program runs on.
@@ -141,8 +140,8 @@ pub struct HostPlaces<'a> {
 pub type HostDoor = StreamDoor<HostListener, HostClock>;
 
 impl Places<HostDoor> for HostPlaces<'_> {
-    /// It also fails with `Failed` when the clock fails.
-    fn open(&self, place: Place, limits: TimeLimits) -> Result<HostDoor, MachineFault>
+    /// It also fails when the clock fails.
+    fn open(&self, place: Place, limits: TimeLimits) -> io::Result<HostDoor>
         ensures { IfOk result (λ door. limits_of door ≡ limits) }
     {
         let listener = match place {
@@ -162,6 +161,8 @@ impl Places<HostDoor> for HostPlaces<'_> {
 pub struct Host<'a, D: Door + Drop, P: Places<D> + Drop> {
     rt: &'a HostRuntime,
     places: P,
+    /// What it remembers for an explanation.
+    remembered: Remembered,
     /// The doors that it has lent, the last one at the end.
     doors: Vec<D>,
 }
@@ -172,6 +173,7 @@ impl<'a> Host<'a, HostDoor, HostPlaces<'a>> {
         Host {
             rt,
             places: HostPlaces { rt },
+            remembered: Remembered::new(rt.alloc()),
             doors: Vec::new(rt.alloc()),
         }
     }
@@ -182,6 +184,56 @@ impl<'a> Host<'a, HostDoor, HostPlaces<'a>> {
 fn seconds_now(rt: &HostRuntime) -> Option<i64> {
     let now = SystemTime::now(rt).ok()?;
     i64::try_from(now.duration_since(UNIX_EPOCH).ok()?.as_secs()).ok()
+}
+
+/// The front of a file: at most one byte more than the largest image has, so that a huge file or a device that never
+/// ends does no harm.
+fn front_of_file(rt: &HostRuntime, alloc: Global, path: &str) -> io::Result<Vec<u8>> {
+    let mut bytes = Vec::new(alloc);
+    fs::open(rt, path)?
+        .take(Kind::largest_size() as u64 + 1)
+        .read_to_end(&mut bytes)?;
+    Ok(bytes)
+}
+
+/// All bytes of a sheet. It reads at most one byte more than a sheet may have.
+fn whole_sheet(rt: &HostRuntime, alloc: Global, path: &str) -> io::Result<Vec<u8>> {
+    let mut bytes = Vec::new(alloc);
+    let count = fs::open(rt, path)?
+        .take(SHEET_LIMIT + 1)
+        .read_to_end(&mut bytes)?;
+    if count as u64 > SHEET_LIMIT {
+        return Err(io::Error::from(ErrorKind::FileTooLarge));
+    }
+    Ok(bytes)
+}
+
+impl<D: Door + Drop, P: Places<D> + Drop> Host<'_, D, P> {
+    /// Keeps what the system said of a path, and gives the fault of the machine.
+    fn keep_fault(&self, path: &str, error: io::Error) -> MachineFault {
+        self.remembered.keep(path, Said::of(error.kind()));
+        MachineFault::from(error)
+    }
+
+    /// Keeps what the system said of a place for visits, and gives the fault of the machine.
+    fn keep_place(&self, place: Place, error: io::Error) -> MachineFault {
+        if let Ok(name) = place_name(self.rt.alloc(), place) {
+            self.remembered.keep(name.as_str(), Said::of(error.kind()));
+        }
+        MachineFault::from(error)
+    }
+}
+
+/// What an explanation calls a place for visits. It fails when memory runs out.
+fn place_name(alloc: Global, place: Place) -> Result<String, AllocError> {
+    match place {
+        Place::Port(port) => {
+            let mut name = String::new(alloc);
+            write!(name, "port {port}")?;
+            Ok(name)
+        }
+        Place::Socket(path) => String::from_str(alloc, path),
+    }
 }
 
 impl<D: Door + Drop, P: Places<D> + Drop> Files for Host<'_, D, P> {
@@ -202,20 +254,30 @@ impl<D: Door + Drop, P: Places<D> + Drop> Files for Host<'_, D, P> {
     /// Reads at most one byte more than the largest image has, so that a huge file or a device that
     /// never ends does no harm.
     fn read_file(&mut self, alloc: Global, path: &str) -> Result<Vec<u8>, MachineFault> {
-        let mut file = fs::open(self.rt, path)?;
-        Ok(read_front(alloc, Kind::largest_size() + 1, &mut file)?)
+        match front_of_file(self.rt, alloc, path) {
+            Ok(bytes) => Ok(bytes),
+            Err(error) => Err(self.keep_fault(path, error)),
+        }
     }
 
     /// Reads at most one byte more than a sheet may have, so that a device that never ends does no harm here either.
     fn read_sheet(&mut self, alloc: Global, path: &str) -> Result<Vec<u8>, MachineFault> {
-        let mut bytes = Vec::new(alloc);
-        let count = fs::open(self.rt, path)?
-            .take(SHEET_LIMIT + 1)
-            .read_to_end(&mut bytes)?;
-        if count as u64 > SHEET_LIMIT {
-            return Err(MachineFault::Failed);
+        match whole_sheet(self.rt, alloc, path) {
+            Ok(bytes) => Ok(bytes),
+            Err(error) => Err(self.keep_fault(path, error)),
         }
-        Ok(bytes)
+    }
+
+    fn last_fault(&self) -> Option<SystemFault> {
+        self.remembered.last_fault()
+    }
+
+    fn note_row(&self, row: u64, note: RowNote) {
+        self.remembered.note_row(row, note);
+    }
+
+    fn noted_rows(&self, _alloc: Global) -> Vec<Line> {
+        self.remembered.noted_rows()
     }
 }
 
@@ -268,7 +330,12 @@ impl<'a, D: Door + Drop, P: Places<D> + Drop> Machine for Host<'a, D, P> {
         if is_no_file(path) {
             return Err(MachineFault::Failed);
         }
-        if !make_file(self.rt, path)? {
+        let is_made = match make_file(self.rt, path) {
+            Ok(is_made) => is_made,
+            Err(error) => return Err(self.keep_fault(path, error)),
+        };
+        if !is_made {
+            self.remembered.keep(path, Said::Standing);
             return Ok(None);
         }
         match open_store(self.rt, path, has_sums) {
@@ -286,12 +353,46 @@ impl<'a, D: Door + Drop, P: Places<D> + Drop> Machine for Host<'a, D, P> {
     }
 
     fn listen(&mut self, place: Place, limits: TimeLimits) -> Result<&mut D, MachineFault> {
-        let door = self.places.open(place, limits)?;
+        let door = match self.places.open(place, limits) {
+            Ok(door) => door,
+            Err(error) => return Err(self.keep_place(place, error)),
+        };
         let last = self.doors.len();
         if self.doors.push(door).is_err() {
             return Err(MachineFault::NoMemory);
         }
         Ok(&mut self.doors[last])
+    }
+}
+
+/// A writer, and what the system said when it last did not take what was written.
+#[derive(Drop)]
+struct Noted<W: Write + Drop> {
+    inner: W,
+    said: Option<Said>,
+}
+
+impl<W: Write + Drop> Noted<W> {
+    /// Keeps what the system said of a call that failed. One that was interrupted is made again, and is no fault.
+    fn note<T>(&mut self, called: io::Result<T>) -> io::Result<T> {
+        if let Err(error) = &called {
+            if error.kind() != ErrorKind::Interrupted {
+                self.said = Some(Said::of(error.kind()));
+            }
+        }
+        called
+    }
+}
+
+impl<W: Write + Drop> Write for Noted<W> {
+    fn write(&mut self, buf: &[u8]) -> io::Result<usize> {
+        let written = self.inner.write(buf);
+        self.note(written)
+    }
+
+    fn flush(&mut self) -> io::Result<()> {
+        let flushed = self.inner.flush();
+        self.note(flushed)
     }
 }
 
@@ -324,17 +425,29 @@ fn run_on<D: Door + Drop, P: Places<D> + Drop>(
     words: &[&str],
     host: &mut Host<'_, D, P>,
 ) -> Result<u8, Refusal> {
-    let Ok(mut output) = BufWriter::new(rt.alloc(), rt.stdout()) else {
+    let mut stdout = Noted {
+        inner: rt.stdout(),
+        said: None,
+    };
+    let Ok(mut output) = BufWriter::new(rt.alloc(), &mut stdout) else {
         return Err(Refusal::NoMemory);
     };
-    Ok(run(
+    let mut why = Why::UNKNOWN;
+    let status = run(
         rt.alloc(),
         words,
         &mut rt.stdin(),
         &mut output,
         &mut rt.stderr(),
         host,
-    ))
+        &mut why,
+    );
+    drop(output);
+    if let Some(said) = stdout.said {
+        host.remembered.keep("standard output", said);
+    }
+    explain(rt.alloc(), &why, host, &mut rt.stderr());
+    Ok(status)
 }
 
 /// Runs the program on the process's words, input and outputs, and gives its exit status.

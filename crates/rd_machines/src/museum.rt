@@ -3,7 +3,9 @@
 ghost use Rattle.std.specs.Prelude.{◌≡◌, IfOk, IfSome, None, Ok, Option, Some, true, ℤ};
 
 use rd_http::{MemoryDoor, TimeLimits};
-use rd_program::{Files, Machine, MachineFault, Place};
+use rd_program::{
+    Files, Line, Machine, MachineFault, Place, Remembered, RowNote, Said, SystemFault,
+};
 use sqlite::{Alter, Connection, MemStore};
 use std::alloc::Global;
 use std::io::Write;
@@ -59,6 +61,17 @@ pub struct Museum<P: Supply + Drop, S: Alter + Drop = MemStore> {
     /// The limits that visitors were given when it lent its door last.
     pub limits: Option<TimeLimits>,
     pub supply: P,
+    /// What it remembers for an explanation: of each file that it does not give, that there is none.
+    pub remembered: Remembered,
+}
+
+impl<P: Supply + Drop, S: Alter + Drop> Museum<P, S> {
+    /// Remembers that there is no file at a path, where it was not given and memory is no reason.
+    fn remember(&self, path: &str, given: &Result<Vec<u8>, MachineFault>) {
+        if let Err(MachineFault::Failed) = given {
+            self.remembered.keep(path, Said::Missing);
+        }
+    }
 }
 
 impl<P: Supply + Drop, S: Alter + Drop> Files for Museum<P, S> {
@@ -74,11 +87,27 @@ impl<P: Supply + Drop, S: Alter + Drop> Files for Museum<P, S> {
     }
 
     fn read_file(&mut self, alloc: Global, path: &str) -> Result<Vec<u8>, MachineFault> {
-        self.supply.image(alloc, path)
+        let given = self.supply.image(alloc, path);
+        self.remember(path, &given);
+        given
     }
 
     fn read_sheet(&mut self, alloc: Global, path: &str) -> Result<Vec<u8>, MachineFault> {
-        self.supply.sheet(alloc, path)
+        let given = self.supply.sheet(alloc, path);
+        self.remember(path, &given);
+        given
+    }
+
+    fn last_fault(&self) -> Option<SystemFault> {
+        self.remembered.last_fault()
+    }
+
+    fn note_row(&self, row: u64, note: RowNote) {
+        self.remembered.note_row(row, note);
+    }
+
+    fn noted_rows(&self, _alloc: Global) -> Vec<Line> {
+        self.remembered.noted_rows()
     }
 }
 
@@ -134,6 +163,7 @@ impl<P: Supply + Drop, S: Alter + Drop> Machine for Museum<P, S> {
     ) -> Result<Option<Connection<S>>, MachineFault> {
         self.supply.check_new_store(has_sums)?;
         if path == STORE {
+            self.remembered.keep(path, Said::Standing);
             return Ok(None);
         }
         if path != NEW_STORE {

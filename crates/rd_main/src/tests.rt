@@ -7,7 +7,7 @@ mod sockets;
 
 use rd_fakes::stream::{End, Narrow, Stumbling, Tape};
 use rd_machines::Bare;
-use rd_program::run;
+use rd_program::{Why, run};
 use rd_samples::cpm::hello;
 use rd_volume::NoMemory;
 use std::alloc::Global;
@@ -34,7 +34,15 @@ fn run_bare<R: Read, W: Write>(
     output: &mut W,
 ) -> (u8, Vec<u8>) {
     let mut errors = Vec::new(alloc);
-    let status = run(alloc, words, input, output, &mut errors, &mut Bare);
+    let status = run(
+        alloc,
+        words,
+        input,
+        output,
+        &mut errors,
+        &mut Bare,
+        &mut { Why::UNKNOWN },
+    );
     (status, errors)
 }
 

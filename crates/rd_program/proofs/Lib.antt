@@ -13,6 +13,12 @@ pub mod RowLemmas
 pub mod DaylessMoments
 pub mod Dated
 pub mod Named
+pub mod OperandLemmas
+pub mod Plain
+pub mod CompletingLemmas
+pub mod WhyLemmas
+pub mod QuietLemmas
+pub mod PerformLemmas
 pub mod StaffKeyLemmas
 pub mod CopyLemmas
 pub mod OnTimeLemmas

@@ -35,3 +35,5 @@ pub mod Faults
 pub mod DiskFiles
 pub mod Answers
 pub use Rattle.rd_commands.specs.Sheets
+pub mod Completing
+pub mod Performing

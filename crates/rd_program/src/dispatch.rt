@@ -1,11 +1,14 @@
-ghost use Rattle.std.specs.Prelude.{◌≡◌, ◌≢◌, ◌⊎◌, ◌≤◌, Bool, IfErr, IfOk, IfSome, List, OnOk, Option, Some, codes, option_map, ℕ, ℤ};
+ghost use Rattle.std.specs.Prelude.{◌≡◌, ◌≢◌, ◌⊎◌, ◌≤◌, ◌+◌, Bool, IfErr, IfOk, IfSome, List, None, OnOk, Option, Some, codes, option_map, ℕ, ℤ};
 ghost use Rattle.std.specs.Io.KnownBytes.{Appends, Keeps};
 ghost use Rattle.httparse.specs.Grammar.{trim_ows};
 ghost use Rattle.sha2.specs.Sha256.{sha256};
+ghost use Rattle.rd_geometry.specs.Kinds.{size_of};
 ghost use Rattle.rd_geometry.specs.declared.kind.Kind.{Kind};
+ghost use Rattle.rd_geometry.specs.declared.kind.Kind.TheVariants as kinds;
 ghost use Rattle.rd_program.specs.Asking.{RefusesOneQuestion, TellsCheck};
 ghost use Rattle.rd_commands.specs.Asks.{AsksADesk, AsksCheckOf, IsWithinLimits, IsFileAsk, IsFilesAsk, IsInitAsk, IsServeAsk, IsStaffKeyAsk, TellsInRows, TellsOnOutput, most_read};
 ghost use Rattle.rd_commands.specs.Cat.{Refuses, Serves};
+ghost use Rattle.rd_commands.specs.CommandLine.{AsksForHelp, AsksForVersion};
 ghost use Rattle.rd_commands.specs.Commands.{AsksCheck, AsksCopy, AsksExport, AsksImport, AsksInit, AsksServe, AsksShow, AsksStaffKey, Sums};
 ghost use Rattle.rd_program.specs.Copying.{CopiesBy};
 ghost use Rattle.rd_program.specs.Importing.{RefusesImport, TellsRows};
@@ -13,8 +16,12 @@ ghost use Rattle.rd_program.specs.Inits.{LeavesInit, MakesDesk, RefusesInit, don
 ghost use Rattle.rd_commands.specs.Input.{ReadsUpTo};
 ghost use Rattle.rd_program.specs.Leaves.{GivesBack, IsDayBy, LeavesBy, LeavesRefused, NamesOpening, OnEnded, StandsThere, moment_of};
 ghost use Rattle.rd_commands.specs.Listed.{Lists, RefusesList};
-ghost use Rattle.rd_commands.specs.Output.{IsFlushed};
+ghost use Rattle.rd_commands.specs.Output.{IsFlushed, AppendsPart};
+ghost use Rattle.rd_commands.specs.Printed.{refusal_line};
 ghost use Rattle.rd_commands.specs.Refusals.{status_of};
+ghost use Rattle.rd_commands.specs.Told.{TellsAll};
+ghost use Rattle.rd_program.specs.Performing.{CompletesSo, DoesPlainly, EndsEarly, ListensBy, MakesBy, PutsBy, RunsSo, sight};
+ghost use Rattle.rd_commands.specs.Beside.{IsPlain};
 ghost use Rattle.rd_program.specs.Rows.{ImportsBy, RefusesSheetBy};
 ghost use Rattle.rd_program.specs.Asked.{AsksBy, IsClockDueBy, IsUnaskedBy, SumsBy};
 ghost use Rattle.rd_program.specs.OnTime.{IsBehindBy, IsOnTimeBy};
@@ -28,6 +35,7 @@ ghost use Rattle.rd_program.specs.StaffKeys.{LeavesStaffKey, PutsStaff, RefusesS
 ghost use Rattle.rd_commands.specs.declared.words.Shown.{Shown};
 ghost use Rattle.rd_program.specs.Promises.{DoesCat, DoesCheck, DoesCopy, DoesExport, DoesImport, DoesInit, DoesList, DoesServe, DoesShow, DoesStaffKey, EndsByWords, KeepsMachine, ReadsInput, TellsOfItself, UsesOneStore, WritesByStatus, texts};
 
+use crate::completing::{completed, read_operands};
 use crate::copy::copy;
 use crate::export_check::ask_once;
 use crate::import::import;
@@ -37,7 +45,7 @@ use crate::serve::serve;
 use crate::staff_key::staff_key;
 use rd_commands::cat::cat;
 use rd_commands::list::list;
-use rd_commands::{Ask, Done, Refusal, read_words, tell_refusal, tell_unread, whole};
+use rd_commands::{Ask, Done, Refusal, Told, read_words, tell_refusal, tell_unread, whole};
 use std::alloc::Global;
 use std::io::{Read, Write};
 
@@ -82,6 +90,11 @@ fn perform<R: Read, W: Write, M: Machine>(
         → IfErr result (λ refusal. RefusesStaffKey refusal (W.contents output.old) (W.contents output.new)
         × LeavesStaffKey M.Disk.Store (M.left machine.old) (M.stands machine.old store) (M.left machine.new) (sha256 (trim_ows key)) refusal
         × NamesOpening M.Disk.Store (M.stands machine.old store) (M.left machine.new) refusal) }
+    ensures makes { MakesBy M.Disk.Store (M.left machine.old) (M.stands machine.old) (M.left machine.new)
+        (W.contents output.old) (W.contents output.new) ask.entry result }
+    ensures puts { PutsBy M.Disk.Store (M.left machine.old) (M.stands machine.old) (M.left machine.new)
+        (W.contents output.old) (W.contents output.new) ask.entry result }
+    ensures listens { ListensBy (W.contents output.old) (W.contents output.new) ask.entry result }
     ensures served { (store : List ℕ) (place : Place) (count : ℕ) (rule : List ℕ) → IsServeAsk store place count rule ask.entry
         → OnOk result (Appends (W.contents output.old) (W.contents output.new) (serve_text place count)) }
     ensures not_served { (store : List ℕ) (place : Place) (count : ℕ) (rule : List ℕ) → IsServeAsk store place count rule ask.entry
@@ -132,6 +145,112 @@ fn perform<R: Read, W: Write, M: Machine>(
     }
 }
 
+/// Does what a command asks for whose operands stand in files in part, or that names a day: it reads the files first.
+///
+/// It fails with `Device` when a file cannot be read or is none of its kind, with `Clock` when the clocks never show the
+/// day, with `NoMemory`, and then as `perform` does.
+fn perform_completed<R: Read, W: Write, M: Machine>(
+    alloc: Global,
+    told: Told,
+    input: &mut R,
+    output: &mut W,
+    machine: &mut M,
+) -> Result<Done, Refusal>
+    requires accession { IsWithinLimits told.ask }
+    requires of_store { most_read told.ask ≡ 0 }
+    ensures never { IfErr result (λ refusal. status_of refusal ≢ 2) }
+    ensures kept { IfErr result (λ refusal. status_of refusal ≡ 1
+        → Keeps (W.contents output.old) (W.contents output.new) ⊎ TellsInRows told.entry.ask) }
+    ensures in_part { IfOk result (λ done. done ≡ Done.InPart → TellsOnOutput told.entry.ask) }
+    ensures flushed { OnOk result (IsFlushed M.flushed (W.contents output.old) (W.contents output.new)) }
+    ensures back { GivesBack (M.shows machine.old) (M.left machine.old) (M.left machine.new) }
+    ensures limit { ReadsUpTo (size_of kinds.Cpm8 + 1) (R.remaining input.old) (R.remaining input.new) }
+    ensures completed { CompletesSo M.Disk.Store M.Door.told M.Door.coming
+        (sight M.shows M.clock M.file_bytes M.sheet_bytes M.stands M.left M.wanted M.sums M.door M.door_limits M.made M.fresh M.new_stores machine.old)
+        (sight M.shows M.clock M.file_bytes M.sheet_bytes M.stands M.left M.wanted M.sums M.door M.door_limits M.made M.fresh M.new_stores machine.new)
+        (R.remaining input.old) (W.contents output.old) (W.contents output.new) told.entry result
+        ⊎ EndsEarly
+        (sight M.shows M.clock M.file_bytes M.sheet_bytes M.stands M.left M.wanted M.sums M.door M.door_limits M.made M.fresh M.new_stores machine.old)
+        (sight M.shows M.clock M.file_bytes M.sheet_bytes M.stands M.left M.wanted M.sums M.door M.door_limits M.made M.fresh M.new_stores machine.new)
+        (W.contents output.old) (W.contents output.new) result }
+{
+    match read_operands(alloc, &told, input, machine) {
+        Ok(operands) => match completed(told, &operands) {
+            Ok(ask) => perform(alloc, ask, input, output, machine),
+            Err(refused) => Err(refused),
+        },
+        Err(refused) => Err(refused),
+    }
+}
+
+/// Does what the words of a command tell.
+///
+/// It fails as `perform_completed` does where operands stand in files or a day in place of a moment, and otherwise as
+/// `perform` does.
+fn perform_told<R: Read, W: Write, M: Machine>(
+    alloc: Global,
+    told: Told,
+    input: &mut R,
+    output: &mut W,
+    machine: &mut M,
+) -> Result<Done, Refusal>
+    requires accession { IsWithinLimits told.ask }
+    requires of_store { ¬ IsPlain told.beside → most_read told.ask ≡ 0 }
+    ensures never { IfErr result (λ refusal. status_of refusal ≢ 2) }
+    ensures kept { IfErr result (λ refusal. status_of refusal ≡ 1
+        → Keeps (W.contents output.old) (W.contents output.new) ⊎ TellsInRows told.entry.ask) }
+    ensures in_part { IfOk result (λ done. done ≡ Done.InPart → TellsOnOutput told.entry.ask) }
+    ensures flushed { OnOk result (IsFlushed M.flushed (W.contents output.old) (W.contents output.new)) }
+    ensures back { GivesBack (M.shows machine.old) (M.left machine.old) (M.left machine.new) }
+    ensures limit { ReadsUpTo (size_of kinds.Cpm8 + 1) (R.remaining input.old) (R.remaining input.new) }
+    ensures so { CompletesSo M.Disk.Store M.Door.told M.Door.coming
+        (sight M.shows M.clock M.file_bytes M.sheet_bytes M.stands M.left M.wanted M.sums M.door M.door_limits M.made M.fresh M.new_stores machine.old)
+        (sight M.shows M.clock M.file_bytes M.sheet_bytes M.stands M.left M.wanted M.sums M.door M.door_limits M.made M.fresh M.new_stores machine.new)
+        (R.remaining input.old) (W.contents output.old) (W.contents output.new) told.entry result
+        ⊎ EndsEarly
+        (sight M.shows M.clock M.file_bytes M.sheet_bytes M.stands M.left M.wanted M.sums M.door M.door_limits M.made M.fresh M.new_stores machine.old)
+        (sight M.shows M.clock M.file_bytes M.sheet_bytes M.stands M.left M.wanted M.sums M.door M.door_limits M.made M.fresh M.new_stores machine.new)
+        (W.contents output.old) (W.contents output.new) result }
+    ensures plain { IsPlain told.entry.beside → DoesPlainly M.Disk.Store M.Door.told M.Door.coming
+        (sight M.shows M.clock M.file_bytes M.sheet_bytes M.stands M.left M.wanted M.sums M.door M.door_limits M.made M.fresh M.new_stores machine.old)
+        (sight M.shows M.clock M.file_bytes M.sheet_bytes M.stands M.left M.wanted M.sums M.door M.door_limits M.made M.fresh M.new_stores machine.new)
+        machine.old machine.new (R.remaining input.old) (R.remaining input.new)
+        (W.contents output.old) (W.contents output.new) told.entry.ask result }
+{
+    if told.beside.is_plain() {
+        return perform(alloc, told.ask, input, output, machine);
+    }
+    perform_completed(alloc, told, input, output, machine)
+}
+
+/// What a run was told, and why it ended so: what an explanation begins with.
+#[derive(Clone, Copy, Debug)]
+pub struct Why<'a> {
+    /// What the words tell; `None` if they are no command.
+    pub told: Option<Told<'a>>,
+    /// Why the command was refused; `None` if it was not.
+    pub refused: Option<Refusal>,
+}
+
+impl Why<'_> {
+    /// Of a run that has not begun.
+    pub const UNKNOWN: Why<'static> = Why {
+        told: None,
+        refused: None,
+    };
+}
+
+/// Writes a refusal as one line, keeps why it ended so, and gives its status.
+fn tell_and_keep<E: Write>(refused: Refusal, errors: &mut E, why: &mut Why<'_>) -> u8
+    ensures status { result ≡ status_of refused }
+    ensures written { AppendsPart (E.contents errors.old) (E.contents errors.new) (refusal_line refused) }
+    ensures kept { why.new.refused ≡ Some refused }
+    ensures told { why.new.told ≡ why.old.told }
+{
+    why.refused = Some(refused);
+    tell_refusal(refused, errors)
+}
+
 /// Runs the program on its words, without its name, and gives its exit status: 0 if it did what
 /// the words ask for; 1 if it refuses the image, its file, a sheet, a row of it or a request, if
 /// there is a desk already, or if a check finds an image changed; 2 if the words are no command; and 3
@@ -140,13 +259,14 @@ fn perform<R: Read, W: Write, M: Machine>(
 /// It reads the image `-` from the input, and any other through the machine. It writes what the
 /// words ask for to the output. It writes a refusal as one line to `errors`, and a mistake in the
 /// words as a text.
-pub fn run<R: Read, W: Write, E: Write, M: Machine>(
+pub fn run<'a, R: Read, W: Write, E: Write, M: Machine>(
     alloc: Global,
-    words: &[&str],
+    words: &'a [&'a str],
     input: &mut R,
     output: &mut W,
     errors: &mut E,
     machine: &mut M,
+    why: &mut Why<'a>,
 ) -> u8
     // Of any words: the status, what the words are at each, what is written and read, and what becomes of the machine.
     ensures status { result ≤ 3 }
@@ -162,6 +282,18 @@ pub fn run<R: Read, W: Write, E: Write, M: Machine>(
         (E.contents errors.old) (E.contents errors.new) }
     ensures itself { TellsOfItself (texts words.entry.now) result
         (W.contents output.old) (W.contents output.new) (E.contents errors.old) (E.contents errors.new) }
+
+    // Where the run keeps why a command was refused, that has this status.
+    ensures why { why.old.refused ≡ None → IfSome why.new.refused (λ refusal. status_of refusal ≡ result) }
+    // What it keeps of the words is what they tell, in all forms: operands in files, and days in place of moments. It did
+    // that, once the files were read, or was refused, with the status and the line of that. At 0 without it, the words ask
+    // for help or the version.
+    ensures told { why.old.told ≡ None → IfSome why.new.told (TellsAll (texts words.entry.now)) }
+    ensures so { why.old.told ≡ None → IfSome why.new.told (λ told. RunsSo M.Disk.Store M.Door.told M.Door.coming
+        (sight M.shows M.clock M.file_bytes M.sheet_bytes M.stands M.left M.wanted M.sums M.door M.door_limits M.made M.fresh M.new_stores machine.old)
+        (sight M.shows M.clock M.file_bytes M.sheet_bytes M.stands M.left M.wanted M.sums M.door M.door_limits M.made M.fresh M.new_stores machine.new)
+        (R.remaining input.old) (W.contents output.old) (W.contents output.new) (E.contents errors.old) (E.contents errors.new) told result) }
+    ensures untold { result ≡ 0 → why.new.told ≡ None → AsksForHelp (texts words.entry.now) ⊎ AsksForVersion (texts words.entry.now) }
 
     // Of an image, on standard input or in a file that the machine shows.
     ensures cat { DoesCat (texts words.entry.now) result (R.remaining input.old) (M.file_bytes machine.old)
@@ -217,10 +349,13 @@ pub fn run<R: Read, W: Write, E: Write, M: Machine>(
         (W.contents output.old) (W.contents output.new) (E.contents errors.old) (E.contents errors.new) }
 {
     match read_words(alloc, words) {
-        Ok(ask) => match perform(alloc, ask, input, output, machine) {
-            Ok(done) => done.status(),
-            Err(refused) => tell_refusal(refused, errors),
-        },
+        Ok(told) => {
+            why.told = Some(told);
+            match perform_told(alloc, told, input, output, machine) {
+                Ok(done) => done.status(),
+                Err(refused) => tell_and_keep(refused, errors, why),
+            }
+        }
         Err(unread) => tell_unread::<M, W, E>(words, unread, output, errors),
     }
 }

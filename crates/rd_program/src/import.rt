@@ -22,9 +22,12 @@ ghost use Rattle.rd_commands.specs.Refusals.{IsDeviceOrMemory};
 ghost use Rattle.rd_commands.specs.Sheets.{IsWithin};
 
 use crate::machine::Machine;
+use crate::noted::{note_answer, note_bad_row};
 use crate::open_desk::{day_on_time, open_desk};
 use csv::{ByteRecord, ReaderBuilder};
-use rd_commands::{Done, ImportAsk, Refusal, SheetRow, is_header, next_row, row_of, write_whole};
+use rd_commands::{
+    Done, ImportAsk, Refusal, RowNote, SheetRow, is_header, next_row, row_of, write_whole,
+};
 use rd_desk::{Desk, Items, Request, Response, Unavailable, What};
 use sha2::{Digest, Sha256};
 use sqlite::Alter;
@@ -144,13 +147,14 @@ fn tell_answer<M: Machine, W: Write>(
     Ok(done_by(&answer))
 }
 
-/// Takes in the image of a row, and writes a line that says what became of it.
+/// Takes in the image of a row, and writes a line that says what became of it. Rows are counted from 1.
 ///
 /// It fails with `Device` when it cannot read the image's file, with `Store` when the desk is
 /// unavailable, with `NoMemory`, and with `Device` when a write or the flush fails.
 fn import_row<W: Write, M: Machine>(
     alloc: Global,
     row: SheetRow,
+    number: u64,
     giver: Giver,
     desk: &mut Desk<M::Disk>,
     output: &mut W,
@@ -171,9 +175,13 @@ fn import_row<W: Write, M: Machine>(
 {
     let bytes = match machine.read_file(alloc, row.file) {
         Ok(bytes) => bytes,
-        Err(fault) => return Err(fault.or(Refusal::Device)),
+        Err(fault) => {
+            machine.note_row(number, RowNote::Unread);
+            return Err(fault.or(Refusal::Device));
+        }
     };
     let answer = put_image(alloc, row, bytes, giver, desk);
+    note_answer(number, row.acc, &answer, machine);
     tell_answer::<M, W>(alloc, row.acc, answer, output)
 }
 
@@ -203,8 +211,9 @@ fn import_fields<W: Write, M: Machine>(
     ensures refused { IfErr result (RefusesRow (W.contents output.old) (W.contents output.new)) }
 {
     match row_of(fields) {
-        Some(row) => import_row(alloc, row, giver, desk, output, machine),
+        Some(row) => import_row(alloc, row, number, giver, desk, output, machine),
         None => {
+            note_bad_row(number, fields, machine);
             tell_bad_row::<M, W>(alloc, number, output)?;
             Ok(Done::InPart)
         }

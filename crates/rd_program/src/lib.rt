@@ -3,18 +3,26 @@
 
 mod answers;
 mod asker;
+mod completing;
 mod copy;
 mod dispatch;
+mod explaining;
 mod export_check;
 mod faults;
 mod import;
 mod init;
 mod machine;
+mod noted;
 mod open_desk;
+mod operands;
 mod serve;
 mod show;
 mod staff_key;
 
-pub use dispatch::run;
+pub use dispatch::{Why, run};
+pub use explaining::explain;
 pub use machine::{Machine, connect_fault};
-pub use rd_commands::{Files, MachineFault, Place, Refusal, exit_code, read_front};
+pub use rd_commands::{
+    Files, MachineFault, Place, Refusal, Remembered, RowNote, SystemFault, exit_code, read_front,
+};
+pub use rd_explanations::{Line, Said};

@@ -7,7 +7,7 @@ use crate::commands::{Sample, bytes_of};
 use anyhow::{Result, bail};
 use rd_fakes::wire::new_door;
 use rd_machines::{Museum, STORE, Supply};
-use rd_program::{MachineFault, run};
+use rd_program::{MachineFault, Remembered, Why, run};
 use rd_samples::days::AFTER;
 use rd_samples::keys::STAFF_KEY;
 use sqlite::{Alter, Connection};
@@ -96,6 +96,7 @@ fn written_on<S: Alter + Drop>(
         &mut output,
         &mut errors,
         museum,
+        &mut { Why::UNKNOWN },
     );
     Written {
         status,
@@ -121,6 +122,7 @@ pub(crate) fn run_command<S: Alter + Drop>(
         door,
         limits: None,
         supply: Given { rows },
+        remembered: Remembered::new(alloc),
     };
     let written = written_on(alloc, words, &mut museum);
     match museum.conn.take() {

@@ -8,7 +8,7 @@ use rd_fakes::wire::new_door;
 use rd_geometry::{Kind, NoMemory};
 use rd_http::TimeLimits;
 use rd_machines::Supply;
-use rd_program::{MachineFault, Place};
+use rd_program::{MachineFault, Place, Remembered};
 use std::alloc::{AllocError, Global};
 
 /// A file of the machine: its path and its bytes.
@@ -95,6 +95,7 @@ pub(crate) fn new_museum(alloc: Global) -> Result<Museum, NoMemory> {
         door: new_door(alloc, Vec::new(alloc))?,
         limits: None,
         supply,
+        remembered: Remembered::new(alloc),
     })
 }
 

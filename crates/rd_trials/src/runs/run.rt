@@ -9,7 +9,7 @@ use rd_fakes::stream::Narrow;
 use rd_fakes::wire::new_door;
 use rd_http::MemoryDoor;
 use rd_played::{Tally, bytes_of};
-use rd_program::{MachineFault, run};
+use rd_program::{MachineFault, Why, explain, run};
 use std::alloc::{AllocError, Global};
 use std::mem;
 
@@ -58,7 +58,8 @@ fn slices_of(alloc: Global, words: &[String]) -> Result<Vec<&str>, AllocError> {
     words.iter().map(|word| word.as_str()).collect(alloc)
 }
 
-/// Runs the program on a machine, without a clause, so that a proof does not carry what the run says.
+/// Runs the program on a machine, and has it explain itself, without a clause, so that a proof does not carry what the
+/// run says.
 fn run_program(
     alloc: Global,
     words: &[&str],
@@ -66,7 +67,10 @@ fn run_program(
     (output, errors): (&mut Narrow, &mut Vec<u8>),
     museum: &mut Museum,
 ) -> u8 {
-    run(alloc, words, &mut input, output, errors, museum)
+    let mut why = Why::UNKNOWN;
+    let status = run(alloc, words, &mut input, output, errors, museum, &mut why);
+    explain(alloc, &why, museum, errors);
+    status
 }
 
 /// A door through which these visitors come.

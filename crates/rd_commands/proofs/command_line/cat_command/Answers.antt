@@ -2,7 +2,7 @@ use Rattle.std.proofs.Common.{◌≡◌, ◌∙◌, ◌||◌, ap₂, codes, fals
 use Rattle.std.proofs.lemmas.Result.{IfOk-weaker}
 use Rattle.clap.specs.Words.{app_of, new_app, with_rule}
 use Rattle.clap.specs.declared.builder.command.Command.TheViews.{out-Command as fields_of}
-use Rattle.rd_commands.specs.CommandLine.{image_rule, kind_rule}
+use Rattle.rd_commands.specs.CommandLine.{image_rule, kind_rule, slot_rule}
 use Rattle.rd_commands.proofs.command_line.cat_command.Goals as goal
 
 pub returns-clause-shape : goal.returns-clause-shape
@@ -13,11 +13,14 @@ returns-clause-shape c =
     c.in_ok-arg.ensures.shape c.kind_operand.ensures.local ∙ ap₂ with_rule bare asked.2 in
     let image : app_of c.in_ok-arg-2.field-0 ≡ with_rule (with_rule (new_app (codes "cat")) (kind_rule asked.0)) image_rule =
     c.in_ok-arg-2.ensures.shape c.image_operand.ensures.local ∙ ap₂ with_rule kind c.image_operand.ensures.rule in
-    IfOk-weaker c.arg-3.result _ _ (λ cat adds. (asked.0, asked.1, adds.shape c.slot_operand.ensures.local ∙ ap₂ with_rule image c.slot_operand.ensures.rule)) c.arg-3.ensures
+    let slot : app_of c.in_ok-arg-3.field-0 ≡ with_rule (with_rule (with_rule (new_app (codes "cat")) (kind_rule asked.0)) image_rule) slot_rule =
+    c.in_ok-arg-3.ensures.shape c.slot_operand.ensures.local ∙ ap₂ with_rule image c.slot_operand.ensures.rule in
+    IfOk-weaker c.arg-4.result _ _ (λ cat adds. (asked.0, asked.1, adds.shape c.explain_flag.ensures.local ∙ ap₂ with_rule slot c.explain_flag.ensures.rule)) c.arg-4.ensures
 
 pub returns-clause-local : goal.returns-clause-local
 returns-clause-local c =
     let bare : (fields_of c.after_help.result).has_globals ≡ false = search rules in
     let kind : (fields_of c.in_ok-arg.field-0).has_globals ≡ false = c.in_ok-arg.ensures.globals ∙ ap₂ ◌||◌ bare c.kind_operand.ensures.local in
     let image : (fields_of c.in_ok-arg-2.field-0).has_globals ≡ false = c.in_ok-arg-2.ensures.globals ∙ ap₂ ◌||◌ kind c.image_operand.ensures.local in
-    IfOk-weaker c.arg-3.result _ _ (λ cat adds. adds.globals ∙ ap₂ ◌||◌ image c.slot_operand.ensures.local) c.arg-3.ensures
+    let slot : (fields_of c.in_ok-arg-3.field-0).has_globals ≡ false = c.in_ok-arg-3.ensures.globals ∙ ap₂ ◌||◌ image c.slot_operand.ensures.local in
+    IfOk-weaker c.arg-4.result _ _ (λ cat adds. adds.globals ∙ ap₂ ◌||◌ slot c.explain_flag.ensures.local) c.arg-4.ensures

@@ -1,28 +1,23 @@
-use Rattle.std.proofs.Common.{◌≡◌, ◌∙◌, ◌||◌, ap₂, codes, false, rules}
+use Rattle.std.proofs.Common.{◌≡◌, ◌∙◌, ◌||◌, ap, ap₂, codes, false, rules}
 use Rattle.std.proofs.lemmas.Result.{IfOk-weaker}
 use Rattle.clap.specs.Words.{app_of, new_app, with_rule}
 use Rattle.clap.specs.declared.builder.command.Command.TheViews.{out-Command as fields_of}
-use Rattle.rd_commands.specs.CommandLine.{moment_rule, optional_key_rule, store_rule, zone_rule}
+use Rattle.rd_commands.specs.CommandLine.{store_rule, with_caller, with_moment}
 use Rattle.rd_commands.proofs.command_line.export_command.Goals as goal
 
 pub returns-clause-shape : goal.returns-clause-shape
 returns-clause-shape c =
     let bare : app_of c.after_help.result ≡ new_app (codes "export") = search rules in
-    let store : app_of c.in_ok-arg.field-0 ≡ with_rule (new_app (codes "export")) store_rule =
-    c.in_ok-arg.ensures.shape c.store_option.ensures.local ∙ ap₂ with_rule bare c.store_option.ensures.rule in
-    let key : app_of c.in_ok-arg-2.field-0 ≡ with_rule (with_rule (new_app (codes "export")) store_rule) optional_key_rule =
-    c.in_ok-arg-2.ensures.shape c.optional_key_option.ensures.local ∙ ap₂ with_rule store c.optional_key_option.ensures.rule in
-    let moment : app_of c.in_ok-arg-3.field-0 ≡ with_rule (with_rule (with_rule (new_app (codes "export")) store_rule) optional_key_rule) moment_rule =
-    c.in_ok-arg-3.ensures.shape c.moment_option.ensures.local ∙ ap₂ with_rule key c.moment_option.ensures.rule in
-    let zone : app_of c.in_ok-arg-4.field-0 ≡ with_rule (with_rule (with_rule (with_rule (new_app (codes "export")) store_rule) optional_key_rule) moment_rule) zone_rule =
-    c.in_ok-arg-4.ensures.shape c.zone_option.ensures.local ∙ ap₂ with_rule moment c.zone_option.ensures.rule in
-    IfOk-weaker c.arg-5.result _ _ (λ export adds. adds.shape c.trust_option.ensures.local ∙ ap₂ with_rule zone c.trust_option.ensures.rule) c.arg-5.ensures
+    let store : app_of c.in_ok-begun.begun ≡ with_rule (new_app (codes "export")) store_rule =
+    c.in_ok-begun.ensures.shape c.store_option.ensures.local ∙ ap₂ with_rule bare c.store_option.ensures.rule in
+    let caller : app_of c.in_ok-given.given ≡ with_caller (with_rule (new_app (codes "export")) store_rule) = c.in_ok-given.ensures.shape ∙ ap with_caller store in
+    let moment : app_of c.in_ok-add_moment.field-0 ≡ with_moment (with_caller (with_rule (new_app (codes "export")) store_rule)) = c.in_ok-add_moment.ensures.shape ∙ ap with_moment caller in
+    IfOk-weaker c.arg-2.result _ _ (λ made adds. adds.shape c.explain_flag.ensures.local ∙ ap₂ with_rule moment c.explain_flag.ensures.rule) c.arg-2.ensures
 
 pub returns-clause-local : goal.returns-clause-local
 returns-clause-local c =
     let bare : (fields_of c.after_help.result).has_globals ≡ false = search rules in
-    let store : (fields_of c.in_ok-arg.field-0).has_globals ≡ false = c.in_ok-arg.ensures.globals ∙ ap₂ ◌||◌ bare c.store_option.ensures.local in
-    let key : (fields_of c.in_ok-arg-2.field-0).has_globals ≡ false = c.in_ok-arg-2.ensures.globals ∙ ap₂ ◌||◌ store c.optional_key_option.ensures.local in
-    let moment : (fields_of c.in_ok-arg-3.field-0).has_globals ≡ false = c.in_ok-arg-3.ensures.globals ∙ ap₂ ◌||◌ key c.moment_option.ensures.local in
-    let zone : (fields_of c.in_ok-arg-4.field-0).has_globals ≡ false = c.in_ok-arg-4.ensures.globals ∙ ap₂ ◌||◌ moment c.zone_option.ensures.local in
-    IfOk-weaker c.arg-5.result _ _ (λ export adds. adds.globals ∙ ap₂ ◌||◌ zone c.trust_option.ensures.local) c.arg-5.ensures
+    let store : (fields_of c.in_ok-begun.begun).has_globals ≡ false = c.in_ok-begun.ensures.globals ∙ ap₂ ◌||◌ bare c.store_option.ensures.local in
+    let caller : (fields_of c.in_ok-given.given).has_globals ≡ false = c.in_ok-given.ensures.local ∙ store in
+    let moment : (fields_of c.in_ok-add_moment.field-0).has_globals ≡ false = c.in_ok-add_moment.ensures.local ∙ caller in
+    IfOk-weaker c.arg-2.result _ _ (λ made adds. adds.globals ∙ ap₂ ◌||◌ moment c.explain_flag.ensures.local) c.arg-2.ensures

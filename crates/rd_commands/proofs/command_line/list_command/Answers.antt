@@ -2,7 +2,7 @@ use Rattle.std.proofs.Common.{◌≡◌, ◌∙◌, ◌||◌, ap₂, codes, fals
 use Rattle.std.proofs.lemmas.Result.{IfOk-weaker}
 use Rattle.clap.specs.Words.{app_of, new_app, with_rule}
 use Rattle.clap.specs.declared.builder.command.Command.TheViews.{out-Command as fields_of}
-use Rattle.rd_commands.specs.CommandLine.{kind_rule}
+use Rattle.rd_commands.specs.CommandLine.{image_rule, kind_rule}
 use Rattle.rd_commands.proofs.command_line.list_command.Goals as goal
 
 pub returns-clause-shape : goal.returns-clause-shape
@@ -11,10 +11,13 @@ returns-clause-shape c =
     let asked = c.kind_operand.ensures.rule in
     let kind : app_of c.in_ok-arg.field-0 ≡ with_rule (new_app (codes "list")) (kind_rule asked.0) =
     c.in_ok-arg.ensures.shape c.kind_operand.ensures.local ∙ ap₂ with_rule bare asked.2 in
-    IfOk-weaker c.arg-2.result _ _ (λ list adds. (asked.0, asked.1, adds.shape c.image_operand.ensures.local ∙ ap₂ with_rule kind c.image_operand.ensures.rule)) c.arg-2.ensures
+    let image : app_of c.in_ok-arg-2.field-0 ≡ with_rule (with_rule (new_app (codes "list")) (kind_rule asked.0)) image_rule =
+    c.in_ok-arg-2.ensures.shape c.image_operand.ensures.local ∙ ap₂ with_rule kind c.image_operand.ensures.rule in
+    IfOk-weaker c.arg-3.result _ _ (λ list adds. (asked.0, asked.1, adds.shape c.explain_flag.ensures.local ∙ ap₂ with_rule image c.explain_flag.ensures.rule)) c.arg-3.ensures
 
 pub returns-clause-local : goal.returns-clause-local
 returns-clause-local c =
     let bare : (fields_of c.after_help.result).has_globals ≡ false = search rules in
     let kind : (fields_of c.in_ok-arg.field-0).has_globals ≡ false = c.in_ok-arg.ensures.globals ∙ ap₂ ◌||◌ bare c.kind_operand.ensures.local in
-    IfOk-weaker c.arg-2.result _ _ (λ list adds. adds.globals ∙ ap₂ ◌||◌ kind c.image_operand.ensures.local) c.arg-2.ensures
+    let image : (fields_of c.in_ok-arg-2.field-0).has_globals ≡ false = c.in_ok-arg-2.ensures.globals ∙ ap₂ ◌||◌ kind c.image_operand.ensures.local in
+    IfOk-weaker c.arg-3.result _ _ (λ list adds. adds.globals ∙ ap₂ ◌||◌ image c.explain_flag.ensures.local) c.arg-3.ensures

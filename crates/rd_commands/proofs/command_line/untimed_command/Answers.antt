@@ -1,8 +1,8 @@
-use Rattle.std.proofs.Common.{◌≡◌, ◌∙◌, ◌||◌, ap₂, codes, false, rules}
+use Rattle.std.proofs.Common.{◌≡◌, ◌∙◌, ◌||◌, ap, ap₂, codes, false, rules}
 use Rattle.std.proofs.lemmas.Result.{IfOk-weaker}
 use Rattle.clap.specs.Words.{app_of, new_app, with_rule}
 use Rattle.clap.specs.declared.builder.command.Command.TheViews.{out-Command as fields_of}
-use Rattle.rd_commands.specs.CommandLine.{count_rule, port_rule, socket_rule, store_rule, zone_rule}
+use Rattle.rd_commands.specs.CommandLine.{count_rule, port_rule, socket_rule, store_rule, with_clocks}
 use Rattle.rd_commands.proofs.command_line.untimed_command.Goals as goal
 
 pub returns-clause-shape : goal.returns-clause-shape
@@ -14,11 +14,9 @@ returns-clause-shape c =
     c.in_ok-arg-2.ensures.shape c.port_option.ensures.local ∙ ap₂ with_rule store c.port_option.ensures.rule in
     let socket : app_of c.in_ok-arg-3.field-0 ≡ with_rule (with_rule (with_rule (new_app (codes "serve")) store_rule) port_rule) socket_rule =
     c.in_ok-arg-3.ensures.shape c.socket_option.ensures.local ∙ ap₂ with_rule port c.socket_option.ensures.rule in
-    let count : app_of c.in_ok-arg-4.field-0 ≡ with_rule (with_rule (with_rule (with_rule (new_app (codes "serve")) store_rule) port_rule) socket_rule) count_rule =
-    c.in_ok-arg-4.ensures.shape c.count_option.ensures.local ∙ ap₂ with_rule socket c.count_option.ensures.rule in
-    let zone : app_of c.in_ok-arg-5.field-0 ≡ with_rule (with_rule (with_rule (with_rule (with_rule (new_app (codes "serve")) store_rule) port_rule) socket_rule) count_rule) zone_rule =
-    c.in_ok-arg-5.ensures.shape c.zone_option.ensures.local ∙ ap₂ with_rule count c.zone_option.ensures.rule in
-    IfOk-weaker c.arg-6.result _ _ (λ serve adds. adds.shape c.trust_option.ensures.local ∙ ap₂ with_rule zone c.trust_option.ensures.rule) c.arg-6.ensures
+    let count : app_of c.in_ok-begun.begun ≡ with_rule (with_rule (with_rule (with_rule (new_app (codes "serve")) store_rule) port_rule) socket_rule) count_rule =
+    c.in_ok-begun.ensures.shape c.count_option.ensures.local ∙ ap₂ with_rule socket c.count_option.ensures.rule in
+    IfOk-weaker c.add_clocks.result _ _ (λ serve shape. shape ∙ ap with_clocks count) c.add_clocks.ensures.shape
 
 pub returns-clause-local : goal.returns-clause-local
 returns-clause-local c =
@@ -26,6 +24,5 @@ returns-clause-local c =
     let store : (fields_of c.in_ok-arg.field-0).has_globals ≡ false = c.in_ok-arg.ensures.globals ∙ ap₂ ◌||◌ bare c.store_option.ensures.local in
     let port : (fields_of c.in_ok-arg-2.field-0).has_globals ≡ false = c.in_ok-arg-2.ensures.globals ∙ ap₂ ◌||◌ store c.port_option.ensures.local in
     let socket : (fields_of c.in_ok-arg-3.field-0).has_globals ≡ false = c.in_ok-arg-3.ensures.globals ∙ ap₂ ◌||◌ port c.socket_option.ensures.local in
-    let count : (fields_of c.in_ok-arg-4.field-0).has_globals ≡ false = c.in_ok-arg-4.ensures.globals ∙ ap₂ ◌||◌ socket c.count_option.ensures.local in
-    let zone : (fields_of c.in_ok-arg-5.field-0).has_globals ≡ false = c.in_ok-arg-5.ensures.globals ∙ ap₂ ◌||◌ count c.zone_option.ensures.local in
-    IfOk-weaker c.arg-6.result _ _ (λ serve adds. adds.globals ∙ ap₂ ◌||◌ zone c.trust_option.ensures.local) c.arg-6.ensures
+    let count : (fields_of c.in_ok-begun.begun).has_globals ≡ false = c.in_ok-begun.ensures.globals ∙ ap₂ ◌||◌ socket c.count_option.ensures.local in
+    IfOk-weaker c.add_clocks.result _ _ (λ serve local. local ∙ count) c.add_clocks.ensures.local

@@ -1,9 +1,11 @@
-use Rattle.std.proofs.Common.{◌≡◌, ◌∙◌, Some, codes, inl, inr, refl, subst, sym}
+use Rattle.std.proofs.Common.{◌≡◌, ◌∙◌, Some, ap, codes, false, inl, inr, refl, subst, sym}
 use Rattle.clap.specs.Words.{one_of, subcommand_rows_of}
 use Rattle.rd_commands.specs.Asks.{AreCatRows, AreCheckRows, AreCopyRows, AreExportRows, AreImportRows, AreInitRows, AreServeRows, AreShowRows, AreStaffKeyRows, AsksOneQuestion, EntersAs}
 use Rattle.rd_commands.specs.declared.words.Question.TheVariants.{Show}
 use Rattle.rd_commands.specs.Zones.{HasZoneRule, IsFlagTold, TellsTrust}
-use Rattle.rd_commands.proofs.GetterLemmas.{clockless, entered_as, name_met, no_init, rows_met}
+use Rattle.rd_commands.proofs.GetterLemmas.{clockless, entered_as, entered_named, name_met, no_init, rows_met}
+use Rattle.rd_commands.proofs.Looks.{check_name, question_from, shown_in}
+use Rattle.rd_commands.specs.Told.{question_name}
 use Rattle.rd_commands.proofs.Places.{timed_met}
 use Rattle.rd_commands.proofs.words.ask_found.Goals as goal
 
@@ -90,7 +92,7 @@ returns-in_ok-init_asked-in-init-clause-zone c = λ name rows into clocks.
 pub returns-in_ok-staff_key_asked-in-text-clause-staff_key : goal.returns-in_ok-staff_key_asked-in-text-clause-staff_key
 returns-in_ok-staff_key_asked-in-text-clause-staff_key c = λ store key enters.
     let rows = rows_met c.args.matches.now _ enters.rows _ enters.into (sym c.in_ok-name.ensures.rows) in
-    c.in_ok-staff_key_asked-in-text.ensures store key (subst (λ r. AreStaffKeyRows r store key) rows enters.found)
+    c.in_ok-staff_key_asked-in-text.ensures.asked store key (subst (λ r. AreStaffKeyRows r store key) rows enters.found)
 
 pub returns-in_ok-staff_key_asked-in-text-clause-zone : goal.returns-in_ok-staff_key_asked-in-text-clause-zone
 returns-in_ok-staff_key_asked-in-text-clause-zone c = λ name rows into clocks.
@@ -129,6 +131,39 @@ returns-in_ok-show_asked-in-show-clause-show c = λ store key what moment rule i
     let same : c.in_ok-shown-in-show.field-0 ≡ what = cc in
     subst (λ w. AsksOneQuestion c.in_ok-show_asked-in-show.field-0 store (Some key) (Show w) moment rule) same
     (c.in_ok-show_asked-in-show.ensures.asked store key moment rule (subst (λ r. AreShowRows r store key moment rule) rows enters.found))
+
+-- ---- in all forms
+
+pub returns-in_ok-file_asked-in-cat-clause-from : goal.returns-in_ok-file_asked-in-cat-clause-from
+returns-in_ok-file_asked-in-cat-clause-from c = λ naming. (_, entered_named c.args.matches.now _ (codes "cat") _ c.in_ok-name.ensures.name c.in_ok-name.ensures.rows c.in-cat.is, tt)
+
+pub returns-in_ok-files_asked-in-list-clause-from : goal.returns-in_ok-files_asked-in-list-clause-from
+returns-in_ok-files_asked-in-list-clause-from c = λ naming. (_, entered_named c.args.matches.now _ (codes "list") _ c.in_ok-name.ensures.name c.in_ok-name.ensures.rows c.in-list.is, tt)
+
+pub returns-in_ok-init_asked-in-init-clause-from : goal.returns-in_ok-init_asked-in-init-clause-from
+returns-in_ok-init_asked-in-init-clause-from c = λ naming. (_, entered_named c.args.matches.now _ (codes "init") _ c.in_ok-name.ensures.name c.in_ok-name.ensures.rows c.in-init.is, c.in_ok-init_asked-in-init.ensures.from)
+
+pub returns-in_ok-serve_asked-in-serve-clause-from : goal.returns-in_ok-serve_asked-in-serve-clause-from
+returns-in_ok-serve_asked-in-serve-clause-from c = λ naming. (_, entered_named c.args.matches.now _ (codes "serve") _ c.in_ok-name.ensures.name c.in_ok-name.ensures.rows c.in-serve.is, c.in_ok-serve_asked-in-serve.ensures.from)
+
+pub returns-in_ok-import_asked-in-import-clause-from : goal.returns-in_ok-import_asked-in-import-clause-from
+returns-in_ok-import_asked-in-import-clause-from c = λ naming. (_, entered_named c.args.matches.now _ (codes "import") _ c.in_ok-name.ensures.name c.in_ok-name.ensures.rows c.in-import.is, c.in_ok-import_asked-in-import.ensures.from)
+
+pub returns-in_ok-export_asked-in-export-clause-from : goal.returns-in_ok-export_asked-in-export-clause-from
+returns-in_ok-export_asked-in-export-clause-from c = λ naming.
+    question_from _ _ c.in_ok-export_asked-in-export.field-0 (codes "export") (entered_named c.args.matches.now _ (codes "export") _ c.in_ok-name.ensures.name c.in_ok-name.ensures.rows c.in-export.is) (ap question_name c.in_ok-export_asked-in-export.ensures.question)
+    c.in_ok-export_asked-in-export.ensures.from
+
+pub returns-in_ok-check_asked-in-check-clause-from : goal.returns-in_ok-check_asked-in-check-clause-from
+returns-in_ok-check_asked-in-check-clause-from c = λ naming.
+    question_from _ _ c.in_ok-check_asked-in-check.field-0 (codes "check") (entered_named c.args.matches.now _ (codes "check") _ c.in_ok-name.ensures.name c.in_ok-name.ensures.rows c.in-check.is)
+    (check_name c.in_ok-check_asked-in-check.field-0.question c.in_ok-check_asked-in-check.ensures.of) c.in_ok-check_asked-in-check.ensures.from
+
+pub returns-in_ok-show_asked-in-show-clause-from : goal.returns-in_ok-show_asked-in-show-clause-from
+returns-in_ok-show_asked-in-show-clause-from c = λ naming.
+    let into = entered_named c.args.matches.now _ (codes "show") _ c.in_ok-name.ensures.name c.in_ok-name.ensures.rows c.in-show.is in
+    question_from _ _ c.in_ok-show_asked-in-show.field-0 (codes "show") into (ap question_name c.in_ok-show_asked-in-show.ensures.question)
+    (c.in_ok-show_asked-in-show.ensures.from (shown_in _ _ c.in_ok-shown-in-show.field-0 _ naming into c.in_ok-shown-in-show.was))
 
 -- ---- the clock
 
@@ -219,12 +254,15 @@ returns-in_ok-staff_key_asked-in-text-clause-sums c = λ summed told.
     let met = name_met c.args.matches.now (codes "init") _ told.0 _ told.1 c.in_ok-name.ensures.name c.in_ok-name.ensures.rows in
     absurd (no_init _ refl (met ∙ c.in-text.is))
 
+pub returns-in_ok-staff_key_asked-in-text-clause-from : goal.returns-in_ok-staff_key_asked-in-text-clause-from
+returns-in_ok-staff_key_asked-in-text-clause-from c = λ naming. (_, entered_named c.args.matches.now _ (codes "staff-key") _ c.in_ok-name.ensures.name c.in_ok-name.ensures.rows c.in-text.is, c.in_ok-staff_key_asked-in-text.ensures.from)
+
 -- ---- `copy`
 
 pub returns-in_ok-copy_asked-in-copy-clause-copy : goal.returns-in_ok-copy_asked-in-copy-clause-copy
 returns-in_ok-copy_asked-in-copy-clause-copy c = λ store target summed enters.
     let rows = rows_met c.args.matches.now _ enters.rows _ enters.into (sym c.in_ok-name.ensures.rows) in
-    c.in_ok-copy_asked-in-copy.ensures store target summed (subst (λ r. AreCopyRows r store target summed) rows enters.found)
+    c.in_ok-copy_asked-in-copy.ensures.asked store target summed (subst (λ r. AreCopyRows r store target summed) rows enters.found)
 
 pub returns-in_ok-copy_asked-in-copy-clause-zone : goal.returns-in_ok-copy_asked-in-copy-clause-zone
 returns-in_ok-copy_asked-in-copy-clause-zone c = λ name rows into clocks.
@@ -240,3 +278,6 @@ pub returns-in_ok-copy_asked-in-copy-clause-sums : goal.returns-in_ok-copy_asked
 returns-in_ok-copy_asked-in-copy-clause-sums c = λ summed told.
     let met = name_met c.args.matches.now (codes "init") _ told.0 _ told.1 c.in_ok-name.ensures.name c.in_ok-name.ensures.rows in
     absurd (no_init _ refl (met ∙ c.in-copy.is))
+
+pub returns-in_ok-copy_asked-in-copy-clause-from : goal.returns-in_ok-copy_asked-in-copy-clause-from
+returns-in_ok-copy_asked-in-copy-clause-from c = λ naming. (_, entered_named c.args.matches.now _ (codes "copy") _ c.in_ok-name.ensures.name c.in_ok-name.ensures.rows c.in-copy.is, c.in_ok-copy_asked-in-copy.ensures.from)

@@ -1,11 +1,23 @@
-use Rattle.clap.specs.Words.{found_of}
-use Rattle.std.proofs.Common.{codes, subst, sym}
-use Rattle.clap.proofs.WalkLemmas.{one_text-rows}
-use Rattle.rd_commands.specs.Asks.{IsMomentNamed}
-use Rattle.rd_commands.proofs.GetterLemmas.{moment_is}
+use Rattle.clap.specs.Words.{first_of, found_of, rows_of}
+use Rattle.std.proofs.Common.{◌∙◌, codes}
+use Rattle.clap.proofs.WalkLemmas.{first_value-rows}
+use Rattle.rd_commands.proofs.Looks.{none_named, none_told, seconds_named, seconds_told}
 use Rattle.rd_commands.proofs.words.moment_asked.Goals as goal
 
-pub returns : goal.returns
-returns c = λ moment told.
-    moment_is _ moment c.get_one.result c.get_one.ensures.none c.get_one.ensures.value
-    (subst (λ o. IsMomentNamed o moment) (sym (one_text-rows (found_of c.args.found.now) (codes "at"))) told)
+pub returns-in_err-get_str-clause-asked : goal.returns-in_err-get_str-clause-asked
+returns-in_err-get_str-clause-asked c = λ moment named.
+    none_named (first_of (codes "at") (rows_of (found_of c.args.found.now))) moment (c.in_err-get_str.ensures ∙ first_value-rows (found_of c.args.found.now) (codes "at")) named
+
+pub returns-in_err-get_str-clause-from : goal.returns-in_err-get_str-clause-from
+returns-in_err-get_str-clause-from c =
+    none_told (rows_of (found_of c.args.found.now)) (c.in_err-get_str.ensures ∙ first_value-rows (found_of c.args.found.now) (codes "at"))
+
+pub returns-clause-asked : goal.returns-clause-asked
+returns-clause-asked c = λ moment named.
+    seconds_named (first_of (codes "at") (rows_of (found_of c.args.found.now))) _ c.seconds_read.result moment
+    (c.in_ok-get_str.ensures ∙ first_value-rows (found_of c.args.found.now) (codes "at")) c.seconds_read.ensures.written c.seconds_read.ensures.none named
+
+pub returns-clause-from : goal.returns-clause-from
+returns-clause-from c =
+    seconds_told (rows_of (found_of c.args.found.now)) _ c.seconds_read.result
+    (c.in_ok-get_str.ensures ∙ first_value-rows (found_of c.args.found.now) (codes "at")) c.seconds_read.ensures.written c.seconds_read.ensures.none

@@ -25,6 +25,8 @@ use Rattle.rd_program.specs.Rows.{ImportsBy, RefusesSheetBy}
 use Rattle.rd_program.specs.OnTime.{IsBehindBy, IsOnTimeBy}
 use Rattle.rd_program.specs.Visiting.{ServesBy}
 use Rattle.rd_commands.specs.declared.done.Done.TheVariants.{InPart}
+use Rattle.rd_program.specs.Performing.{ListensBy, MakesBy, PutsBy}
+use Rattle.rd_program.proofs.PerformLemmas.{listened_by, made_by, put_by}
 use Rattle.rd_program.proofs.dispatch.perform.Goals as goal
 
 pub returns-in-File-clause-done : goal.returns-in-File-clause-done
@@ -1083,3 +1085,122 @@ pub returns-in-Copy-clause-flushed : goal.returns-in-Copy-clause-flushed
 returns-in-Copy-clause-flushed g c =
     ok_whole _ c.copy.result c.whole-in-Copy.result c.whole-in-Copy.ensures
     (flushed_once g.M.Files.flushed (g.W.Write.contents c.args.output.now) (g.W.Write.contents c.copy.new.output) c.copy.result c.copy.ensures.flushed)
+
+-- ---- by what is asked for
+
+pub returns-in-File-clause-makes : goal.returns-in-File-clause-makes
+returns-in-File-clause-makes g c =
+    subst (λ ask. MakesBy g.M.Disk.Store (g.M.Machine.left c.args.machine.now) (g.M.Machine.stands c.args.machine.now) (g.M.Machine.left c.cat.new.machine)
+    (g.W.Write.contents c.args.output.now) (g.W.Write.contents c.cat.new.output) ask c.whole.result) (sym c.in-File.is) tt
+
+pub returns-in-Files-clause-makes : goal.returns-in-Files-clause-makes
+returns-in-Files-clause-makes g c =
+    subst (λ ask. MakesBy g.M.Disk.Store (g.M.Machine.left c.args.machine.now) (g.M.Machine.stands c.args.machine.now) (g.M.Machine.left c.list.new.machine)
+    (g.W.Write.contents c.args.output.now) (g.W.Write.contents c.list.new.output) ask c.whole-in-Files.result) (sym c.in-Files.is) tt
+
+pub returns-in-Init-clause-makes : goal.returns-in-Init-clause-makes
+returns-in-Init-clause-makes g c =
+    subst (λ ask. MakesBy g.M.Disk.Store (g.M.Machine.left c.args.machine.now) (g.M.Machine.stands c.args.machine.now) (g.M.Machine.left c.init.new.machine)
+    (g.W.Write.contents c.args.output.now) (g.W.Write.contents c.init.new.output) ask c.whole-in-Init.result) (sym c.in-Init.is)
+    (made_by g.M.Disk.Store (g.M.Machine.left c.args.machine.now) (g.M.Machine.stands c.args.machine.now) (g.M.Machine.left c.init.new.machine) _ _ c.in-Init.ask c.init.result c.whole-in-Init.result c.whole-in-Init.ensures
+    c.init.ensures.made c.init.ensures.done c.init.ensures.refused c.init.ensures.left)
+
+pub returns-in-Serve-clause-makes : goal.returns-in-Serve-clause-makes
+returns-in-Serve-clause-makes g c =
+    subst (λ ask. MakesBy g.M.Disk.Store (g.M.Machine.left c.args.machine.now) (g.M.Machine.stands c.args.machine.now) (g.M.Machine.left c.serve.new.machine)
+    (g.W.Write.contents c.args.output.now) (g.W.Write.contents c.serve.new.output) ask c.whole-in-Serve.result) (sym c.in-Serve.is) tt
+
+pub returns-in-Import-clause-makes : goal.returns-in-Import-clause-makes
+returns-in-Import-clause-makes g c =
+    subst (λ ask. MakesBy g.M.Disk.Store (g.M.Machine.left c.args.machine.now) (g.M.Machine.stands c.args.machine.now) (g.M.Machine.left c.import.new.machine)
+    (g.W.Write.contents c.args.output.now) (g.W.Write.contents c.import.new.output) ask c.import.result) (sym c.in-Import.is) tt
+
+pub returns-in-OneQuestion-clause-makes : goal.returns-in-OneQuestion-clause-makes
+returns-in-OneQuestion-clause-makes g c =
+    subst (λ ask. MakesBy g.M.Disk.Store (g.M.Machine.left c.args.machine.now) (g.M.Machine.stands c.args.machine.now) (g.M.Machine.left c.ask_once.new.machine)
+    (g.W.Write.contents c.args.output.now) (g.W.Write.contents c.ask_once.new.output) ask c.ask_once.result) (sym c.in-OneQuestion.is) tt
+
+pub returns-in-StaffKey-clause-makes : goal.returns-in-StaffKey-clause-makes
+returns-in-StaffKey-clause-makes g c =
+    subst (λ ask. MakesBy g.M.Disk.Store (g.M.Machine.left c.args.machine.now) (g.M.Machine.stands c.args.machine.now) (g.M.Machine.left c.staff_key.new.machine)
+    (g.W.Write.contents c.args.output.now) (g.W.Write.contents c.staff_key.new.output) ask c.whole-in-StaffKey.result) (sym c.in-StaffKey.is) tt
+
+pub returns-in-Copy-clause-makes : goal.returns-in-Copy-clause-makes
+returns-in-Copy-clause-makes g c =
+    subst (λ ask. MakesBy g.M.Disk.Store (g.M.Machine.left c.args.machine.now) (g.M.Machine.stands c.args.machine.now) (g.M.Machine.left c.copy.new.machine)
+    (g.W.Write.contents c.args.output.now) (g.W.Write.contents c.copy.new.output) ask c.whole-in-Copy.result) (sym c.in-Copy.is) tt
+
+pub returns-in-File-clause-puts : goal.returns-in-File-clause-puts
+returns-in-File-clause-puts g c =
+    subst (λ ask. PutsBy g.M.Disk.Store (g.M.Machine.left c.args.machine.now) (g.M.Machine.stands c.args.machine.now) (g.M.Machine.left c.cat.new.machine)
+    (g.W.Write.contents c.args.output.now) (g.W.Write.contents c.cat.new.output) ask c.whole.result) (sym c.in-File.is) tt
+
+pub returns-in-Files-clause-puts : goal.returns-in-Files-clause-puts
+returns-in-Files-clause-puts g c =
+    subst (λ ask. PutsBy g.M.Disk.Store (g.M.Machine.left c.args.machine.now) (g.M.Machine.stands c.args.machine.now) (g.M.Machine.left c.list.new.machine)
+    (g.W.Write.contents c.args.output.now) (g.W.Write.contents c.list.new.output) ask c.whole-in-Files.result) (sym c.in-Files.is) tt
+
+pub returns-in-Init-clause-puts : goal.returns-in-Init-clause-puts
+returns-in-Init-clause-puts g c =
+    subst (λ ask. PutsBy g.M.Disk.Store (g.M.Machine.left c.args.machine.now) (g.M.Machine.stands c.args.machine.now) (g.M.Machine.left c.init.new.machine)
+    (g.W.Write.contents c.args.output.now) (g.W.Write.contents c.init.new.output) ask c.whole-in-Init.result) (sym c.in-Init.is) tt
+
+pub returns-in-Serve-clause-puts : goal.returns-in-Serve-clause-puts
+returns-in-Serve-clause-puts g c =
+    subst (λ ask. PutsBy g.M.Disk.Store (g.M.Machine.left c.args.machine.now) (g.M.Machine.stands c.args.machine.now) (g.M.Machine.left c.serve.new.machine)
+    (g.W.Write.contents c.args.output.now) (g.W.Write.contents c.serve.new.output) ask c.whole-in-Serve.result) (sym c.in-Serve.is) tt
+
+pub returns-in-Import-clause-puts : goal.returns-in-Import-clause-puts
+returns-in-Import-clause-puts g c =
+    subst (λ ask. PutsBy g.M.Disk.Store (g.M.Machine.left c.args.machine.now) (g.M.Machine.stands c.args.machine.now) (g.M.Machine.left c.import.new.machine)
+    (g.W.Write.contents c.args.output.now) (g.W.Write.contents c.import.new.output) ask c.import.result) (sym c.in-Import.is) tt
+
+pub returns-in-OneQuestion-clause-puts : goal.returns-in-OneQuestion-clause-puts
+returns-in-OneQuestion-clause-puts g c =
+    subst (λ ask. PutsBy g.M.Disk.Store (g.M.Machine.left c.args.machine.now) (g.M.Machine.stands c.args.machine.now) (g.M.Machine.left c.ask_once.new.machine)
+    (g.W.Write.contents c.args.output.now) (g.W.Write.contents c.ask_once.new.output) ask c.ask_once.result) (sym c.in-OneQuestion.is) tt
+
+pub returns-in-StaffKey-clause-puts : goal.returns-in-StaffKey-clause-puts
+returns-in-StaffKey-clause-puts g c =
+    subst (λ ask. PutsBy g.M.Disk.Store (g.M.Machine.left c.args.machine.now) (g.M.Machine.stands c.args.machine.now) (g.M.Machine.left c.staff_key.new.machine)
+    (g.W.Write.contents c.args.output.now) (g.W.Write.contents c.staff_key.new.output) ask c.whole-in-StaffKey.result) (sym c.in-StaffKey.is)
+    (put_by g.M.Disk.Store (g.M.Machine.left c.args.machine.now) (g.M.Machine.stands c.args.machine.now) (g.M.Machine.left c.staff_key.new.machine) _ _ c.in-StaffKey.ask c.staff_key.result c.whole-in-StaffKey.result
+    c.whole-in-StaffKey.ensures c.staff_key.ensures.put c.staff_key.ensures.done c.staff_key.ensures.refused c.staff_key.ensures.left c.staff_key.ensures.opens)
+
+pub returns-in-Copy-clause-puts : goal.returns-in-Copy-clause-puts
+returns-in-Copy-clause-puts g c =
+    subst (λ ask. PutsBy g.M.Disk.Store (g.M.Machine.left c.args.machine.now) (g.M.Machine.stands c.args.machine.now) (g.M.Machine.left c.copy.new.machine)
+    (g.W.Write.contents c.args.output.now) (g.W.Write.contents c.copy.new.output) ask c.whole-in-Copy.result) (sym c.in-Copy.is) tt
+
+pub returns-in-File-clause-listens : goal.returns-in-File-clause-listens
+returns-in-File-clause-listens g c =
+    subst (λ ask. ListensBy (g.W.Write.contents c.args.output.now) (g.W.Write.contents c.cat.new.output) ask c.whole.result) (sym c.in-File.is) tt
+
+pub returns-in-Files-clause-listens : goal.returns-in-Files-clause-listens
+returns-in-Files-clause-listens g c =
+    subst (λ ask. ListensBy (g.W.Write.contents c.args.output.now) (g.W.Write.contents c.list.new.output) ask c.whole-in-Files.result) (sym c.in-Files.is) tt
+
+pub returns-in-Init-clause-listens : goal.returns-in-Init-clause-listens
+returns-in-Init-clause-listens g c =
+    subst (λ ask. ListensBy (g.W.Write.contents c.args.output.now) (g.W.Write.contents c.init.new.output) ask c.whole-in-Init.result) (sym c.in-Init.is) tt
+
+pub returns-in-Serve-clause-listens : goal.returns-in-Serve-clause-listens
+returns-in-Serve-clause-listens g c =
+    subst (λ ask. ListensBy (g.W.Write.contents c.args.output.now) (g.W.Write.contents c.serve.new.output) ask c.whole-in-Serve.result) (sym c.in-Serve.is)
+    (listened_by _ _ c.in-Serve.ask c.serve.result c.whole-in-Serve.result c.whole-in-Serve.ensures c.serve.ensures.done c.serve.ensures.refused)
+
+pub returns-in-Import-clause-listens : goal.returns-in-Import-clause-listens
+returns-in-Import-clause-listens g c =
+    subst (λ ask. ListensBy (g.W.Write.contents c.args.output.now) (g.W.Write.contents c.import.new.output) ask c.import.result) (sym c.in-Import.is) tt
+
+pub returns-in-OneQuestion-clause-listens : goal.returns-in-OneQuestion-clause-listens
+returns-in-OneQuestion-clause-listens g c =
+    subst (λ ask. ListensBy (g.W.Write.contents c.args.output.now) (g.W.Write.contents c.ask_once.new.output) ask c.ask_once.result) (sym c.in-OneQuestion.is) tt
+
+pub returns-in-StaffKey-clause-listens : goal.returns-in-StaffKey-clause-listens
+returns-in-StaffKey-clause-listens g c =
+    subst (λ ask. ListensBy (g.W.Write.contents c.args.output.now) (g.W.Write.contents c.staff_key.new.output) ask c.whole-in-StaffKey.result) (sym c.in-StaffKey.is) tt
+
+pub returns-in-Copy-clause-listens : goal.returns-in-Copy-clause-listens
+returns-in-Copy-clause-listens g c =
+    subst (λ ask. ListensBy (g.W.Write.contents c.args.output.now) (g.W.Write.contents c.copy.new.output) ask c.whole-in-Copy.result) (sym c.in-Copy.is) tt

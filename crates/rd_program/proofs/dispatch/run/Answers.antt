@@ -39,17 +39,26 @@ use Rattle.rd_commands.proofs.RunLemmas.{is_cut, kept_is_cut, no_sound_file, not
 use Rattle.rd_commands.proofs.ReadLimits.{reads_none, reads_within}
 use Rattle.rd_commands.proofs.VersionLine.{version_asked, version_no_help, version_not_taken}
 use Rattle.rd_commands.proofs.WriterLemmas.{none_written}
+use Rattle.rd_program.proofs.Plain.{at_plain, check_plain, copy_plain, export_plain, file_plain, files_plain, import_plain, init_plain, kind_plain, named_plain, serve_plain, show_plain, staff_key_plain, store_plain}
+use Rattle.rd_commands.specs.Told.{TellsAll}
+use Rattle.rd_program.proofs.CompletingLemmas.{reads_no_more}
+use Rattle.rd_program.proofs.WhyLemmas.{ends_by, is_told, none_so, some_so}
 use Rattle.rd_program.proofs.dispatch.run.Goals as goal
+
+-- ---- the call
+
+pub perform_told-requires-clause-of_store : goal.perform_told-requires-clause-of_store
+perform_told-requires-clause-of_store g c = λ apart. reads_no_more _ c.in-Ok.told c.in-Ok.ensures.all apart
 
 -- ---- the words
 
-pub returns-in-Ok-perform-clause-by_words : goal.returns-in-Ok-perform-clause-by_words
-returns-in-Ok-perform-clause-by_words g c = record {
+pub returns-in-Ok-perform_told-clause-by_words : goal.returns-in-Ok-perform_told-clause-by_words
+returns-in-Ok-perform_told-clause-by_words g c = record {
   command = λ zero. inl c.in-Ok.ensures.taken;
   refused_command = λ one. c.in-Ok.ensures.taken;
   zone = λ well. c.in-Ok.ensures.zone;
   no_rule = λ none. absurd (none c.in-Ok.ensures.zone);
-  no_rule_told = λ none named placed. absurd (none c.in-Ok.ensures.zone);
+  no_rule_told = λ none named placed fit. absurd (none c.in-Ok.ensures.zone);
   named = λ well. c.in-Ok.ensures.shown;
   none_named = λ none. absurd (none c.in-Ok.ensures.shown);
   place = λ well. c.in-Ok.ensures.place;
@@ -58,19 +67,19 @@ returns-in-Ok-perform-clause-by_words g c = record {
   usage = λ two. absurd (omega (arith, c.status.ensures.most, two));
 }
 
-pub returns-in-Err-perform-clause-by_words : goal.returns-in-Err-perform-clause-by_words
-returns-in-Err-perform-clause-by_words g c = record {
-  command = λ zero. absurd (not_done c.in-Err-perform.refused (sym c.tell_refusal.ensures.status ∙ zero));
+pub returns-in-Err-perform_told-clause-by_words : goal.returns-in-Err-perform_told-clause-by_words
+returns-in-Err-perform_told-clause-by_words g c = record {
+  command = λ zero. absurd (not_done c.in-Err-perform_told.refused (sym c.tell_and_keep.ensures.status ∙ zero));
   refused_command = λ one. c.in-Ok.ensures.taken;
   zone = λ well. c.in-Ok.ensures.zone;
   no_rule = λ none. absurd (none c.in-Ok.ensures.zone);
-  no_rule_told = λ none named placed. absurd (none c.in-Ok.ensures.zone);
+  no_rule_told = λ none named placed fit. absurd (none c.in-Ok.ensures.zone);
   named = λ well. c.in-Ok.ensures.shown;
   none_named = λ none. absurd (none c.in-Ok.ensures.shown);
   place = λ well. c.in-Ok.ensures.place;
   no_place = λ none. absurd (none c.in-Ok.ensures.place);
   mistake = λ none. absurd (none c.in-Ok.ensures.taken);
-  usage = λ two. absurd (c.in-Err-perform.ensures.never (sym c.tell_refusal.ensures.status ∙ two));
+  usage = λ two. absurd (c.in-Err-perform_told.ensures.never (sym c.tell_and_keep.ensures.status ∙ two));
 }
 
 pub returns-in-Err-clause-by_words : goal.returns-in-Err-clause-by_words
@@ -90,9 +99,9 @@ returns-in-Err-clause-by_words g c = record {
     | inl usage ↦ inl (c.tell_unread.ensures.mistaken usage)
     | inr memory ↦ inr (tells (λ refusal. refusal ≡ NoMemory) NoMemory _ _ _ refl (c.tell_unread.ensures.memory memory).0 (c.tell_unread.ensures.no_memory memory))
   ];
-  no_rule_told = λ none named placed. elim (c.in-Err.ensures.no_rule none) [
+  no_rule_told = λ none named placed fit. elim (c.in-Err.ensures.no_rule none) [
     | inl mistake ↦
-        let usage = no_other_mistake _ _ c.in-Err.unread mistake c.in-Err.ensures.day c.in-Err.ensures.placeless named placed in
+        let usage = no_other_mistake _ _ _ c.in-Err.unread mistake c.in-Err.ensures.day c.in-Err.ensures.placeless c.in-Err.ensures.mixed named placed fit in
         inl (c.tell_unread.ensures.mistaken (inl usage), c.tell_unread.ensures.mistake_written usage)
     | inr memory ↦ inr (tells (λ refusal. refusal ≡ NoMemory) NoMemory _ _ _ refl (c.tell_unread.ensures.memory memory).0 (c.tell_unread.ensures.no_memory memory))
   ];
@@ -113,7 +122,7 @@ returns-in-Err-clause-by_words g c = record {
         | inr version ↦ no_fault_in _ (codes "serve") rows _ enters (version_asked _ c.in-Err.unread version.0 c.in-Err.ensures.mistake_in)
       ]);
   no_place = λ none. elim (c.in-Err.ensures.no_place none) [
-    | inl place ↦ inl (c.tell_unread.ensures.mistaken (inr (inr place)), c.tell_unread.ensures.place_mistake place)
+    | inl place ↦ inl (c.tell_unread.ensures.mistaken (inr (inr (inl place))), c.tell_unread.ensures.place_mistake place)
     | inr memory ↦ inr (tells (λ refusal. refusal ≡ NoMemory) NoMemory _ _ _ refl (c.tell_unread.ensures.memory memory).0 (c.tell_unread.ensures.no_memory memory))
   ];
   mistake = λ none. elim c.tell_unread.ensures.one_of [
@@ -133,31 +142,31 @@ returns-in-Err-clause-by_words g c = record {
 
 -- ---- what is written at each status
 
-pub returns-in-Ok-perform-clause-by_status : goal.returns-in-Ok-perform-clause-by_status
-returns-in-Ok-perform-clause-by_status g c = record {
+pub returns-in-Ok-perform_told-clause-by_status : goal.returns-in-Ok-perform_told-clause-by_status
+returns-in-Ok-perform_told-clause-by_status g c = record {
   silent = λ zero. Keeps-refl _;
   names_failure = λ three. absurd (omega (arith, c.status.ensures.most, three));
   names_refusal = λ one.
-      inr (Keeps-refl _, c.in-Ok.ensures.written_on_output (c.in-Ok-perform.ensures.in_part (c.status.ensures.in_part (one_is_some one))), c.in-Ok-perform.ensures.flushed);
-  is_flushed = λ zero. c.in-Ok-perform.ensures.flushed;
+      inr (Keeps-refl _, c.in-Ok.ensures.written_on_output (c.in-Ok-perform_told.ensures.in_part (c.status.ensures.in_part (one_is_some one))), c.in-Ok-perform_told.ensures.flushed);
+  is_flushed = λ zero. c.in-Ok-perform_told.ensures.flushed;
   refused = λ one.
-      inr (c.in-Ok.ensures.written_on_output (c.in-Ok-perform.ensures.in_part (c.status.ensures.in_part (one_is_some one))));
+      inr (c.in-Ok.ensures.written_on_output (c.in-Ok-perform_told.ensures.in_part (c.status.ensures.in_part (one_is_some one))));
   usage_keeps = λ two. absurd (omega (arith, c.status.ensures.most, two));
 }
 
-pub returns-in-Err-perform-clause-by_status : goal.returns-in-Err-perform-clause-by_status
-returns-in-Err-perform-clause-by_status g c = record {
-  silent = λ zero. absurd (not_done c.in-Err-perform.refused (sym c.tell_refusal.ensures.status ∙ zero));
-  names_failure = λ three. tells (λ _. ⊤) c.in-Err-perform.refused _ _ _ tt c.tell_refusal.ensures.status c.tell_refusal.ensures.written;
+pub returns-in-Err-perform_told-clause-by_status : goal.returns-in-Err-perform_told-clause-by_status
+returns-in-Err-perform_told-clause-by_status g c = record {
+  silent = λ zero. absurd (not_done c.in-Err-perform_told.refused (sym c.tell_and_keep.ensures.status ∙ zero));
+  names_failure = λ three. tells (λ _. ⊤) c.in-Err-perform_told.refused _ _ _ tt c.tell_and_keep.ensures.status c.tell_and_keep.ensures.written;
   names_refusal = λ one.
-      inl (tells (λ _. ⊤) c.in-Err-perform.refused _ _ _ tt c.tell_refusal.ensures.status c.tell_refusal.ensures.written);
-  is_flushed = λ zero. absurd (not_done c.in-Err-perform.refused (sym c.tell_refusal.ensures.status ∙ zero));
+      inl (tells (λ _. ⊤) c.in-Err-perform_told.refused _ _ _ tt c.tell_and_keep.ensures.status c.tell_and_keep.ensures.written);
+  is_flushed = λ zero. absurd (not_done c.in-Err-perform_told.refused (sym c.tell_and_keep.ensures.status ∙ zero));
   refused = λ one.
-      elim (c.in-Err-perform.ensures.kept (sym c.tell_refusal.ensures.status ∙ one)) [
+      elim (c.in-Err-perform_told.ensures.kept (sym c.tell_and_keep.ensures.status ∙ one)) [
         | inl kept ↦ inl kept
-        | inr rows ↦ inr (c.in-Ok.ensures.written_on_output (rows_tell c.in-Ok.ask rows))
+        | inr rows ↦ inr (c.in-Ok.ensures.written_on_output (rows_tell c.in-Ok.told.ask rows))
       ];
-  usage_keeps = λ two. absurd (c.in-Err-perform.ensures.never (sym c.tell_refusal.ensures.status ∙ two));
+  usage_keeps = λ two. absurd (c.in-Err-perform_told.ensures.never (sym c.tell_and_keep.ensures.status ∙ two));
 }
 
 pub returns-in-Err-clause-by_status : goal.returns-in-Err-clause-by_status
@@ -173,26 +182,26 @@ returns-in-Err-clause-by_status g c = record {
 
 -- ---- what is read
 
-pub returns-in-Ok-perform-clause-reads : goal.returns-in-Ok-perform-clause-reads
-returns-in-Ok-perform-clause-reads g c = record {
-  limit = reads_within _ _ _ _ (reads_few c.in-Ok.ask) c.perform.ensures.limit;
+pub returns-in-Ok-perform_told-clause-reads : goal.returns-in-Ok-perform_told-clause-reads
+returns-in-Ok-perform_told-clause-reads g c = record {
+  limit = c.perform_told.ensures.limit;
   limit_of_store = λ asks.
-      subst (λ most. ReadsUpTo most (g.R.Read.remaining c.args.input.now) (g.R.Read.remaining c.perform.new.input))
-      (reads_no_input _ c.in-Ok.ask c.in-Ok.ensures.read asks) c.perform.ensures.limit;
+      subst (λ most. ReadsUpTo most (g.R.Read.remaining c.args.input.now) (g.R.Read.remaining c.perform_told.new.input))
+      (reads_no_input _ c.in-Ok.told.ask c.in-Ok.ensures.read asks) (c.in-Ok-perform_told.ensures.plain (store_plain _ c.in-Ok.told.beside c.in-Ok.ensures.beside asks)).limit;
   limit_of_kind = λ kind asks.
-      subst (λ most. ReadsUpTo most (g.R.Read.remaining c.args.input.now) (g.R.Read.remaining c.perform.new.input))
-      (reads_of_kind _ c.in-Ok.ask kind c.in-Ok.ensures.read asks) c.perform.ensures.limit;
+      subst (λ most. ReadsUpTo most (g.R.Read.remaining c.args.input.now) (g.R.Read.remaining c.perform_told.new.input))
+      (reads_of_kind _ c.in-Ok.told.ask kind c.in-Ok.ensures.read asks) (c.in-Ok-perform_told.ensures.plain (kind_plain _ c.in-Ok.told c.in-Ok.ensures.all c.in-Ok.ensures.read kind asks)).limit;
 }
 
-pub returns-in-Err-perform-clause-reads : goal.returns-in-Err-perform-clause-reads
-returns-in-Err-perform-clause-reads g c = record {
-  limit = reads_within _ _ _ _ (reads_few c.in-Ok.ask) c.perform.ensures.limit;
+pub returns-in-Err-perform_told-clause-reads : goal.returns-in-Err-perform_told-clause-reads
+returns-in-Err-perform_told-clause-reads g c = record {
+  limit = c.perform_told.ensures.limit;
   limit_of_store = λ asks.
-      subst (λ most. ReadsUpTo most (g.R.Read.remaining c.args.input.now) (g.R.Read.remaining c.perform.new.input))
-      (reads_no_input _ c.in-Ok.ask c.in-Ok.ensures.read asks) c.perform.ensures.limit;
+      subst (λ most. ReadsUpTo most (g.R.Read.remaining c.args.input.now) (g.R.Read.remaining c.perform_told.new.input))
+      (reads_no_input _ c.in-Ok.told.ask c.in-Ok.ensures.read asks) (c.in-Err-perform_told.ensures.plain (store_plain _ c.in-Ok.told.beside c.in-Ok.ensures.beside asks)).limit;
   limit_of_kind = λ kind asks.
-      subst (λ most. ReadsUpTo most (g.R.Read.remaining c.args.input.now) (g.R.Read.remaining c.perform.new.input))
-      (reads_of_kind _ c.in-Ok.ask kind c.in-Ok.ensures.read asks) c.perform.ensures.limit;
+      subst (λ most. ReadsUpTo most (g.R.Read.remaining c.args.input.now) (g.R.Read.remaining c.perform_told.new.input))
+      (reads_of_kind _ c.in-Ok.told.ask kind c.in-Ok.ensures.read asks) (c.in-Err-perform_told.ensures.plain (kind_plain _ c.in-Ok.told c.in-Ok.ensures.all c.in-Ok.ensures.read kind asks)).limit;
 }
 
 pub returns-in-Err-clause-reads : goal.returns-in-Err-clause-reads
@@ -204,20 +213,20 @@ returns-in-Err-clause-reads g c = record {
 
 -- ---- the machine
 
-pub returns-in-Ok-perform-clause-keeps : goal.returns-in-Ok-perform-clause-keeps
-returns-in-Ok-perform-clause-keeps g c = record {
-  back = c.perform.ensures.back;
-  untouched = λ kind asks. c.perform.ensures.untouched (of_image _ c.in-Ok.ask c.in-Ok.ensures.read kind asks);
+pub returns-in-Ok-perform_told-clause-keeps : goal.returns-in-Ok-perform_told-clause-keeps
+returns-in-Ok-perform_told-clause-keeps g c = record {
+  back = c.perform_told.ensures.back;
+  untouched = λ kind asks. (c.in-Ok-perform_told.ensures.plain (kind_plain _ c.in-Ok.told c.in-Ok.ensures.all c.in-Ok.ensures.read kind asks)).untouched (of_image _ c.in-Ok.told.ask c.in-Ok.ensures.read kind asks);
   untaken_untouched = λ none. absurd (none c.in-Ok.ensures.taken);
   usage_untouched = λ two. absurd (omega (arith, c.status.ensures.most, two));
 }
 
-pub returns-in-Err-perform-clause-keeps : goal.returns-in-Err-perform-clause-keeps
-returns-in-Err-perform-clause-keeps g c = record {
-  back = c.perform.ensures.back;
-  untouched = λ kind asks. c.perform.ensures.untouched (of_image _ c.in-Ok.ask c.in-Ok.ensures.read kind asks);
+pub returns-in-Err-perform_told-clause-keeps : goal.returns-in-Err-perform_told-clause-keeps
+returns-in-Err-perform_told-clause-keeps g c = record {
+  back = c.perform_told.ensures.back;
+  untouched = λ kind asks. (c.in-Err-perform_told.ensures.plain (kind_plain _ c.in-Ok.told c.in-Ok.ensures.all c.in-Ok.ensures.read kind asks)).untouched (of_image _ c.in-Ok.told.ask c.in-Ok.ensures.read kind asks);
   untaken_untouched = λ none. absurd (none c.in-Ok.ensures.taken);
-  usage_untouched = λ two. absurd (c.in-Err-perform.ensures.never (sym c.tell_refusal.ensures.status ∙ two));
+  usage_untouched = λ two. absurd (c.in-Err-perform_told.ensures.never (sym c.tell_and_keep.ensures.status ∙ two));
 }
 
 pub returns-in-Err-clause-keeps : goal.returns-in-Err-clause-keeps
@@ -230,44 +239,47 @@ returns-in-Err-clause-keeps g c = record {
 
 -- ---- the store that is named
 
-pub returns-in-Ok-perform-clause-one_store : goal.returns-in-Ok-perform-clause-one_store
-returns-in-Ok-perform-clause-one_store g c = record {
+pub returns-in-Ok-perform_told-clause-one_store : goal.returns-in-Ok-perform_told-clause-one_store
+returns-in-Ok-perform_told-clause-one_store g c = record {
   there = λ well store names.
-      has_both_by (g.M.Machine.shows c.args.machine.now) (g.M.Machine.stands c.args.machine.now) (g.M.Machine.left c.perform.new.machine) _ c.in-Ok.ask store c.in-Ok.ensures.read names
-      c.in-Ok-perform.ensures.there;
+      has_both_by (g.M.Machine.shows c.args.machine.now) (g.M.Machine.stands c.args.machine.now) (g.M.Machine.left c.perform_told.new.machine) _ c.in-Ok.told.ask store c.in-Ok.ensures.read names
+      (c.in-Ok-perform_told.ensures.plain (named_plain _ c.in-Ok.told.beside c.in-Ok.ensures.beside store names)).performs.there;
   asked = λ store names.
-      asks_by (g.M.Machine.wanted c.args.machine.now) (g.M.Machine.wanted c.perform.new.machine) _ c.in-Ok.ask store c.in-Ok.ensures.read names c.perform.ensures.asked;
+      asks_by (g.M.Machine.wanted c.args.machine.now) (g.M.Machine.wanted c.perform_told.new.machine) _ c.in-Ok.told.ask store c.in-Ok.ensures.read names
+      (c.in-Ok-perform_told.ensures.plain (named_plain _ c.in-Ok.told.beside c.in-Ok.ensures.beside store (inl names))).performs.wanted;
   asked_copy = λ store target summed asks.
-      copy_asks (g.M.Machine.wanted c.args.machine.now) (g.M.Machine.wanted c.perform.new.machine) c.in-Ok.ask store target summed (c.in-Ok.ensures.read.copy store target summed asks)
-      c.perform.ensures.asked;
+      copy_asks (g.M.Machine.wanted c.args.machine.now) (g.M.Machine.wanted c.perform_told.new.machine) c.in-Ok.told.ask store target summed (c.in-Ok.ensures.read.copy store target summed asks)
+      (c.in-Ok-perform_told.ensures.plain (copy_plain _ c.in-Ok.told.beside c.in-Ok.ensures.beside store target summed asks)).performs.wanted;
   unasked = λ store moment rule asks.
-      unasked_by _ _ (g.M.Machine.clock c.args.machine.now) c.in-Ok.ask (Ok c.in-Ok-perform.done) store moment rule c.in-Ok.ensures.read asks c.in-Ok-perform.ensures.unasked (λ none. absurd none);
+      unasked_by _ _ (g.M.Machine.clock c.args.machine.now) c.in-Ok.told.ask (Ok c.in-Ok-perform_told.done) store moment rule c.in-Ok.ensures.read asks (c.in-Ok-perform_told.ensures.plain (at_plain _ c.in-Ok.told.beside c.in-Ok.ensures.beside store moment rule asks)).performs.unasked (λ none. absurd none);
   on_time = λ zero store rule goes trusts.
-      on_time_by g.M.Disk.Store (g.M.Machine.clock c.args.machine.now) (g.M.Machine.stands c.args.machine.now) (g.M.Machine.left c.perform.new.machine) c.in-Ok-perform.done store rule _ c.in-Ok.ask
-      c.in-Ok.ensures.read goes (c.in-Ok.ensures.trust false trusts) c.in-Ok-perform.ensures.on_time;
+      on_time_by g.M.Disk.Store (g.M.Machine.clock c.args.machine.now) (g.M.Machine.stands c.args.machine.now) (g.M.Machine.left c.perform_told.new.machine) c.in-Ok-perform_told.done store rule _ c.in-Ok.told.ask
+      c.in-Ok.ensures.read goes (c.in-Ok.ensures.trust false trusts) (c.in-Ok-perform_told.ensures.plain (at_plain _ c.in-Ok.told.beside c.in-Ok.ensures.beside store None rule (goes_at _ store rule goes))).performs.on_time;
   late = λ three. absurd (omega (arith, c.status.ensures.most, three));
 }
 
-pub returns-in-Err-perform-clause-one_store : goal.returns-in-Err-perform-clause-one_store
-returns-in-Err-perform-clause-one_store g c = record {
+pub returns-in-Err-perform_told-clause-one_store : goal.returns-in-Err-perform_told-clause-one_store
+returns-in-Err-perform_told-clause-one_store g c = record {
   there = λ well store names.
-      let some = not_done c.in-Err-perform.refused in
-      has_both_by (g.M.Machine.shows c.args.machine.now) (g.M.Machine.stands c.args.machine.now) (g.M.Machine.left c.perform.new.machine) _ c.in-Ok.ask store c.in-Ok.ensures.read names
-      (c.in-Err-perform.ensures.there (one_of_status (status_of c.in-Err-perform.refused) (subst (λ s. s ≤ 1) c.tell_refusal.ensures.status well) some));
+      let some = not_done c.in-Err-perform_told.refused in
+      has_both_by (g.M.Machine.shows c.args.machine.now) (g.M.Machine.stands c.args.machine.now) (g.M.Machine.left c.perform_told.new.machine) _ c.in-Ok.told.ask store c.in-Ok.ensures.read names
+      ((c.in-Err-perform_told.ensures.plain (named_plain _ c.in-Ok.told.beside c.in-Ok.ensures.beside store names)).performs.there (one_of_status (status_of c.in-Err-perform_told.refused) (subst (λ s. s ≤ 1) c.tell_and_keep.ensures.status well) some));
   asked = λ store names.
-      asks_by (g.M.Machine.wanted c.args.machine.now) (g.M.Machine.wanted c.perform.new.machine) _ c.in-Ok.ask store c.in-Ok.ensures.read names c.perform.ensures.asked;
+      asks_by (g.M.Machine.wanted c.args.machine.now) (g.M.Machine.wanted c.perform_told.new.machine) _ c.in-Ok.told.ask store c.in-Ok.ensures.read names
+      (c.in-Err-perform_told.ensures.plain (named_plain _ c.in-Ok.told.beside c.in-Ok.ensures.beside store (inl names))).performs.wanted;
   asked_copy = λ store target summed asks.
-      copy_asks (g.M.Machine.wanted c.args.machine.now) (g.M.Machine.wanted c.perform.new.machine) c.in-Ok.ask store target summed (c.in-Ok.ensures.read.copy store target summed asks)
-      c.perform.ensures.asked;
+      copy_asks (g.M.Machine.wanted c.args.machine.now) (g.M.Machine.wanted c.perform_told.new.machine) c.in-Ok.told.ask store target summed (c.in-Ok.ensures.read.copy store target summed asks)
+      (c.in-Err-perform_told.ensures.plain (copy_plain _ c.in-Ok.told.beside c.in-Ok.ensures.beside store target summed asks)).performs.wanted;
   unasked = λ store moment rule asks.
-      unasked_by _ _ (g.M.Machine.clock c.args.machine.now) c.in-Ok.ask (Err c.in-Err-perform.refused) store moment rule c.in-Ok.ensures.read asks c.in-Err-perform.ensures.unasked
-      (λ is. tells IsUnaskedRefusal c.in-Err-perform.refused _ _ _ is c.tell_refusal.ensures.status c.tell_refusal.ensures.written);
-  on_time = λ zero. absurd (not_done c.in-Err-perform.refused (sym c.tell_refusal.ensures.status ∙ zero));
+      unasked_by _ _ (g.M.Machine.clock c.args.machine.now) c.in-Ok.told.ask (Err c.in-Err-perform_told.refused) store moment rule c.in-Ok.ensures.read asks (c.in-Err-perform_told.ensures.plain (at_plain _ c.in-Ok.told.beside c.in-Ok.ensures.beside store moment rule asks)).performs.unasked
+      (λ is. tells IsUnaskedRefusal c.in-Err-perform_told.refused _ _ _ is c.tell_and_keep.ensures.status c.tell_and_keep.ensures.written);
+  on_time = λ zero. absurd (not_done c.in-Err-perform_told.refused (sym c.tell_and_keep.ensures.status ∙ zero));
   late = λ three store moment rule asks.
-      tells _ c.in-Err-perform.refused _ _ _
-      (behind_by g.M.Disk.Store (g.M.Machine.clock c.args.machine.now) (g.M.Machine.stands c.args.machine.now) (g.M.Machine.left c.perform.new.machine) _ store moment rule
-      c.in-Ok.ask c.in-Err-perform.refused c.in-Ok.ensures.read asks (c.in-Ok.ensures.trust true) c.in-Err-perform.ensures.late)
-      c.tell_refusal.ensures.status c.tell_refusal.ensures.written;
+      tells _ c.in-Err-perform_told.refused _ _ _
+      (behind_by g.M.Disk.Store (g.M.Machine.clock c.args.machine.now) (g.M.Machine.stands c.args.machine.now) (g.M.Machine.left c.perform_told.new.machine) _ store moment rule
+      c.in-Ok.told.ask c.in-Err-perform_told.refused c.in-Ok.ensures.read asks (c.in-Ok.ensures.trust true)
+      (c.in-Err-perform_told.ensures.plain (at_plain _ c.in-Ok.told.beside c.in-Ok.ensures.beside store moment rule asks)).performs.late)
+      c.tell_and_keep.ensures.status c.tell_and_keep.ensures.written;
 }
 
 pub returns-in-Err-clause-one_store : goal.returns-in-Err-clause-one_store
@@ -290,16 +302,16 @@ returns-in-Err-clause-one_store g c = record {
 
 -- ---- help and the version
 
-pub returns-in-Ok-perform-clause-itself : goal.returns-in-Ok-perform-clause-itself
-returns-in-Ok-perform-clause-itself g c = record {
+pub returns-in-Ok-perform_told-clause-itself : goal.returns-in-Ok-perform_told-clause-itself
+returns-in-Ok-perform_told-clause-itself g c = record {
   help = λ zero asks. absurd (help_not_taken _ c.in-Ok.ensures.taken asks);
   help_due = λ some asks. absurd (help_not_taken _ c.in-Ok.ensures.taken asks);
   version = λ zero asks. absurd (version_not_taken _ c.in-Ok.ensures.taken asks);
   version_due = λ some asks. absurd (version_not_taken _ c.in-Ok.ensures.taken asks);
 }
 
-pub returns-in-Err-perform-clause-itself : goal.returns-in-Err-perform-clause-itself
-returns-in-Err-perform-clause-itself g c = record {
+pub returns-in-Err-perform_told-clause-itself : goal.returns-in-Err-perform_told-clause-itself
+returns-in-Err-perform_told-clause-itself g c = record {
   help = λ zero asks. absurd (help_not_taken _ c.in-Ok.ensures.taken asks);
   help_due = λ some asks. absurd (help_not_taken _ c.in-Ok.ensures.taken asks);
   version = λ zero asks. absurd (version_not_taken _ c.in-Ok.ensures.taken asks);
@@ -339,43 +351,93 @@ returns-in-Err-clause-itself g c = record {
   ];
 }
 
--- ---- a file of an image
+-- ---- what the run was told, and what became of that
 
-pub returns-in-Ok-perform-clause-cat : goal.returns-in-Ok-perform-clause-cat
-returns-in-Ok-perform-clause-cat g c = record {
-  done = λ zero kind slot asked.
-      c.in-Ok-perform.ensures.done kind slot (c.in-Ok.ensures.read.file kind (codes "-") slot asked);
-  no_sound_file = λ one kind slot asked.
-      absurd (not_in_rows _ c.in-Ok.ask c.in-Ok.ensures.read (c.in-Ok-perform.ensures.in_part (c.status.ensures.in_part (one_is_some one))) (inl (kind, codes "-", slot, asked)));
-  cat_due = λ some kind slot asked.
-      absurd (not_in_rows _ c.in-Ok.ask c.in-Ok.ensures.read (c.in-Ok-perform.ensures.in_part (c.status.ensures.in_part some)) (inl (kind, codes "-", slot, asked)));
-  cut = λ three. absurd (omega (arith, c.status.ensures.most, three));
-  file_done = λ zero kind path slot other asks.
-      one_file_done (g.M.Files.file_bytes c.args.machine.now) (g.W.Write.contents c.args.output.now) (g.W.Write.contents c.perform.new.output) c.in-Ok-perform.done
-      c.in-Ok.ask kind path slot other (c.in-Ok.ensures.read.file kind path slot asks) c.in-Ok-perform.ensures.of_file;
-  file_told = λ some kind path slot other asked.
-      absurd (not_in_rows _ c.in-Ok.ask c.in-Ok.ensures.read (c.in-Ok-perform.ensures.in_part (c.status.ensures.in_part some)) (inl (kind, path, slot, asked)));
+pub returns-in-Ok-perform_told-clause-why : goal.returns-in-Ok-perform_told-clause-why
+returns-in-Ok-perform_told-clause-why g c = λ none. none_so _ c.args.why.now.refused none
+
+pub returns-in-Err-perform_told-clause-why : goal.returns-in-Err-perform_told-clause-why
+returns-in-Err-perform_told-clause-why g c = λ none.
+    some_so (λ refusal. status_of refusal ≡ c.tell_and_keep.result) _ c.in-Err-perform_told.refused c.tell_and_keep.ensures.kept (sym c.tell_and_keep.ensures.status)
+
+pub returns-in-Err-clause-why : goal.returns-in-Err-clause-why
+returns-in-Err-clause-why g c = λ none. none_so _ c.args.why.now.refused none
+
+pub returns-in-Ok-perform_told-clause-told : goal.returns-in-Ok-perform_told-clause-told
+returns-in-Ok-perform_told-clause-told g c = λ none. c.in-Ok.ensures.all
+
+pub returns-in-Err-perform_told-clause-told : goal.returns-in-Err-perform_told-clause-told
+returns-in-Err-perform_told-clause-told g c = λ none. some_so (TellsAll _) _ c.in-Ok.told c.tell_and_keep.ensures.told c.in-Ok.ensures.all
+
+pub returns-in-Err-clause-told : goal.returns-in-Err-clause-told
+returns-in-Err-clause-told g c = λ none. none_so _ c.args.why.now.told none
+
+pub returns-in-Ok-perform_told-clause-so : goal.returns-in-Ok-perform_told-clause-so
+returns-in-Ok-perform_told-clause-so g c = λ none. record {
+  result = Ok c.in-Ok-perform_told.done;
+  ends = ends_by c.in-Ok-perform_told.done c.status.result (g.E.Write.contents c.args.errors.now) c.status.ensures.most c.status.ensures.whole c.status.ensures.in_part;
+  does = c.in-Ok-perform_told.ensures.so;
 }
 
-pub returns-in-Err-perform-clause-cat : goal.returns-in-Err-perform-clause-cat
-returns-in-Err-perform-clause-cat g c = record {
-  done = λ zero. absurd (not_done c.in-Err-perform.refused (sym c.tell_refusal.ensures.status ∙ zero));
+pub returns-in-Err-perform_told-clause-so : goal.returns-in-Err-perform_told-clause-so
+returns-in-Err-perform_told-clause-so g c = λ none. some_so _ _ c.in-Ok.told c.tell_and_keep.ensures.told (record {
+  result = Err c.in-Err-perform_told.refused;
+  ends = (c.tell_and_keep.ensures.status, c.tell_and_keep.ensures.written);
+  does = c.in-Err-perform_told.ensures.so;
+})
+
+pub returns-in-Err-clause-so : goal.returns-in-Err-clause-so
+returns-in-Err-clause-so g c = λ none. none_so _ c.args.why.now.told none
+
+pub returns-in-Ok-perform_told-clause-untold : goal.returns-in-Ok-perform_told-clause-untold
+returns-in-Ok-perform_told-clause-untold g c = λ zero none. absurd (is_told c.in-Ok.told _ refl none)
+
+pub returns-in-Err-perform_told-clause-untold : goal.returns-in-Err-perform_told-clause-untold
+returns-in-Err-perform_told-clause-untold g c = λ zero none. absurd (is_told c.in-Ok.told _ c.tell_and_keep.ensures.told none)
+
+pub returns-in-Err-clause-untold : goal.returns-in-Err-clause-untold
+returns-in-Err-clause-untold g c = λ zero none. elim (c.tell_unread.ensures.shown zero) [
+  | inl help ↦ inl (help_asked _ c.in-Err.unread help.0 c.in-Err.ensures.mistake_in)
+  | inr version ↦ inr (version_asked _ c.in-Err.unread version.0 c.in-Err.ensures.mistake_in)
+]
+
+-- ---- a file of an image
+
+pub returns-in-Ok-perform_told-clause-cat : goal.returns-in-Ok-perform_told-clause-cat
+returns-in-Ok-perform_told-clause-cat g c = record {
+  done = λ zero kind slot asked.
+      (c.in-Ok-perform_told.ensures.plain (file_plain _ c.in-Ok.told c.in-Ok.ensures.all kind (codes "-") slot (c.in-Ok.ensures.read.file kind (codes "-") slot asked))).done kind slot (c.in-Ok.ensures.read.file kind (codes "-") slot asked);
   no_sound_file = λ one kind slot asked.
-      let status : status_of c.in-Err-perform.refused ≡ 1 = sym c.tell_refusal.ensures.status ∙ one in
-      of_known (g.R.Read.remaining c.args.input.now) (λ image. no_sound_file c.in-Err-perform.refused kind slot image _ _ status)
-      (c.in-Err-perform.ensures.refused kind slot (c.in-Ok.ensures.read.file kind (codes "-") slot asked));
+      absurd (not_in_rows _ c.in-Ok.told.ask c.in-Ok.ensures.read (c.in-Ok-perform_told.ensures.in_part (c.status.ensures.in_part (one_is_some one))) (inl (kind, codes "-", slot, asked)));
   cat_due = λ some kind slot asked.
-      of_known (g.R.Read.remaining c.args.input.now) (λ image why. tells _ c.in-Err-perform.refused _ _ _ why c.tell_refusal.ensures.status c.tell_refusal.ensures.written)
-      (c.in-Err-perform.ensures.refused kind slot (c.in-Ok.ensures.read.file kind (codes "-") slot asked));
+      absurd (not_in_rows _ c.in-Ok.told.ask c.in-Ok.ensures.read (c.in-Ok-perform_told.ensures.in_part (c.status.ensures.in_part some)) (inl (kind, codes "-", slot, asked)));
+  cut = λ three. absurd (omega (arith, c.status.ensures.most, three));
+  file_done = λ zero kind path slot other asks.
+      one_file_done (g.M.Files.file_bytes c.args.machine.now) (g.W.Write.contents c.args.output.now) (g.W.Write.contents c.perform_told.new.output) c.in-Ok-perform_told.done
+      c.in-Ok.told.ask kind path slot other (c.in-Ok.ensures.read.file kind path slot asks) (c.in-Ok-perform_told.ensures.plain (file_plain _ c.in-Ok.told c.in-Ok.ensures.all kind path slot (c.in-Ok.ensures.read.file kind path slot asks))).performs.gives;
+  file_told = λ some kind path slot other asked.
+      absurd (not_in_rows _ c.in-Ok.told.ask c.in-Ok.ensures.read (c.in-Ok-perform_told.ensures.in_part (c.status.ensures.in_part some)) (inl (kind, path, slot, asked)));
+}
+
+pub returns-in-Err-perform_told-clause-cat : goal.returns-in-Err-perform_told-clause-cat
+returns-in-Err-perform_told-clause-cat g c = record {
+  done = λ zero. absurd (not_done c.in-Err-perform_told.refused (sym c.tell_and_keep.ensures.status ∙ zero));
+  no_sound_file = λ one kind slot asked.
+      let status : status_of c.in-Err-perform_told.refused ≡ 1 = sym c.tell_and_keep.ensures.status ∙ one in
+      of_known (g.R.Read.remaining c.args.input.now) (λ image. no_sound_file c.in-Err-perform_told.refused kind slot image _ _ status)
+      ((c.in-Err-perform_told.ensures.plain (file_plain _ c.in-Ok.told c.in-Ok.ensures.all kind (codes "-") slot (c.in-Ok.ensures.read.file kind (codes "-") slot asked))).refused kind slot (c.in-Ok.ensures.read.file kind (codes "-") slot asked));
+  cat_due = λ some kind slot asked.
+      of_known (g.R.Read.remaining c.args.input.now) (λ image why. tells _ c.in-Err-perform_told.refused _ _ _ why c.tell_and_keep.ensures.status c.tell_and_keep.ensures.written)
+      ((c.in-Err-perform_told.ensures.plain (file_plain _ c.in-Ok.told c.in-Ok.ensures.all kind (codes "-") slot (c.in-Ok.ensures.read.file kind (codes "-") slot asked))).refused kind slot (c.in-Ok.ensures.read.file kind (codes "-") slot asked));
   cut = λ three kind slot asked.
-      let status : status_of c.in-Err-perform.refused ≡ 3 = sym c.tell_refusal.ensures.status ∙ three in
-      of_known (g.R.Read.remaining c.args.input.now) (λ image. is_cut c.in-Err-perform.refused kind slot image _ _ status)
-      (c.in-Err-perform.ensures.refused kind slot (c.in-Ok.ensures.read.file kind (codes "-") slot asked));
-  file_done = λ zero. absurd (not_done c.in-Err-perform.refused (sym c.tell_refusal.ensures.status ∙ zero));
+      let status : status_of c.in-Err-perform_told.refused ≡ 3 = sym c.tell_and_keep.ensures.status ∙ three in
+      of_known (g.R.Read.remaining c.args.input.now) (λ image. is_cut c.in-Err-perform_told.refused kind slot image _ _ status)
+      ((c.in-Err-perform_told.ensures.plain (file_plain _ c.in-Ok.told c.in-Ok.ensures.all kind (codes "-") slot (c.in-Ok.ensures.read.file kind (codes "-") slot asked))).refused kind slot (c.in-Ok.ensures.read.file kind (codes "-") slot asked));
+  file_done = λ zero. absurd (not_done c.in-Err-perform_told.refused (sym c.tell_and_keep.ensures.status ∙ zero));
   file_told = λ some kind path slot other asks.
-      of_known (g.M.Files.file_bytes c.args.machine.now path) (λ image why. tells _ c.in-Err-perform.refused _ _ _ why c.tell_refusal.ensures.status c.tell_refusal.ensures.written)
-      (one_file_refused (g.M.Files.file_bytes c.args.machine.now) (g.W.Write.contents c.args.output.now) (g.W.Write.contents c.perform.new.output) c.in-Err-perform.refused
-      c.in-Ok.ask kind path slot other (c.in-Ok.ensures.read.file kind path slot asks) c.in-Err-perform.ensures.of_file);
+      of_known (g.M.Files.file_bytes c.args.machine.now path) (λ image why. tells _ c.in-Err-perform_told.refused _ _ _ why c.tell_and_keep.ensures.status c.tell_and_keep.ensures.written)
+      (one_file_refused (g.M.Files.file_bytes c.args.machine.now) (g.W.Write.contents c.args.output.now) (g.W.Write.contents c.perform_told.new.output) c.in-Err-perform_told.refused
+      c.in-Ok.told.ask kind path slot other (c.in-Ok.ensures.read.file kind path slot asks) (c.in-Err-perform_told.ensures.plain (file_plain _ c.in-Ok.told c.in-Ok.ensures.all kind path slot (c.in-Ok.ensures.read.file kind path slot asks))).performs.gives);
 }
 
 pub returns-in-Err-clause-cat : goal.returns-in-Err-clause-cat
@@ -402,30 +464,30 @@ returns-in-Err-clause-cat g c = record {
 
 -- ---- the files of an image
 
-pub returns-in-Ok-perform-clause-list : goal.returns-in-Ok-perform-clause-list
-returns-in-Ok-perform-clause-list g c = record {
+pub returns-in-Ok-perform_told-clause-list : goal.returns-in-Ok-perform_told-clause-list
+returns-in-Ok-perform_told-clause-list g c = record {
   listed = λ zero kind asked.
-      c.in-Ok-perform.ensures.listed kind (c.in-Ok.ensures.read.files kind (codes "-") asked);
+      (c.in-Ok-perform_told.ensures.plain (files_plain _ c.in-Ok.told c.in-Ok.ensures.all kind (codes "-") (c.in-Ok.ensures.read.files kind (codes "-") asked))).listed kind (c.in-Ok.ensures.read.files kind (codes "-") asked);
   list_due = λ some kind asked.
-      absurd (not_in_rows _ c.in-Ok.ask c.in-Ok.ensures.read (c.in-Ok-perform.ensures.in_part (c.status.ensures.in_part some)) (inr (inl (kind, codes "-", asked))));
+      absurd (not_in_rows _ c.in-Ok.told.ask c.in-Ok.ensures.read (c.in-Ok-perform_told.ensures.in_part (c.status.ensures.in_part some)) (inr (inl (kind, codes "-", asked))));
   file_listed = λ zero kind path other asks.
-      files_done (g.M.Files.file_bytes c.args.machine.now) (g.W.Write.contents c.args.output.now) (g.W.Write.contents c.perform.new.output) c.in-Ok-perform.done
-      c.in-Ok.ask kind path other (c.in-Ok.ensures.read.files kind path asks) c.in-Ok-perform.ensures.of_file;
+      files_done (g.M.Files.file_bytes c.args.machine.now) (g.W.Write.contents c.args.output.now) (g.W.Write.contents c.perform_told.new.output) c.in-Ok-perform_told.done
+      c.in-Ok.told.ask kind path other (c.in-Ok.ensures.read.files kind path asks) (c.in-Ok-perform_told.ensures.plain (files_plain _ c.in-Ok.told c.in-Ok.ensures.all kind path (c.in-Ok.ensures.read.files kind path asks))).performs.gives;
   list_file_told = λ some kind path other asked.
-      absurd (not_in_rows _ c.in-Ok.ask c.in-Ok.ensures.read (c.in-Ok-perform.ensures.in_part (c.status.ensures.in_part some)) (inr (inl (kind, path, asked))));
+      absurd (not_in_rows _ c.in-Ok.told.ask c.in-Ok.ensures.read (c.in-Ok-perform_told.ensures.in_part (c.status.ensures.in_part some)) (inr (inl (kind, path, asked))));
 }
 
-pub returns-in-Err-perform-clause-list : goal.returns-in-Err-perform-clause-list
-returns-in-Err-perform-clause-list g c = record {
-  listed = λ zero. absurd (not_done c.in-Err-perform.refused (sym c.tell_refusal.ensures.status ∙ zero));
+pub returns-in-Err-perform_told-clause-list : goal.returns-in-Err-perform_told-clause-list
+returns-in-Err-perform_told-clause-list g c = record {
+  listed = λ zero. absurd (not_done c.in-Err-perform_told.refused (sym c.tell_and_keep.ensures.status ∙ zero));
   list_due = λ some kind asked.
-      of_known (g.R.Read.remaining c.args.input.now) (λ image why. tells _ c.in-Err-perform.refused _ _ _ why c.tell_refusal.ensures.status c.tell_refusal.ensures.written)
-      (c.in-Err-perform.ensures.list_refused kind (c.in-Ok.ensures.read.files kind (codes "-") asked));
-  file_listed = λ zero. absurd (not_done c.in-Err-perform.refused (sym c.tell_refusal.ensures.status ∙ zero));
+      of_known (g.R.Read.remaining c.args.input.now) (λ image why. tells _ c.in-Err-perform_told.refused _ _ _ why c.tell_and_keep.ensures.status c.tell_and_keep.ensures.written)
+      ((c.in-Err-perform_told.ensures.plain (files_plain _ c.in-Ok.told c.in-Ok.ensures.all kind (codes "-") (c.in-Ok.ensures.read.files kind (codes "-") asked))).list_refused kind (c.in-Ok.ensures.read.files kind (codes "-") asked));
+  file_listed = λ zero. absurd (not_done c.in-Err-perform_told.refused (sym c.tell_and_keep.ensures.status ∙ zero));
   list_file_told = λ some kind path other asks.
-      of_known (g.M.Files.file_bytes c.args.machine.now path) (λ image why. tells _ c.in-Err-perform.refused _ _ _ why c.tell_refusal.ensures.status c.tell_refusal.ensures.written)
-      (files_refused (g.M.Files.file_bytes c.args.machine.now) (g.W.Write.contents c.args.output.now) (g.W.Write.contents c.perform.new.output) c.in-Err-perform.refused
-      c.in-Ok.ask kind path other (c.in-Ok.ensures.read.files kind path asks) c.in-Err-perform.ensures.of_file);
+      of_known (g.M.Files.file_bytes c.args.machine.now path) (λ image why. tells _ c.in-Err-perform_told.refused _ _ _ why c.tell_and_keep.ensures.status c.tell_and_keep.ensures.written)
+      (files_refused (g.M.Files.file_bytes c.args.machine.now) (g.W.Write.contents c.args.output.now) (g.W.Write.contents c.perform_told.new.output) c.in-Err-perform_told.refused
+      c.in-Ok.told.ask kind path other (c.in-Ok.ensures.read.files kind path asks) (c.in-Err-perform_told.ensures.plain (files_plain _ c.in-Ok.told c.in-Ok.ensures.all kind path (c.in-Ok.ensures.read.files kind path asks))).performs.gives);
 }
 
 pub returns-in-Err-clause-list : goal.returns-in-Err-clause-list
@@ -448,20 +510,24 @@ returns-in-Err-clause-list g c = record {
 
 -- ---- a desk that is made
 
-pub returns-in-Ok-perform-clause-init : goal.returns-in-Ok-perform-clause-init
-returns-in-Ok-perform-clause-init g c = λ store key asks. record {
-  made = λ zero. c.in-Ok-perform.ensures.made store key (c.in-Ok.ensures.read.init store key asks);
-  init_due = λ some.
-      absurd (not_in_rows _ c.in-Ok.ask c.in-Ok.ensures.read (c.in-Ok-perform.ensures.in_part (c.status.ensures.in_part some)) (inr (inr (inl (store, key, asks)))));
-}
+pub returns-in-Ok-perform_told-clause-init : goal.returns-in-Ok-perform_told-clause-init
+returns-in-Ok-perform_told-clause-init g c = λ store key asks.
+    let does = c.in-Ok-perform_told.ensures.plain (init_plain _ c.in-Ok.told.beside c.in-Ok.ensures.beside store key asks) in
+    record {
+      made = λ zero. does.made store key (c.in-Ok.ensures.read.init store key asks);
+      init_due = λ some.
+          absurd (not_in_rows _ c.in-Ok.told.ask c.in-Ok.ensures.read (c.in-Ok-perform_told.ensures.in_part (c.status.ensures.in_part some)) (inr (inr (inl (store, key, asks)))));
+    }
 
-pub returns-in-Err-perform-clause-init : goal.returns-in-Err-perform-clause-init
-returns-in-Err-perform-clause-init g c = λ store key asks. record {
-  made = λ zero. absurd (not_done c.in-Err-perform.refused (sym c.tell_refusal.ensures.status ∙ zero));
-  init_due = λ some.
-      tells _ c.in-Err-perform.refused _ _ _ (c.in-Err-perform.ensures.not_made store key (c.in-Ok.ensures.read.init store key asks))
-      c.tell_refusal.ensures.status c.tell_refusal.ensures.written;
-}
+pub returns-in-Err-perform_told-clause-init : goal.returns-in-Err-perform_told-clause-init
+returns-in-Err-perform_told-clause-init g c = λ store key asks.
+    let does = c.in-Err-perform_told.ensures.plain (init_plain _ c.in-Ok.told.beside c.in-Ok.ensures.beside store key asks) in
+    record {
+      made = λ zero. absurd (not_done c.in-Err-perform_told.refused (sym c.tell_and_keep.ensures.status ∙ zero));
+      init_due = λ some.
+          tells _ c.in-Err-perform_told.refused _ _ _ (does.not_made store key (c.in-Ok.ensures.read.init store key asks))
+          c.tell_and_keep.ensures.status c.tell_and_keep.ensures.written;
+    }
 
 pub returns-in-Err-clause-init : goal.returns-in-Err-clause-init
 returns-in-Err-clause-init g c = λ store key asks.
@@ -475,47 +541,49 @@ returns-in-Err-clause-init g c = λ store key asks.
 
 -- ---- visits
 
-pub returns-in-Ok-perform-clause-serve : goal.returns-in-Ok-perform-clause-serve
-returns-in-Ok-perform-clause-serve g c = λ store place count rule asks.
+pub returns-in-Ok-perform_told-clause-serve : goal.returns-in-Ok-perform_told-clause-serve
+returns-in-Ok-perform_told-clause-serve g c = λ store place count rule asks.
+    let does = c.in-Ok-perform_told.ensures.plain (serve_plain _ c.in-Ok.told.beside c.in-Ok.ensures.beside store place count rule asks) in
     let read = c.in-Ok.ensures.read.serve store place count rule asks in
     record {
-      served = λ zero. c.in-Ok-perform.ensures.served store place count rule read;
+      served = λ zero. does.served store place count rule read;
       serve_due = λ some.
-          absurd (not_in_rows _ c.in-Ok.ask c.in-Ok.ensures.read (c.in-Ok-perform.ensures.in_part (c.status.ensures.in_part some)) (inr (inr (inr (inl (store, place, count, rule, asks))))));
+          absurd (not_in_rows _ c.in-Ok.told.ask c.in-Ok.ensures.read (c.in-Ok-perform_told.ensures.in_part (c.status.ensures.in_part some)) (inr (inr (inr (inl (store, place, count, rule, asks))))));
       visits = λ zero.
-          serves_by g.M.Disk.Store g.M.Door.Door.told g.M.Door.Door.coming (g.M.Machine.door c.args.machine.now) (g.M.Machine.door c.perform.new.machine)
-          (g.M.Machine.stands c.args.machine.now) (g.M.Machine.left c.perform.new.machine) c.in-Ok.ask store place count rule read c.in-Ok-perform.ensures.serves;
+          serves_by g.M.Disk.Store g.M.Door.Door.told g.M.Door.Door.coming (g.M.Machine.door c.args.machine.now) (g.M.Machine.door c.perform_told.new.machine)
+          (g.M.Machine.stands c.args.machine.now) (g.M.Machine.left c.perform_told.new.machine) c.in-Ok.told.ask store place count rule read does.performs.serves;
       limits = λ zero.
-          limits_by _ (g.M.Machine.shows c.args.machine.now) (g.M.Machine.door_limits c.perform.new.machine) c.in-Ok.ask store place count rule c.in-Ok.ensures.read asks
-          c.in-Ok-perform.ensures.limits;
+          limits_by _ (g.M.Machine.shows c.args.machine.now) (g.M.Machine.door_limits c.perform_told.new.machine) c.in-Ok.told.ask store place count rule c.in-Ok.ensures.read asks
+          does.performs.limits;
       lent =
-          lent_by (g.M.Machine.shows c.args.machine.now) (g.M.Machine.door_limits c.perform.new.machine) (g.W.Write.contents c.args.output.now) (g.W.Write.contents c.perform.new.output)
-          c.in-Ok.ask store place count rule read c.perform.ensures.lent;
+          lent_by (g.M.Machine.shows c.args.machine.now) (g.M.Machine.door_limits c.perform_told.new.machine) (g.W.Write.contents c.args.output.now) (g.W.Write.contents c.perform_told.new.output)
+          c.in-Ok.told.ask store place count rule read does.performs.lent;
       serve_leaves =
           serve_leaves g.M.Disk.Store (g.M.Machine.clock c.args.machine.now) (g.M.Machine.left c.args.machine.now) (g.M.Machine.stands c.args.machine.now)
-          (g.M.Machine.left c.perform.new.machine) c.in-Ok.ask store place count rule read c.perform.ensures.leaves;
+          (g.M.Machine.left c.perform_told.new.machine) c.in-Ok.told.ask store place count rule read does.performs.leaves;
     }
 
-pub returns-in-Err-perform-clause-serve : goal.returns-in-Err-perform-clause-serve
-returns-in-Err-perform-clause-serve g c = λ store place count rule asks.
+pub returns-in-Err-perform_told-clause-serve : goal.returns-in-Err-perform_told-clause-serve
+returns-in-Err-perform_told-clause-serve g c = λ store place count rule asks.
+    let does = c.in-Err-perform_told.ensures.plain (serve_plain _ c.in-Ok.told.beside c.in-Ok.ensures.beside store place count rule asks) in
     let read = c.in-Ok.ensures.read.serve store place count rule asks in
     record {
-      served = λ zero. absurd (not_done c.in-Err-perform.refused (sym c.tell_refusal.ensures.status ∙ zero));
+      served = λ zero. absurd (not_done c.in-Err-perform_told.refused (sym c.tell_and_keep.ensures.status ∙ zero));
       serve_due = λ some.
-          tells _ c.in-Err-perform.refused _ _ _ (
-            c.in-Err-perform.ensures.not_served store place count rule read,
-            serve_refused g.M.Disk.Store (g.M.Machine.clock c.args.machine.now) (g.M.Machine.left c.args.machine.now) (g.M.Machine.stands c.args.machine.now) (g.M.Machine.left c.perform.new.machine)
-                c.in-Ok.ask store place count rule (g.W.Write.contents c.args.output.now) (g.W.Write.contents c.perform.new.output) c.in-Err-perform.refused read c.in-Err-perform.ensures.leaves_refused,
+          tells _ c.in-Err-perform_told.refused _ _ _ (
+            does.not_served store place count rule read,
+            serve_refused g.M.Disk.Store (g.M.Machine.clock c.args.machine.now) (g.M.Machine.left c.args.machine.now) (g.M.Machine.stands c.args.machine.now) (g.M.Machine.left c.perform_told.new.machine)
+                c.in-Ok.told.ask store place count rule (g.W.Write.contents c.args.output.now) (g.W.Write.contents c.perform_told.new.output) c.in-Err-perform_told.refused read does.performs.leaves_refused,
           )
-          c.tell_refusal.ensures.status c.tell_refusal.ensures.written;
-      visits = λ zero. absurd (not_done c.in-Err-perform.refused (sym c.tell_refusal.ensures.status ∙ zero));
-      limits = λ zero. absurd (not_done c.in-Err-perform.refused (sym c.tell_refusal.ensures.status ∙ zero));
+          c.tell_and_keep.ensures.status c.tell_and_keep.ensures.written;
+      visits = λ zero. absurd (not_done c.in-Err-perform_told.refused (sym c.tell_and_keep.ensures.status ∙ zero));
+      limits = λ zero. absurd (not_done c.in-Err-perform_told.refused (sym c.tell_and_keep.ensures.status ∙ zero));
       lent =
-          lent_by (g.M.Machine.shows c.args.machine.now) (g.M.Machine.door_limits c.perform.new.machine) (g.W.Write.contents c.args.output.now) (g.W.Write.contents c.perform.new.output)
-          c.in-Ok.ask store place count rule read c.perform.ensures.lent;
+          lent_by (g.M.Machine.shows c.args.machine.now) (g.M.Machine.door_limits c.perform_told.new.machine) (g.W.Write.contents c.args.output.now) (g.W.Write.contents c.perform_told.new.output)
+          c.in-Ok.told.ask store place count rule read does.performs.lent;
       serve_leaves =
           serve_leaves g.M.Disk.Store (g.M.Machine.clock c.args.machine.now) (g.M.Machine.left c.args.machine.now) (g.M.Machine.stands c.args.machine.now)
-          (g.M.Machine.left c.perform.new.machine) c.in-Ok.ask store place count rule read c.perform.ensures.leaves;
+          (g.M.Machine.left c.perform_told.new.machine) c.in-Ok.told.ask store place count rule read does.performs.leaves;
     }
 
 pub returns-in-Err-clause-serve : goal.returns-in-Err-clause-serve
@@ -535,56 +603,58 @@ returns-in-Err-clause-serve g c = λ store place count rule asks.
 
 -- ---- an import
 
-pub returns-in-Ok-perform-clause-import : goal.returns-in-Ok-perform-clause-import
-returns-in-Ok-perform-clause-import g c = λ store key sheet moment rule asks.
+pub returns-in-Ok-perform_told-clause-import : goal.returns-in-Ok-perform_told-clause-import
+returns-in-Ok-perform_told-clause-import g c = λ store key sheet moment rule asks.
+    let does = c.in-Ok-perform_told.ensures.plain (import_plain _ c.in-Ok.told.beside c.in-Ok.ensures.beside store key sheet moment rule asks) in
     let read = c.in-Ok.ensures.read.import store key sheet moment rule asks in
-    let lines = c.in-Ok-perform.ensures.imported (import_tells _ c.in-Ok.ask c.in-Ok.ensures.read (store, key, sheet, moment, rule, asks)) in
+    let lines = does.imported (import_tells _ c.in-Ok.told.ask c.in-Ok.ensures.read (store, key, sheet, moment, rule, asks)) in
     let taken = imports_by g.M.Disk.Store (g.M.Files.file_bytes c.args.machine.now) (g.M.Files.sheet_bytes c.args.machine.now) (g.M.Machine.clock c.args.machine.now) (g.M.Machine.stands c.args.machine.now)
-    (g.M.Machine.left c.perform.new.machine) (g.W.Write.contents c.args.output.now) (g.W.Write.contents c.perform.new.output) c.in-Ok.ask c.in-Ok-perform.done store key sheet moment rule
-    read c.in-Ok-perform.ensures.imports in
+    (g.M.Machine.left c.perform_told.new.machine) (g.W.Write.contents c.args.output.now) (g.W.Write.contents c.perform_told.new.output) c.in-Ok.told.ask c.in-Ok-perform_told.done store key sheet moment rule
+    read does.performs.imports in
     record {
-      imported = λ zero. done_lines c.in-Ok-perform.done _ _ (c.status.ensures.whole zero) lines;
-      import_due = λ some. inl (in_part_is_one _ c.status.ensures.most some, Keeps-refl _, rows_of c.in-Ok-perform.done _ _ lines);
+      imported = λ zero. done_lines c.in-Ok-perform_told.done _ _ (c.status.ensures.whole zero) lines;
+      import_due = λ some. inl (in_part_is_one _ c.status.ensures.most some, Keeps-refl _, rows_of c.in-Ok-perform_told.done _ _ lines);
       rows = λ zero.
-          subst (λ done. EndsWith (g.M.Machine.stands c.args.machine.now store) (g.M.Machine.left c.perform.new.machine) (TakesSheetIn g.M.Disk.Store (g.M.Files.file_bytes c.args.machine.now) (sha256 (trim_ows key))
-          (IsDayBy (moment_of moment (g.M.Machine.clock c.args.machine.now)) rule) (g.M.Files.sheet_bytes c.args.machine.now sheet) (g.W.Write.contents c.args.output.now) (g.W.Write.contents c.perform.new.output) done))
+          subst (λ done. EndsWith (g.M.Machine.stands c.args.machine.now store) (g.M.Machine.left c.perform_told.new.machine) (TakesSheetIn g.M.Disk.Store (g.M.Files.file_bytes c.args.machine.now) (sha256 (trim_ows key))
+          (IsDayBy (moment_of moment (g.M.Machine.clock c.args.machine.now)) rule) (g.M.Files.sheet_bytes c.args.machine.now sheet) (g.W.Write.contents c.args.output.now) (g.W.Write.contents c.perform_told.new.output) done))
           (c.status.ensures.whole zero) taken;
       rows_in_part = λ one.
-          inl (subst (λ done. EndsWith (g.M.Machine.stands c.args.machine.now store) (g.M.Machine.left c.perform.new.machine) (TakesSheetIn g.M.Disk.Store (g.M.Files.file_bytes c.args.machine.now) (sha256 (trim_ows key))
-          (IsDayBy (moment_of moment (g.M.Machine.clock c.args.machine.now)) rule) (g.M.Files.sheet_bytes c.args.machine.now sheet) (g.W.Write.contents c.args.output.now) (g.W.Write.contents c.perform.new.output) done))
+          inl (subst (λ done. EndsWith (g.M.Machine.stands c.args.machine.now store) (g.M.Machine.left c.perform_told.new.machine) (TakesSheetIn g.M.Disk.Store (g.M.Files.file_bytes c.args.machine.now) (sha256 (trim_ows key))
+          (IsDayBy (moment_of moment (g.M.Machine.clock c.args.machine.now)) rule) (g.M.Files.sheet_bytes c.args.machine.now sheet) (g.W.Write.contents c.args.output.now) (g.W.Write.contents c.perform_told.new.output) done))
           (c.status.ensures.in_part (one_is_some one)) taken);
       import_leaves =
           import_leaves g.M.Disk.Store (g.M.Machine.clock c.args.machine.now) (g.M.Machine.left c.args.machine.now) (g.M.Machine.stands c.args.machine.now)
-          (g.M.Machine.left c.perform.new.machine) c.in-Ok.ask store key sheet moment rule read c.perform.ensures.leaves;
+          (g.M.Machine.left c.perform_told.new.machine) c.in-Ok.told.ask store key sheet moment rule read does.performs.leaves;
     }
 
-pub returns-in-Err-perform-clause-import : goal.returns-in-Err-perform-clause-import
-returns-in-Err-perform-clause-import g c = λ store key sheet moment rule asks.
+pub returns-in-Err-perform_told-clause-import : goal.returns-in-Err-perform_told-clause-import
+returns-in-Err-perform_told-clause-import g c = λ store key sheet moment rule asks.
+    let does = c.in-Err-perform_told.ensures.plain (import_plain _ c.in-Ok.told.beside c.in-Ok.ensures.beside store key sheet moment rule asks) in
     let read = c.in-Ok.ensures.read.import store key sheet moment rule asks in
-    let refused = c.in-Err-perform.ensures.not_imported (import_tells _ c.in-Ok.ask c.in-Ok.ensures.read (store, key, sheet, moment, rule, asks)) in
-    let of_sheet = sheet_of_words (g.M.Files.sheet_bytes c.args.machine.now) c.in-Ok.ask c.in-Err-perform.refused store key sheet moment rule read c.in-Err-perform.ensures.bad_sheet in
+    let refused = does.not_imported (import_tells _ c.in-Ok.told.ask c.in-Ok.ensures.read (store, key, sheet, moment, rule, asks)) in
+    let of_sheet = sheet_of_words (g.M.Files.sheet_bytes c.args.machine.now) c.in-Ok.told.ask c.in-Err-perform_told.refused store key sheet moment rule read does.performs.bad_sheet in
     record {
-      imported = λ zero. absurd (not_done c.in-Err-perform.refused (sym c.tell_refusal.ensures.status ∙ zero));
+      imported = λ zero. absurd (not_done c.in-Err-perform_told.refused (sym c.tell_and_keep.ensures.status ∙ zero));
       import_due = λ some.
-          inr (tells _ c.in-Err-perform.refused _ _ _ (
+          inr (tells _ c.in-Err-perform_told.refused _ _ _ (
             refused,
-            import_names g.M.Disk.Store (g.M.Machine.clock c.args.machine.now) (g.M.Machine.left c.args.machine.now) (g.M.Machine.stands c.args.machine.now) (g.M.Machine.left c.perform.new.machine)
-                c.in-Ok.ask store key sheet moment rule (g.W.Write.contents c.args.output.now) (g.W.Write.contents c.perform.new.output) c.in-Err-perform.refused read c.in-Err-perform.ensures.leaves_refused,
-            import_clock g.M.Disk.Store (g.M.Machine.stands c.args.machine.now) (g.M.Machine.left c.perform.new.machine) c.in-Err-perform.refused store moment rule c.in-Ok.ask key sheet
-                read c.in-Err-perform.ensures.clock,
+            import_names g.M.Disk.Store (g.M.Machine.clock c.args.machine.now) (g.M.Machine.left c.args.machine.now) (g.M.Machine.stands c.args.machine.now) (g.M.Machine.left c.perform_told.new.machine)
+                c.in-Ok.told.ask store key sheet moment rule (g.W.Write.contents c.args.output.now) (g.W.Write.contents c.perform_told.new.output) c.in-Err-perform_told.refused read does.performs.leaves_refused,
+            import_clock g.M.Disk.Store (g.M.Machine.stands c.args.machine.now) (g.M.Machine.left c.perform_told.new.machine) c.in-Err-perform_told.refused store moment rule c.in-Ok.told.ask key sheet
+                read does.performs.clock_due,
             of_sheet,
           )
-          c.tell_refusal.ensures.status c.tell_refusal.ensures.written);
-      rows = λ zero. absurd (not_done c.in-Err-perform.refused (sym c.tell_refusal.ensures.status ∙ zero));
+          c.tell_and_keep.ensures.status c.tell_and_keep.ensures.written);
+      rows = λ zero. absurd (not_done c.in-Err-perform_told.refused (sym c.tell_and_keep.ensures.status ∙ zero));
       rows_in_part = λ one.
-          let bad = import_at_1 _ _ c.in-Err-perform.refused refused (sym c.tell_refusal.ensures.status ∙ one) in
+          let bad = import_at_1 _ _ c.in-Err-perform_told.refused refused (sym c.tell_and_keep.ensures.status ∙ one) in
           inr (
-            tells (λ refusal. refusal ≡ BadSheet) c.in-Err-perform.refused _ _ _ bad c.tell_refusal.ensures.status c.tell_refusal.ensures.written,
+            tells (λ refusal. refusal ≡ BadSheet) c.in-Err-perform_told.refused _ _ _ bad c.tell_and_keep.ensures.status c.tell_and_keep.ensures.written,
             subst (λ refusal. IfSome (g.M.Files.sheet_bytes c.args.machine.now sheet) (λ bytes. IsBadSheetDue bytes refusal)) bad of_sheet,
           );
       import_leaves =
           import_leaves g.M.Disk.Store (g.M.Machine.clock c.args.machine.now) (g.M.Machine.left c.args.machine.now) (g.M.Machine.stands c.args.machine.now)
-          (g.M.Machine.left c.perform.new.machine) c.in-Ok.ask store key sheet moment rule read c.perform.ensures.leaves;
+          (g.M.Machine.left c.perform_told.new.machine) c.in-Ok.told.ask store key sheet moment rule read does.performs.leaves;
     }
 
 pub returns-in-Err-clause-import : goal.returns-in-Err-clause-import
@@ -603,17 +673,18 @@ returns-in-Err-clause-import g c = λ store key sheet moment rule asks.
 
 -- ---- a check
 
-pub returns-in-Ok-perform-clause-check : goal.returns-in-Ok-perform-clause-check
-returns-in-Ok-perform-clause-check g c = λ store key acc moment rule asks.
+pub returns-in-Ok-perform_told-clause-check : goal.returns-in-Ok-perform_told-clause-check
+returns-in-Ok-perform_told-clause-check g c = λ store key acc moment rule asks.
+    let does = c.in-Ok-perform_told.ensures.plain (check_plain _ c.in-Ok.told.beside c.in-Ok.ensures.beside store key acc moment rule asks) in
     let read = c.in-Ok.ensures.read.check store key acc moment rule asks in
-    let line = c.in-Ok-perform.ensures.checked acc (check_asks _ acc c.in-Ok.ask c.in-Ok.ensures.read (store, key, moment, rule, asks)) in
-    let found = once_finds g.M.Disk.Store (g.M.Machine.clock c.args.machine.now) (g.M.Machine.stands c.args.machine.now) (g.M.Machine.left c.perform.new.machine)
-    (g.W.Write.contents c.args.output.now) (g.W.Write.contents c.perform.new.output) (Ok c.in-Ok-perform.done)
-    store (Some key) acc moment rule c.in-Ok.ask read c.in-Ok-perform.ensures.answers in
+    let line = does.checked acc (check_asks _ acc c.in-Ok.told.ask c.in-Ok.ensures.read (store, key, moment, rule, asks)) in
+    let found = once_finds g.M.Disk.Store (g.M.Machine.clock c.args.machine.now) (g.M.Machine.stands c.args.machine.now) (g.M.Machine.left c.perform_told.new.machine)
+    (g.W.Write.contents c.args.output.now) (g.W.Write.contents c.perform_told.new.output) (Ok c.in-Ok-perform_told.done)
+    store (Some key) acc moment rule c.in-Ok.told.ask read does.performs.answers in
     record {
       sound = λ zero. subst (TellsCheck acc _ _) (c.status.ensures.whole zero) line;
       found_sound = λ zero.
-          subst (λ done. EndsWith (g.M.Machine.stands c.args.machine.now store) (g.M.Machine.left c.perform.new.machine)
+          subst (λ done. EndsWith (g.M.Machine.stands c.args.machine.now store) (g.M.Machine.left c.perform_told.new.machine)
           (FindsStore g.M.Disk.Store (IsDayBy (moment_of moment (g.M.Machine.clock c.args.machine.now)) rule) (Some (sha256 (trim_ows key))) acc (found_by done)))
           (c.status.ensures.whole zero) found;
       check_due = λ some.
@@ -621,38 +692,39 @@ returns-in-Ok-perform-clause-check g c = λ store key acc moment rule asks.
             in_part_is_one _ c.status.ensures.most some,
             Keeps-refl _,
             subst (TellsCheck acc _ _) (c.status.ensures.in_part some) line,
-            subst (λ done. EndsWith (g.M.Machine.stands c.args.machine.now store) (g.M.Machine.left c.perform.new.machine)
+            subst (λ done. EndsWith (g.M.Machine.stands c.args.machine.now store) (g.M.Machine.left c.perform_told.new.machine)
                 (FindsStore g.M.Disk.Store (IsDayBy (moment_of moment (g.M.Machine.clock c.args.machine.now)) rule) (Some (sha256 (trim_ows key))) acc (found_by done)))
                 (c.status.ensures.in_part some) found,
           );
       check_leaves =
           once_leaves g.M.Disk.Store (g.M.Machine.clock c.args.machine.now) (g.M.Machine.left c.args.machine.now) (g.M.Machine.stands c.args.machine.now)
-          (g.M.Machine.left c.perform.new.machine) c.in-Ok.ask store (Some key) (Check acc) moment rule read c.perform.ensures.leaves;
+          (g.M.Machine.left c.perform_told.new.machine) c.in-Ok.told.ask store (Some key) (Check acc) moment rule read does.performs.leaves;
     }
 
-pub returns-in-Err-perform-clause-check : goal.returns-in-Err-perform-clause-check
-returns-in-Err-perform-clause-check g c = λ store key acc moment rule asks.
+pub returns-in-Err-perform_told-clause-check : goal.returns-in-Err-perform_told-clause-check
+returns-in-Err-perform_told-clause-check g c = λ store key acc moment rule asks.
+    let does = c.in-Err-perform_told.ensures.plain (check_plain _ c.in-Ok.told.beside c.in-Ok.ensures.beside store key acc moment rule asks) in
     let read = c.in-Ok.ensures.read.check store key acc moment rule asks in
-    let asked = check_of_desk acc c.in-Ok.ask (check_asks _ acc c.in-Ok.ask c.in-Ok.ensures.read (store, key, moment, rule, asks)) in
+    let asked = check_of_desk acc c.in-Ok.told.ask (check_asks _ acc c.in-Ok.told.ask c.in-Ok.ensures.read (store, key, moment, rule, asks)) in
     record {
-      sound = λ zero. absurd (not_done c.in-Err-perform.refused (sym c.tell_refusal.ensures.status ∙ zero));
-      found_sound = λ zero. absurd (not_done c.in-Err-perform.refused (sym c.tell_refusal.ensures.status ∙ zero));
+      sound = λ zero. absurd (not_done c.in-Err-perform_told.refused (sym c.tell_and_keep.ensures.status ∙ zero));
+      found_sound = λ zero. absurd (not_done c.in-Err-perform_told.refused (sym c.tell_and_keep.ensures.status ∙ zero));
       check_due = λ some.
-          inr (tells _ c.in-Err-perform.refused _ _ _ (
-            c.in-Err-perform.ensures.not_answered asked,
-            once_names g.M.Disk.Store (g.M.Machine.clock c.args.machine.now) (g.M.Machine.left c.args.machine.now) (g.M.Machine.stands c.args.machine.now) (g.M.Machine.left c.perform.new.machine)
-                c.in-Ok.ask store (Some key) (Check acc) moment rule (g.W.Write.contents c.args.output.now) (g.W.Write.contents c.perform.new.output) c.in-Err-perform.refused read
-                c.in-Err-perform.ensures.leaves_refused,
-            once_due g.M.Disk.Store (g.M.Machine.clock c.args.machine.now) (g.M.Machine.stands c.args.machine.now) (g.M.Machine.left c.perform.new.machine)
-                (g.W.Write.contents c.args.output.now) (g.W.Write.contents c.perform.new.output) (Err c.in-Err-perform.refused)
-                store (Some key) (Check acc) moment rule c.in-Ok.ask read c.in-Err-perform.ensures.answers (inl refl),
-            once_clock g.M.Disk.Store (g.M.Machine.stands c.args.machine.now) (g.M.Machine.left c.perform.new.machine) c.in-Err-perform.refused store moment rule c.in-Ok.ask (Some key) (Check acc)
-                read c.in-Err-perform.ensures.clock,
+          inr (tells _ c.in-Err-perform_told.refused _ _ _ (
+            does.not_answered asked,
+            once_names g.M.Disk.Store (g.M.Machine.clock c.args.machine.now) (g.M.Machine.left c.args.machine.now) (g.M.Machine.stands c.args.machine.now) (g.M.Machine.left c.perform_told.new.machine)
+                c.in-Ok.told.ask store (Some key) (Check acc) moment rule (g.W.Write.contents c.args.output.now) (g.W.Write.contents c.perform_told.new.output) c.in-Err-perform_told.refused read
+                does.performs.leaves_refused,
+            once_due g.M.Disk.Store (g.M.Machine.clock c.args.machine.now) (g.M.Machine.stands c.args.machine.now) (g.M.Machine.left c.perform_told.new.machine)
+                (g.W.Write.contents c.args.output.now) (g.W.Write.contents c.perform_told.new.output) (Err c.in-Err-perform_told.refused)
+                store (Some key) (Check acc) moment rule c.in-Ok.told.ask read does.performs.answers (inl refl),
+            once_clock g.M.Disk.Store (g.M.Machine.stands c.args.machine.now) (g.M.Machine.left c.perform_told.new.machine) c.in-Err-perform_told.refused store moment rule c.in-Ok.told.ask (Some key) (Check acc)
+                read does.performs.clock_due,
           )
-          c.tell_refusal.ensures.status c.tell_refusal.ensures.written);
+          c.tell_and_keep.ensures.status c.tell_and_keep.ensures.written);
       check_leaves =
           once_leaves g.M.Disk.Store (g.M.Machine.clock c.args.machine.now) (g.M.Machine.left c.args.machine.now) (g.M.Machine.stands c.args.machine.now)
-          (g.M.Machine.left c.perform.new.machine) c.in-Ok.ask store (Some key) (Check acc) moment rule read c.perform.ensures.leaves;
+          (g.M.Machine.left c.perform_told.new.machine) c.in-Ok.told.ask store (Some key) (Check acc) moment rule read does.performs.leaves;
     }
 
 pub returns-in-Err-clause-check : goal.returns-in-Err-clause-check
@@ -668,44 +740,46 @@ returns-in-Err-clause-check g c = λ store key acc moment rule asks.
 
 -- ---- the catalogue
 
-pub returns-in-Ok-perform-clause-export : goal.returns-in-Ok-perform-clause-export
-returns-in-Ok-perform-clause-export g c = λ store key moment rule asks.
+pub returns-in-Ok-perform_told-clause-export : goal.returns-in-Ok-perform_told-clause-export
+returns-in-Ok-perform_told-clause-export g c = λ store key moment rule asks.
+    let does = c.in-Ok-perform_told.ensures.plain (export_plain _ c.in-Ok.told.beside c.in-Ok.ensures.beside store key moment rule asks) in
     let read = c.in-Ok.ensures.read.export store key moment rule asks in
     record {
       exported = λ zero.
-          once_shows g.M.Disk.Store (g.M.Machine.clock c.args.machine.now) (g.M.Machine.stands c.args.machine.now) (g.M.Machine.left c.perform.new.machine)
-          (g.W.Write.contents c.args.output.now) (g.W.Write.contents c.perform.new.output) (Ok c.in-Ok-perform.done)
-          store key Catalogue moment rule c.in-Ok.ask read c.in-Ok-perform.ensures.answers request.Catalogue refl;
+          once_shows g.M.Disk.Store (g.M.Machine.clock c.args.machine.now) (g.M.Machine.stands c.args.machine.now) (g.M.Machine.left c.perform_told.new.machine)
+          (g.W.Write.contents c.args.output.now) (g.W.Write.contents c.perform_told.new.output) (Ok c.in-Ok-perform_told.done)
+          store key Catalogue moment rule c.in-Ok.told.ask read does.performs.answers request.Catalogue refl;
       export_due = λ some.
-          absurd (export_is_whole _ c.in-Ok.ask c.in-Ok.ensures.read (store, key, moment, rule, asks) (c.in-Ok-perform.ensures.in_part (c.status.ensures.in_part some)));
+          absurd (export_is_whole _ c.in-Ok.told.ask c.in-Ok.ensures.read (store, key, moment, rule, asks) (c.in-Ok-perform_told.ensures.in_part (c.status.ensures.in_part some)));
       export_leaves =
           once_leaves g.M.Disk.Store (g.M.Machine.clock c.args.machine.now) (g.M.Machine.left c.args.machine.now) (g.M.Machine.stands c.args.machine.now)
-          (g.M.Machine.left c.perform.new.machine) c.in-Ok.ask store key Catalogue moment rule read c.perform.ensures.leaves;
+          (g.M.Machine.left c.perform_told.new.machine) c.in-Ok.told.ask store key Catalogue moment rule read does.performs.leaves;
     }
 
-pub returns-in-Err-perform-clause-export : goal.returns-in-Err-perform-clause-export
-returns-in-Err-perform-clause-export g c = λ store key moment rule asks.
+pub returns-in-Err-perform_told-clause-export : goal.returns-in-Err-perform_told-clause-export
+returns-in-Err-perform_told-clause-export g c = λ store key moment rule asks.
+    let does = c.in-Err-perform_told.ensures.plain (export_plain _ c.in-Ok.told.beside c.in-Ok.ensures.beside store key moment rule asks) in
     let read = c.in-Ok.ensures.read.export store key moment rule asks in
     record {
-      exported = λ zero. absurd (not_done c.in-Err-perform.refused (sym c.tell_refusal.ensures.status ∙ zero));
+      exported = λ zero. absurd (not_done c.in-Err-perform_told.refused (sym c.tell_and_keep.ensures.status ∙ zero));
       export_due = λ some.
-          tells _ c.in-Err-perform.refused _ _ _ (
-            once_not_shown g.M.Disk.Store (g.M.Machine.clock c.args.machine.now) (g.M.Machine.stands c.args.machine.now) (g.M.Machine.left c.perform.new.machine)
-                (g.W.Write.contents c.args.output.now) (g.W.Write.contents c.perform.new.output) (Err c.in-Err-perform.refused)
-                store key Catalogue moment rule c.in-Ok.ask read c.in-Err-perform.ensures.answers request.Catalogue refl,
-            once_names g.M.Disk.Store (g.M.Machine.clock c.args.machine.now) (g.M.Machine.left c.args.machine.now) (g.M.Machine.stands c.args.machine.now) (g.M.Machine.left c.perform.new.machine)
-                c.in-Ok.ask store key Catalogue moment rule (g.W.Write.contents c.args.output.now) (g.W.Write.contents c.perform.new.output) c.in-Err-perform.refused read
-                c.in-Err-perform.ensures.leaves_refused,
-            once_due g.M.Disk.Store (g.M.Machine.clock c.args.machine.now) (g.M.Machine.stands c.args.machine.now) (g.M.Machine.left c.perform.new.machine)
-                (g.W.Write.contents c.args.output.now) (g.W.Write.contents c.perform.new.output) (Err c.in-Err-perform.refused)
-                store key Catalogue moment rule c.in-Ok.ask read c.in-Err-perform.ensures.answers (inr refl),
-            once_clock g.M.Disk.Store (g.M.Machine.stands c.args.machine.now) (g.M.Machine.left c.perform.new.machine) c.in-Err-perform.refused store moment rule c.in-Ok.ask key Catalogue read
-                c.in-Err-perform.ensures.clock,
+          tells _ c.in-Err-perform_told.refused _ _ _ (
+            once_not_shown g.M.Disk.Store (g.M.Machine.clock c.args.machine.now) (g.M.Machine.stands c.args.machine.now) (g.M.Machine.left c.perform_told.new.machine)
+                (g.W.Write.contents c.args.output.now) (g.W.Write.contents c.perform_told.new.output) (Err c.in-Err-perform_told.refused)
+                store key Catalogue moment rule c.in-Ok.told.ask read does.performs.answers request.Catalogue refl,
+            once_names g.M.Disk.Store (g.M.Machine.clock c.args.machine.now) (g.M.Machine.left c.args.machine.now) (g.M.Machine.stands c.args.machine.now) (g.M.Machine.left c.perform_told.new.machine)
+                c.in-Ok.told.ask store key Catalogue moment rule (g.W.Write.contents c.args.output.now) (g.W.Write.contents c.perform_told.new.output) c.in-Err-perform_told.refused read
+                does.performs.leaves_refused,
+            once_due g.M.Disk.Store (g.M.Machine.clock c.args.machine.now) (g.M.Machine.stands c.args.machine.now) (g.M.Machine.left c.perform_told.new.machine)
+                (g.W.Write.contents c.args.output.now) (g.W.Write.contents c.perform_told.new.output) (Err c.in-Err-perform_told.refused)
+                store key Catalogue moment rule c.in-Ok.told.ask read does.performs.answers (inr refl),
+            once_clock g.M.Disk.Store (g.M.Machine.stands c.args.machine.now) (g.M.Machine.left c.perform_told.new.machine) c.in-Err-perform_told.refused store moment rule c.in-Ok.told.ask key Catalogue read
+                does.performs.clock_due,
           )
-          c.tell_refusal.ensures.status c.tell_refusal.ensures.written;
+          c.tell_and_keep.ensures.status c.tell_and_keep.ensures.written;
       export_leaves =
           once_leaves g.M.Disk.Store (g.M.Machine.clock c.args.machine.now) (g.M.Machine.left c.args.machine.now) (g.M.Machine.stands c.args.machine.now)
-          (g.M.Machine.left c.perform.new.machine) c.in-Ok.ask store key Catalogue moment rule read c.perform.ensures.leaves;
+          (g.M.Machine.left c.perform_told.new.machine) c.in-Ok.told.ask store key Catalogue moment rule read does.performs.leaves;
     }
 
 pub returns-in-Err-clause-export : goal.returns-in-Err-clause-export
@@ -721,44 +795,46 @@ returns-in-Err-clause-export g c = λ store key moment rule asks.
 
 -- ---- what is shown
 
-pub returns-in-Ok-perform-clause-show : goal.returns-in-Ok-perform-clause-show
-returns-in-Ok-perform-clause-show g c = λ store key what moment rule asks.
+pub returns-in-Ok-perform_told-clause-show : goal.returns-in-Ok-perform_told-clause-show
+returns-in-Ok-perform_told-clause-show g c = λ store key what moment rule asks.
+    let does = c.in-Ok-perform_told.ensures.plain (show_plain _ c.in-Ok.told.beside c.in-Ok.ensures.beside store key what moment rule asks) in
     let read = c.in-Ok.ensures.read.show store key what moment rule asks in
     record {
       shown = λ zero.
-          once_shows g.M.Disk.Store (g.M.Machine.clock c.args.machine.now) (g.M.Machine.stands c.args.machine.now) (g.M.Machine.left c.perform.new.machine)
-          (g.W.Write.contents c.args.output.now) (g.W.Write.contents c.perform.new.output) (Ok c.in-Ok-perform.done)
-          store (Some key) (Show what) moment rule c.in-Ok.ask read c.in-Ok-perform.ensures.answers (what_of what) refl;
+          once_shows g.M.Disk.Store (g.M.Machine.clock c.args.machine.now) (g.M.Machine.stands c.args.machine.now) (g.M.Machine.left c.perform_told.new.machine)
+          (g.W.Write.contents c.args.output.now) (g.W.Write.contents c.perform_told.new.output) (Ok c.in-Ok-perform_told.done)
+          store (Some key) (Show what) moment rule c.in-Ok.told.ask read does.performs.answers (what_of what) refl;
       show_due = λ some.
-          absurd (show_is_whole _ c.in-Ok.ask c.in-Ok.ensures.read (store, key, what, moment, rule, asks) (c.in-Ok-perform.ensures.in_part (c.status.ensures.in_part some)));
+          absurd (show_is_whole _ c.in-Ok.told.ask c.in-Ok.ensures.read (store, key, what, moment, rule, asks) (c.in-Ok-perform_told.ensures.in_part (c.status.ensures.in_part some)));
       show_leaves =
           once_leaves g.M.Disk.Store (g.M.Machine.clock c.args.machine.now) (g.M.Machine.left c.args.machine.now) (g.M.Machine.stands c.args.machine.now)
-          (g.M.Machine.left c.perform.new.machine) c.in-Ok.ask store (Some key) (Show what) moment rule read c.perform.ensures.leaves;
+          (g.M.Machine.left c.perform_told.new.machine) c.in-Ok.told.ask store (Some key) (Show what) moment rule read does.performs.leaves;
     }
 
-pub returns-in-Err-perform-clause-show : goal.returns-in-Err-perform-clause-show
-returns-in-Err-perform-clause-show g c = λ store key what moment rule asks.
+pub returns-in-Err-perform_told-clause-show : goal.returns-in-Err-perform_told-clause-show
+returns-in-Err-perform_told-clause-show g c = λ store key what moment rule asks.
+    let does = c.in-Err-perform_told.ensures.plain (show_plain _ c.in-Ok.told.beside c.in-Ok.ensures.beside store key what moment rule asks) in
     let read = c.in-Ok.ensures.read.show store key what moment rule asks in
     record {
-      shown = λ zero. absurd (not_done c.in-Err-perform.refused (sym c.tell_refusal.ensures.status ∙ zero));
+      shown = λ zero. absurd (not_done c.in-Err-perform_told.refused (sym c.tell_and_keep.ensures.status ∙ zero));
       show_due = λ some.
-          tells _ c.in-Err-perform.refused _ _ _ (
-            once_not_shown g.M.Disk.Store (g.M.Machine.clock c.args.machine.now) (g.M.Machine.stands c.args.machine.now) (g.M.Machine.left c.perform.new.machine)
-                (g.W.Write.contents c.args.output.now) (g.W.Write.contents c.perform.new.output) (Err c.in-Err-perform.refused)
-                store (Some key) (Show what) moment rule c.in-Ok.ask read c.in-Err-perform.ensures.answers (what_of what) refl,
-            once_names g.M.Disk.Store (g.M.Machine.clock c.args.machine.now) (g.M.Machine.left c.args.machine.now) (g.M.Machine.stands c.args.machine.now) (g.M.Machine.left c.perform.new.machine)
-                c.in-Ok.ask store (Some key) (Show what) moment rule (g.W.Write.contents c.args.output.now) (g.W.Write.contents c.perform.new.output) c.in-Err-perform.refused read
-                c.in-Err-perform.ensures.leaves_refused,
-            once_due g.M.Disk.Store (g.M.Machine.clock c.args.machine.now) (g.M.Machine.stands c.args.machine.now) (g.M.Machine.left c.perform.new.machine)
-                (g.W.Write.contents c.args.output.now) (g.W.Write.contents c.perform.new.output) (Err c.in-Err-perform.refused)
-                store (Some key) (Show what) moment rule c.in-Ok.ask read c.in-Err-perform.ensures.answers (inl refl),
-            once_clock g.M.Disk.Store (g.M.Machine.stands c.args.machine.now) (g.M.Machine.left c.perform.new.machine) c.in-Err-perform.refused store moment rule c.in-Ok.ask (Some key) (Show what)
-                read c.in-Err-perform.ensures.clock,
+          tells _ c.in-Err-perform_told.refused _ _ _ (
+            once_not_shown g.M.Disk.Store (g.M.Machine.clock c.args.machine.now) (g.M.Machine.stands c.args.machine.now) (g.M.Machine.left c.perform_told.new.machine)
+                (g.W.Write.contents c.args.output.now) (g.W.Write.contents c.perform_told.new.output) (Err c.in-Err-perform_told.refused)
+                store (Some key) (Show what) moment rule c.in-Ok.told.ask read does.performs.answers (what_of what) refl,
+            once_names g.M.Disk.Store (g.M.Machine.clock c.args.machine.now) (g.M.Machine.left c.args.machine.now) (g.M.Machine.stands c.args.machine.now) (g.M.Machine.left c.perform_told.new.machine)
+                c.in-Ok.told.ask store (Some key) (Show what) moment rule (g.W.Write.contents c.args.output.now) (g.W.Write.contents c.perform_told.new.output) c.in-Err-perform_told.refused read
+                does.performs.leaves_refused,
+            once_due g.M.Disk.Store (g.M.Machine.clock c.args.machine.now) (g.M.Machine.stands c.args.machine.now) (g.M.Machine.left c.perform_told.new.machine)
+                (g.W.Write.contents c.args.output.now) (g.W.Write.contents c.perform_told.new.output) (Err c.in-Err-perform_told.refused)
+                store (Some key) (Show what) moment rule c.in-Ok.told.ask read does.performs.answers (inl refl),
+            once_clock g.M.Disk.Store (g.M.Machine.stands c.args.machine.now) (g.M.Machine.left c.perform_told.new.machine) c.in-Err-perform_told.refused store moment rule c.in-Ok.told.ask (Some key) (Show what)
+                read does.performs.clock_due,
           )
-          c.tell_refusal.ensures.status c.tell_refusal.ensures.written;
+          c.tell_and_keep.ensures.status c.tell_and_keep.ensures.written;
       show_leaves =
           once_leaves g.M.Disk.Store (g.M.Machine.clock c.args.machine.now) (g.M.Machine.left c.args.machine.now) (g.M.Machine.stands c.args.machine.now)
-          (g.M.Machine.left c.perform.new.machine) c.in-Ok.ask store (Some key) (Show what) moment rule read c.perform.ensures.leaves;
+          (g.M.Machine.left c.perform_told.new.machine) c.in-Ok.told.ask store (Some key) (Show what) moment rule read does.performs.leaves;
     }
 
 pub returns-in-Err-clause-show : goal.returns-in-Err-clause-show
@@ -774,20 +850,24 @@ returns-in-Err-clause-show g c = λ store key what moment rule asks.
 
 -- ---- a key of the staff
 
-pub returns-in-Ok-perform-clause-staff_key : goal.returns-in-Ok-perform-clause-staff_key
-returns-in-Ok-perform-clause-staff_key g c = λ store key asks. record {
-  put = λ zero. c.in-Ok-perform.ensures.put store key (c.in-Ok.ensures.read.staff_key store key asks);
-  put_due = λ some.
-      absurd (not_in_rows _ c.in-Ok.ask c.in-Ok.ensures.read (c.in-Ok-perform.ensures.in_part (c.status.ensures.in_part some)) (inr (inr (inr (inr (inl (store, key, asks)))))));
-}
+pub returns-in-Ok-perform_told-clause-staff_key : goal.returns-in-Ok-perform_told-clause-staff_key
+returns-in-Ok-perform_told-clause-staff_key g c = λ store key asks.
+    let does = c.in-Ok-perform_told.ensures.plain (staff_key_plain _ c.in-Ok.told.beside c.in-Ok.ensures.beside store key asks) in
+    record {
+      put = λ zero. does.put store key (c.in-Ok.ensures.read.staff_key store key asks);
+      put_due = λ some.
+          absurd (not_in_rows _ c.in-Ok.told.ask c.in-Ok.ensures.read (c.in-Ok-perform_told.ensures.in_part (c.status.ensures.in_part some)) (inr (inr (inr (inr (inl (store, key, asks)))))));
+    }
 
-pub returns-in-Err-perform-clause-staff_key : goal.returns-in-Err-perform-clause-staff_key
-returns-in-Err-perform-clause-staff_key g c = λ store key asks. record {
-  put = λ zero. absurd (not_done c.in-Err-perform.refused (sym c.tell_refusal.ensures.status ∙ zero));
-  put_due = λ some.
-      tells _ c.in-Err-perform.refused _ _ _ (c.in-Err-perform.ensures.not_put store key (c.in-Ok.ensures.read.staff_key store key asks))
-      c.tell_refusal.ensures.status c.tell_refusal.ensures.written;
-}
+pub returns-in-Err-perform_told-clause-staff_key : goal.returns-in-Err-perform_told-clause-staff_key
+returns-in-Err-perform_told-clause-staff_key g c = λ store key asks.
+    let does = c.in-Err-perform_told.ensures.plain (staff_key_plain _ c.in-Ok.told.beside c.in-Ok.ensures.beside store key asks) in
+    record {
+      put = λ zero. absurd (not_done c.in-Err-perform_told.refused (sym c.tell_and_keep.ensures.status ∙ zero));
+      put_due = λ some.
+          tells _ c.in-Err-perform_told.refused _ _ _ (does.not_put store key (c.in-Ok.ensures.read.staff_key store key asks))
+          c.tell_and_keep.ensures.status c.tell_and_keep.ensures.written;
+    }
 
 pub returns-in-Err-clause-staff_key : goal.returns-in-Err-clause-staff_key
 returns-in-Err-clause-staff_key g c = λ store key asks.
@@ -802,50 +882,54 @@ returns-in-Err-clause-staff_key g c = λ store key asks.
 
 -- ---- sums
 
-pub returns-in-Ok-perform-clause-sums : goal.returns-in-Ok-perform-clause-sums
-returns-in-Ok-perform-clause-sums g c = λ store key summed asks told.
-    sums_by (g.M.Machine.sums c.args.machine.now) (g.M.Machine.sums c.perform.new.machine) c.in-Ok.ask store key summed (c.in-Ok.ensures.read.init store key asks)
-    (c.in-Ok.ensures.sums summed told) c.perform.ensures.sums
+pub returns-in-Ok-perform_told-clause-sums : goal.returns-in-Ok-perform_told-clause-sums
+returns-in-Ok-perform_told-clause-sums g c = λ store key summed asks told.
+    let does = c.in-Ok-perform_told.ensures.plain (init_plain _ c.in-Ok.told.beside c.in-Ok.ensures.beside store key asks) in
+    sums_by (g.M.Machine.sums c.args.machine.now) (g.M.Machine.sums c.perform_told.new.machine) c.in-Ok.told.ask store key summed (c.in-Ok.ensures.read.init store key asks)
+    (c.in-Ok.ensures.sums summed told) does.performs.sums
 
-pub returns-in-Err-perform-clause-sums : goal.returns-in-Err-perform-clause-sums
-returns-in-Err-perform-clause-sums g c = λ store key summed asks told.
-    sums_by (g.M.Machine.sums c.args.machine.now) (g.M.Machine.sums c.perform.new.machine) c.in-Ok.ask store key summed (c.in-Ok.ensures.read.init store key asks)
-    (c.in-Ok.ensures.sums summed told) c.perform.ensures.sums
+pub returns-in-Err-perform_told-clause-sums : goal.returns-in-Err-perform_told-clause-sums
+returns-in-Err-perform_told-clause-sums g c = λ store key summed asks told.
+    let does = c.in-Err-perform_told.ensures.plain (init_plain _ c.in-Ok.told.beside c.in-Ok.ensures.beside store key asks) in
+    sums_by (g.M.Machine.sums c.args.machine.now) (g.M.Machine.sums c.perform_told.new.machine) c.in-Ok.told.ask store key summed (c.in-Ok.ensures.read.init store key asks)
+    (c.in-Ok.ensures.sums summed told) does.performs.sums
 
 pub returns-in-Err-clause-sums : goal.returns-in-Err-clause-sums
 returns-in-Err-clause-sums g c = λ store key summed asks told. sums_none (g.M.Machine.sums c.args.machine.now) summed
 
 -- ---- a copy
 
-pub returns-in-Ok-perform-clause-copy : goal.returns-in-Ok-perform-clause-copy
-returns-in-Ok-perform-clause-copy g c = λ store target summed asks.
+pub returns-in-Ok-perform_told-clause-copy : goal.returns-in-Ok-perform_told-clause-copy
+returns-in-Ok-perform_told-clause-copy g c = λ store target summed asks.
+    let does = c.in-Ok-perform_told.ensures.plain (copy_plain _ c.in-Ok.told.beside c.in-Ok.ensures.beside store target summed asks) in
     let read = c.in-Ok.ensures.read.copy store target summed asks in
-    let runs = copies_by g.M.Disk.Store (g.M.Machine.shows c.args.machine.now) (g.M.Machine.stands c.args.machine.now) (g.M.Machine.left c.perform.new.machine) (g.M.Machine.made c.args.machine.now)
-    (g.M.Machine.fresh c.args.machine.now) (g.M.Machine.made c.perform.new.machine) (g.M.Machine.new_stores c.args.machine.now) (g.M.Machine.new_stores c.perform.new.machine)
-    (g.W.Write.contents c.args.output.now) (g.W.Write.contents c.perform.new.output) store target summed c.in-Ok.ask (Ok c.in-Ok-perform.done) read c.in-Ok-perform.ensures.copies in
+    let runs = copies_by g.M.Disk.Store (g.M.Machine.shows c.args.machine.now) (g.M.Machine.stands c.args.machine.now) (g.M.Machine.left c.perform_told.new.machine) (g.M.Machine.made c.args.machine.now)
+    (g.M.Machine.fresh c.args.machine.now) (g.M.Machine.made c.perform_told.new.machine) (g.M.Machine.new_stores c.args.machine.now) (g.M.Machine.new_stores c.perform_told.new.machine)
+    (g.W.Write.contents c.args.output.now) (g.W.Write.contents c.perform_told.new.output) store target summed c.in-Ok.told.ask (Ok c.in-Ok-perform_told.done) read does.performs.copies in
     record {
       copied = λ zero. runs.0.done;
       copy_due = λ some.
-          absurd (not_in_rows _ c.in-Ok.ask c.in-Ok.ensures.read (c.in-Ok-perform.ensures.in_part (c.status.ensures.in_part some)) (inr (inr (inr (inr (inr (store, target, summed, asks)))))));
+          absurd (not_in_rows _ c.in-Ok.told.ask c.in-Ok.ensures.read (c.in-Ok-perform_told.ensures.in_part (c.status.ensures.in_part some)) (inr (inr (inr (inr (inr (store, target, summed, asks)))))));
       copy_leaves =
-          copy_leaves g.M.Disk.Store (g.M.Machine.clock c.args.machine.now) (g.M.Machine.left c.args.machine.now) (g.M.Machine.stands c.args.machine.now) (g.M.Machine.left c.perform.new.machine)
-          c.in-Ok.ask store target summed read c.perform.ensures.leaves;
+          copy_leaves g.M.Disk.Store (g.M.Machine.clock c.args.machine.now) (g.M.Machine.left c.args.machine.now) (g.M.Machine.stands c.args.machine.now) (g.M.Machine.left c.perform_told.new.machine)
+          c.in-Ok.told.ask store target summed read does.performs.leaves;
       copy_back = runs.0.back;
       copy_new = runs.1;
     }
 
-pub returns-in-Err-perform-clause-copy : goal.returns-in-Err-perform-clause-copy
-returns-in-Err-perform-clause-copy g c = λ store target summed asks.
+pub returns-in-Err-perform_told-clause-copy : goal.returns-in-Err-perform_told-clause-copy
+returns-in-Err-perform_told-clause-copy g c = λ store target summed asks.
+    let does = c.in-Err-perform_told.ensures.plain (copy_plain _ c.in-Ok.told.beside c.in-Ok.ensures.beside store target summed asks) in
     let read = c.in-Ok.ensures.read.copy store target summed asks in
-    let runs = copies_by g.M.Disk.Store (g.M.Machine.shows c.args.machine.now) (g.M.Machine.stands c.args.machine.now) (g.M.Machine.left c.perform.new.machine) (g.M.Machine.made c.args.machine.now)
-    (g.M.Machine.fresh c.args.machine.now) (g.M.Machine.made c.perform.new.machine) (g.M.Machine.new_stores c.args.machine.now) (g.M.Machine.new_stores c.perform.new.machine)
-    (g.W.Write.contents c.args.output.now) (g.W.Write.contents c.perform.new.output) store target summed c.in-Ok.ask (Err c.in-Err-perform.refused) read c.in-Err-perform.ensures.copies in
+    let runs = copies_by g.M.Disk.Store (g.M.Machine.shows c.args.machine.now) (g.M.Machine.stands c.args.machine.now) (g.M.Machine.left c.perform_told.new.machine) (g.M.Machine.made c.args.machine.now)
+    (g.M.Machine.fresh c.args.machine.now) (g.M.Machine.made c.perform_told.new.machine) (g.M.Machine.new_stores c.args.machine.now) (g.M.Machine.new_stores c.perform_told.new.machine)
+    (g.W.Write.contents c.args.output.now) (g.W.Write.contents c.perform_told.new.output) store target summed c.in-Ok.told.ask (Err c.in-Err-perform_told.refused) read does.performs.copies in
     record {
-      copied = λ zero. absurd (not_done c.in-Err-perform.refused (sym c.tell_refusal.ensures.status ∙ zero));
-      copy_due = λ some. tells _ c.in-Err-perform.refused _ _ _ runs.0.due c.tell_refusal.ensures.status c.tell_refusal.ensures.written;
+      copied = λ zero. absurd (not_done c.in-Err-perform_told.refused (sym c.tell_and_keep.ensures.status ∙ zero));
+      copy_due = λ some. tells _ c.in-Err-perform_told.refused _ _ _ runs.0.due c.tell_and_keep.ensures.status c.tell_and_keep.ensures.written;
       copy_leaves =
-          copy_leaves g.M.Disk.Store (g.M.Machine.clock c.args.machine.now) (g.M.Machine.left c.args.machine.now) (g.M.Machine.stands c.args.machine.now) (g.M.Machine.left c.perform.new.machine)
-          c.in-Ok.ask store target summed read c.perform.ensures.leaves;
+          copy_leaves g.M.Disk.Store (g.M.Machine.clock c.args.machine.now) (g.M.Machine.left c.args.machine.now) (g.M.Machine.stands c.args.machine.now) (g.M.Machine.left c.perform_told.new.machine)
+          c.in-Ok.told.ask store target summed read does.performs.leaves;
       copy_back = runs.0.back;
       copy_new = runs.1;
     }

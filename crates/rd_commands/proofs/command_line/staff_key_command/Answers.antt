@@ -1,0 +1,21 @@
+use Rattle.std.proofs.Common.{◌≡◌, ◌∙◌, ◌||◌, ap, ap₂, codes, false, rules}
+use Rattle.std.proofs.lemmas.Result.{IfOk-weaker}
+use Rattle.clap.specs.Words.{app_of, new_app, with_rule}
+use Rattle.clap.specs.declared.builder.command.Command.TheViews.{out-Command as fields_of}
+use Rattle.rd_commands.specs.CommandLine.{store_rule, with_caller}
+use Rattle.rd_commands.proofs.command_line.staff_key_command.Goals as goal
+
+pub returns-clause-shape : goal.returns-clause-shape
+returns-clause-shape c =
+    let bare : app_of c.after_help.result ≡ new_app (codes "staff-key") = search rules in
+    let store : app_of c.in_ok-begun.begun ≡ with_rule (new_app (codes "staff-key")) store_rule =
+    c.in_ok-begun.ensures.shape c.store_option.ensures.local ∙ ap₂ with_rule bare c.store_option.ensures.rule in
+    let caller : app_of c.in_ok-add_caller.field-0 ≡ with_caller (with_rule (new_app (codes "staff-key")) store_rule) = c.in_ok-add_caller.ensures.shape ∙ ap with_caller store in
+    IfOk-weaker c.arg-2.result _ _ (λ made adds. adds.shape c.explain_flag.ensures.local ∙ ap₂ with_rule caller c.explain_flag.ensures.rule) c.arg-2.ensures
+
+pub returns-clause-local : goal.returns-clause-local
+returns-clause-local c =
+    let bare : (fields_of c.after_help.result).has_globals ≡ false = search rules in
+    let store : (fields_of c.in_ok-begun.begun).has_globals ≡ false = c.in_ok-begun.ensures.globals ∙ ap₂ ◌||◌ bare c.store_option.ensures.local in
+    let caller : (fields_of c.in_ok-add_caller.field-0).has_globals ≡ false = c.in_ok-add_caller.ensures.local ∙ store in
+    IfOk-weaker c.arg-2.result _ _ (λ made adds. adds.globals ∙ ap₂ ◌||◌ caller c.explain_flag.ensures.local) c.arg-2.ensures

@@ -1,0 +1,16 @@
+use Rattle.clap.specs.Words.{found_of}
+use Rattle.std.proofs.Common.{◌∙◌, IfSome, codes, subst}
+use Rattle.clap.proofs.WalkLemmas.{one_text-rows}
+use Rattle.rd_commands.specs.Serving.{IsCountGiven}
+use Rattle.rd_commands.proofs.GetterLemmas.{number_is}
+use Rattle.rd_commands.proofs.Places.{count_given}
+use Rattle.rd_commands.proofs.serving.count_given.Goals as goal
+
+pub returns-clause-asked : goal.returns-clause-asked
+returns-clause-asked c = λ text number there parses.
+    number_is 32 text number c.get_one.result (c.get_one.ensures.value text (one_text-rows (found_of c.args.found.now) (codes "count") ∙ there)) parses
+
+pub returns-clause-told : goal.returns-clause-told
+returns-clause-told c =
+    subst (λ told. IfSome c.get_one.result (IsCountGiven told)) (one_text-rows (found_of c.args.found.now) (codes "count"))
+    (count_given _ c.get_one.result c.get_one.ensures.none c.get_one.ensures.value)

@@ -1,0 +1,138 @@
+-- What the program takes from what `clap` found for a command, in all forms: also where a key or a rule for clocks is in a
+-- file, and where a day stands in place of a moment.
+use Rattle.std.specs.Prelude.{◌≡◌, ◌⊎◌, ⊤, ℕ, ℤ, Bool, IsSome, List, [], None, Ok, Option, Some, codes, option_map}
+use Rattle.std.specs.Str.Parse.{ParsesUnsigned}
+use Rattle.std.specs.declared.num.ParseIntError.{ParseIntError}
+use Rattle.clap.specs.Words.{Row, Text, first_of, one_of}
+use Rattle.httparse.specs.Grammar.{trim_ows}
+use Rattle.rd_policy.specs.Rules.{IsScope}
+use Rattle.rd_policy.specs.Zones.{IsZoneOf}
+use Rattle.rd_commands.specs.Beside.{IsBeside, IsSeconds}
+use Rattle.rd_commands.specs.CommandLine.{IsTakenAs}
+use Rattle.rd_commands.specs.Serving.{IsCountTold, NamesPlace, place_of}
+use Rattle.rd_commands.specs.Shown.{NamesShown}
+use Rattle.rd_commands.specs.Zones.{IsFlagTold, rule_text}
+use Rattle.rd_commands.specs.declared.beside.Told.{Told}
+use Rattle.rd_commands.specs.declared.words.Ask.{Ask}
+use Rattle.rd_commands.specs.declared.words.Ask.TheVariants.{Copy, File, Files, Import, Init, OneQuestion, Serve, StaffKey}
+use Rattle.rd_commands.specs.declared.words.CopyAsk.{CopyAsk}
+use Rattle.rd_commands.specs.declared.words.ImportAsk.{ImportAsk}
+use Rattle.rd_commands.specs.declared.words.InitAsk.{InitAsk}
+use Rattle.rd_commands.specs.declared.words.OneQuestionAsk.{OneQuestionAsk}
+use Rattle.rd_commands.specs.declared.words.Question.{Question}
+use Rattle.rd_commands.specs.declared.words.Question.TheVariants as question
+use Rattle.rd_commands.specs.declared.words.ServeAsk.{ServeAsk}
+use Rattle.rd_commands.specs.declared.words.StaffKeyAsk.{StaffKeyAsk}
+use Rattle.rd_commands.specs.declared.words.WhenAsk.{WhenAsk}
+
+-- ---- parts
+
+-- the key is that on the command line, without the blanks and tabs at both ends; or nothing yet, if it is in a file
+abbrev pub IsKeyTold : List Row → List ℕ → Type 0
+IsKeyTold rows key = ((text : Text) × (first_of (codes "key") rows ≡ Some text) × (key ≡ trim_ows text))
+    ⊎ ((first_of (codes "key") rows ≡ None) × (IsSome (first_of (codes "key-file") rows) × (key ≡ [])))
+
+-- the seconds are those that the text of --at writes; there are none if it writes none, or is absent
+abbrev pub AreSecondsTold : List Row → Option ℤ → Type 0
+AreSecondsTold rows (Some seconds) = (text : Text) × (first_of (codes "at") rows ≡ Some text) × IsSeconds text seconds
+AreSecondsTold rows None = (text : Text) → first_of (codes "at") rows ≡ Some text → (seconds : ℤ) → ¬ IsSeconds text seconds
+
+-- The moment is that of --at, and the clocks are those of the rule of --zone: those of UTC if there is none, also if it is
+-- in a file.
+pub record WhenFrom (rows : List Row) (ask : WhenAsk) : Type 0 where
+  pub seconds : AreSecondsTold rows ask.seconds
+  pub zone : IsZoneOf (rule_text (first_of (codes "zone") rows)) ask.zone
+
+-- an option for an accession gives this number
+abbrev pub IsAccessionTold : List Row → ℕ → Type 0
+IsAccessionTold rows acc = (text : Text) × (one_of (codes "acc") rows ≡ Some text) × (ParsesUnsigned {E = ParseIntError} 32 10 text (Ok acc) × IsScope acc)
+
+-- ---- commands
+
+-- what `init` asks for
+pub record InitFrom (rows : List Row) (ask : InitAsk) : Type 0 where
+  pub store : first_of (codes "store") rows ≡ Some ask.store.now
+  pub key : IsKeyTold rows ask.key.now
+  pub sums : (flag : Bool) → IsFlagTold (one_of (codes "sums") rows) flag → ask.has_sums ≡ flag
+
+-- what `staff-key` asks for
+pub record StaffKeyFrom (rows : List Row) (ask : StaffKeyAsk) : Type 0 where
+  pub store : first_of (codes "store") rows ≡ Some ask.store.now
+  pub key : IsKeyTold rows ask.key.now
+
+-- what `copy` asks for
+pub record CopyFrom (rows : List Row) (ask : CopyAsk) : Type 0 where
+  pub store : first_of (codes "store") rows ≡ Some ask.store.now
+  pub target : first_of (codes "to") rows ≡ Some ask.target.now
+  pub sums : (flag : Bool) → IsFlagTold (one_of (codes "sums") rows) flag → ask.has_sums ≡ flag
+
+-- what `serve` asks for
+pub record ServeFrom (rows : List Row) (ask : ServeAsk) : Type 0 where
+  pub store : first_of (codes "store") rows ≡ Some ask.store.now
+  pub place : NamesPlace rows (place_of ask.place)
+  pub count : IsCountTold rows ask.count
+  pub zone : IsZoneOf (rule_text (first_of (codes "zone") rows)) ask.zone
+
+-- what `import` asks for
+pub record ImportFrom (rows : List Row) (ask : ImportAsk) : Type 0 where
+  pub store : first_of (codes "store") rows ≡ Some ask.store.now
+  pub key : IsKeyTold rows ask.key.now
+  pub sheet : first_of (codes "sheet") rows ≡ Some ask.sheet.now
+  pub when : WhenFrom rows ask.when
+
+-- the caller of a question: the key of `check` and of `show` is needed, that of `export` may be absent
+abbrev pub CallerFrom : List Row → Question → Option (List ℕ) → Type 0
+CallerFrom rows question.Catalogue (Some key) = (text : Text) × (first_of (codes "key") rows ≡ Some text) × (key ≡ trim_ows text)
+CallerFrom rows question.Catalogue None = first_of (codes "key") rows ≡ None
+CallerFrom rows other (Some key) = IsKeyTold rows key
+CallerFrom rows other None = ⊥
+
+-- what is asked
+abbrev pub QuestionFrom : List Row → Question → Type 0
+QuestionFrom rows question.Catalogue = ⊤
+QuestionFrom rows (question.Check acc) = IsAccessionTold rows acc
+QuestionFrom rows (question.Show shown) = NamesShown rows shown
+
+-- what `export`, `check` and `show` ask for
+pub record OneFrom (rows : List Row) (ask : OneQuestionAsk) : Type 0 where
+  pub store : first_of (codes "store") rows ≡ Some ask.store.now
+  pub caller : CallerFrom rows ask.question (option_map (λ key. key.now) ask.key)
+  pub question : QuestionFrom rows ask.question
+  pub when : WhenFrom rows ask.when
+
+-- what a command on a store asks for
+abbrev pub AskFrom : List Row → Ask → Type 0
+AskFrom rows (Init ask) = InitFrom rows ask
+AskFrom rows (Serve ask) = ServeFrom rows ask
+AskFrom rows (Import ask) = ImportFrom rows ask
+AskFrom rows (OneQuestion ask) = OneFrom rows ask
+AskFrom rows (StaffKey ask) = StaffKeyFrom rows ask
+AskFrom rows (Copy ask) = CopyFrom rows ask
+AskFrom rows other = ⊤
+
+-- the name of a question's command
+abbrev pub question_name : Question → Text
+question_name question.Catalogue = codes "export"
+question_name (question.Check acc) = codes "check"
+question_name (question.Show shown) = codes "show"
+
+-- the name of a command
+abbrev pub command_name : Ask → Text
+command_name (File ask) = codes "cat"
+command_name (Files ask) = codes "list"
+command_name (Init ask) = codes "init"
+command_name (Serve ask) = codes "serve"
+command_name (Import ask) = codes "import"
+command_name (OneQuestion ask) = question_name ask.question
+command_name (StaffKey ask) = codes "staff-key"
+command_name (Copy ask) = codes "copy"
+
+-- the parse went into the command, and what is asked for is from there
+abbrev pub EntersFrom : Option (Text × List Row) → Ask → Type 0
+EntersFrom entered ask = (rows : List Row) × (entered ≡ Some (command_name ask, rows)) × AskFrom rows ask
+
+-- The words are this command, as `clap` takes them, and tell this.
+pub record TellsAll (words : List Text) (told : Told) : Type 0 where
+  pub taken : IsTakenAs (command_name told.ask) words
+  pub asks : AskFrom taken.rows told.ask
+  pub beside : IsBeside (command_name told.ask) taken.rows told.beside

@@ -1,0 +1,169 @@
+-- What is asked for once it is whole is alike what the words ask for.
+use Rattle.std.proofs.Common.{◌≡◌, ◌≢◌, ◌≤◌, ◌+◌, ◌∙◌, ◌⊎◌, ℕ, ℤ, Err, IfErr, IfOk, List, None, Ok, Option, Result, Some, arith, codes, inl, inr, length, option_map, pos, refl, subst, sym}
+use Rattle.std.specs.Prelude.{⊤}
+use Rattle.std.specs.Borrow.{Bor}
+use Rattle.clap.specs.Words.{Row, Text}
+use Rattle.rd_geometry.specs.Kinds.{size_of}
+use Rattle.rd_geometry.specs.declared.kind.Kind.TheVariants.{Cpm8}
+use Rattle.rd_policy.specs.declared.zone.Zone.{Zone}
+use Rattle.rd_commands.specs.Asks.{IsWithinLimits, TellsInRows, TellsOnOutput, most_read}
+use Rattle.rd_commands.specs.Beside.{IsBeside, IsPlain}
+use Rattle.rd_commands.specs.Input.{ReadsUpTo}
+use Rattle.rd_commands.specs.Refusals.{status_of}
+use Rattle.rd_commands.specs.Told.{TellsAll, command_name}
+use Rattle.rd_commands.specs.declared.beside.Beside.{Beside}
+use Rattle.rd_commands.specs.declared.beside.Told.{Told}
+use Rattle.rd_commands.specs.declared.done.Done.{Done}
+use Rattle.rd_commands.specs.declared.refusal.Refusal.{Refusal}
+use Rattle.rd_commands.specs.declared.refusal.Refusal.TheVariants.{Clock}
+use Rattle.rd_commands.specs.declared.words.Ask.{Ask}
+use Rattle.rd_commands.specs.declared.words.ImportAsk.{ImportAsk}
+use Rattle.rd_commands.specs.declared.words.OneQuestionAsk.{OneQuestionAsk}
+use Rattle.rd_commands.specs.declared.words.Ask.TheVariants.{Copy, File, Files, Import, Init, OneQuestion, Serve, StaffKey}
+use Rattle.rd_program.specs.Completing.{AreOperands, Completes, IsDated, IsKeyAt, IsKeyRead, IsKeyed, IsKeyedBy, IsZoneRead, IsZoned, IsZonedBy, with_key, with_moment, with_zone}
+use Rattle.rd_program.specs.Performing.{IsEarlyRefusal}
+use Rattle.rd_commands.proofs.ReadLimits.{reads_after}
+use Rattle.rd_program.proofs.Plain.{image_plain}
+
+-- One command reads as much of the input as another, and tells as much of what it did.
+pub record IsAlike (new old : Ask) : Type 0 where
+  pub read : most_read new ≡ most_read old
+  pub rows : TellsInRows new → TellsInRows old
+  pub output : TellsOnOutput new → TellsOnOutput old
+  pub within : IsWithinLimits old → IsWithinLimits new
+
+alike_itself : (ask : Ask) → IsAlike ask ask
+alike_itself ask = record { read = refl; rows = λ tells. tells; output = λ tells. tells; within = λ is. is }
+
+alike_then : (new mid old : Ask) → IsAlike new mid → IsAlike mid old → IsAlike new old
+alike_then new mid old later first = record {
+  read = later.read ∙ first.read;
+  rows = λ tells. first.rows (later.rows tells);
+  output = λ tells. first.output (later.output tells);
+  within = λ is. later.within (first.within is);
+}
+
+with_key_alike : (key : Bor (List ℕ)) (ask : Ask) → IsAlike (with_key key ask) ask
+with_key_alike key (File ask) = alike_itself (File ask)
+with_key_alike key (Files ask) = alike_itself (Files ask)
+with_key_alike key (Init ask) = record { read = refl; rows = λ tells. tells; output = λ tells. tells; within = λ is. is }
+with_key_alike key (Serve ask) = alike_itself (Serve ask)
+with_key_alike key (Import ask) = record { read = refl; rows = λ tells. tells; output = λ tells. tells; within = λ is. is }
+with_key_alike key (OneQuestion ask) = record { read = refl; rows = λ tells. tells; output = λ tells. tells; within = λ is. is }
+with_key_alike key (StaffKey ask) = record { read = refl; rows = λ tells. tells; output = λ tells. tells; within = λ is. is }
+with_key_alike key (Copy ask) = alike_itself (Copy ask)
+
+with_zone_alike : (zone : Zone) (ask : Ask) → IsAlike (with_zone zone ask) ask
+with_zone_alike zone (File ask) = alike_itself (File ask)
+with_zone_alike zone (Files ask) = alike_itself (Files ask)
+with_zone_alike zone (Init ask) = alike_itself (Init ask)
+with_zone_alike zone (Serve ask) = record { read = refl; rows = λ tells. tells; output = λ tells. tells; within = λ is. is }
+with_zone_alike zone (Import ask) = record { read = refl; rows = λ tells. tells; output = λ tells. tells; within = λ is. is }
+with_zone_alike zone (OneQuestion ask) = record { read = refl; rows = λ tells. tells; output = λ tells. tells; within = λ is. is }
+with_zone_alike zone (StaffKey ask) = alike_itself (StaffKey ask)
+with_zone_alike zone (Copy ask) = alike_itself (Copy ask)
+
+with_moment_alike : (seconds : ℤ) (ask : Ask) → IsAlike (with_moment seconds ask) ask
+with_moment_alike seconds (File ask) = alike_itself (File ask)
+with_moment_alike seconds (Files ask) = alike_itself (Files ask)
+with_moment_alike seconds (Init ask) = alike_itself (Init ask)
+with_moment_alike seconds (Serve ask) = alike_itself (Serve ask)
+with_moment_alike seconds (Import ask) = record { read = refl; rows = λ tells. tells; output = λ tells. tells; within = λ is. is }
+with_moment_alike seconds (OneQuestion ask) = record { read = refl; rows = λ tells. tells; output = λ tells. tells; within = λ is. is }
+with_moment_alike seconds (StaffKey ask) = alike_itself (StaffKey ask)
+with_moment_alike seconds (Copy ask) = alike_itself (Copy ask)
+
+keyed_alike : (files : List ℕ → Option (List ℕ)) (input : Option (List ℕ)) (path : Option (Bor (List ℕ))) (old new : Ask) → IsKeyed files input path old new → IsAlike new old
+keyed_alike files input (Some path) old new is = subst (λ ask. IsAlike ask old) (sym is.1) (with_key_alike is.0 old)
+keyed_alike files input None old new is = subst (λ ask. IsAlike ask old) (sym is) (alike_itself old)
+
+zoned_alike : (files : List ℕ → Option (List ℕ)) (path : Option (Bor (List ℕ))) (old new : Ask) → IsZoned files path old new → IsAlike new old
+zoned_alike files (Some path) old new is = subst (λ ask. IsAlike ask old) (sym is.1) (with_zone_alike is.0 old)
+zoned_alike files None old new is = subst (λ ask. IsAlike ask old) (sym is) (alike_itself old)
+
+dated_alike : (day : Option ℤ) (old new : Ask) → IsDated day old new → IsAlike new old
+dated_alike (Some day) old new is = subst (λ ask. IsAlike ask old) (sym is.1) (with_moment_alike is.0 old)
+dated_alike None old new is = subst (λ ask. IsAlike ask old) (sym is) (alike_itself old)
+
+pub whole_alike : (files : List ℕ → Option (List ℕ)) (input : Option (List ℕ)) (told : Told) (ask : Ask) → Completes files input told ask → IsAlike ask told.ask
+whole_alike files input told ask whole =
+    alike_then ask whole.zoned told.ask (dated_alike told.beside.day whole.zoned ask whole.moment)
+    (alike_then whole.zoned whole.keyed told.ask (zoned_alike files told.beside.zone_file whole.keyed whole.zoned whole.zone)
+    (keyed_alike files input told.beside.key_file told.ask whole.keyed whole.key))
+
+-- ---- what reads the input has nothing in a file
+
+asks_of_store : (ask : Ask) (rows : List Row) (beside : Beside) → IsBeside (command_name ask) rows beside → (IsPlain beside → ⊥) → most_read ask ≡ 0
+asks_of_store (File ask) rows beside is apart = absurd (apart (image_plain (codes "cat") rows beside (inl refl) is))
+asks_of_store (Files ask) rows beside is apart = absurd (apart (image_plain (codes "list") rows beside (inr refl) is))
+asks_of_store (Init ask) rows beside is apart = refl
+asks_of_store (Serve ask) rows beside is apart = refl
+asks_of_store (Import ask) rows beside is apart = refl
+asks_of_store (OneQuestion ask) rows beside is apart = refl
+asks_of_store (StaffKey ask) rows beside is apart = refl
+asks_of_store (Copy ask) rows beside is apart = refl
+
+pub reads_no_more : (words : List Text) (told : Told) → TellsAll words told → (IsPlain told.beside → ⊥) → most_read told.ask ≡ 0
+reads_no_more words told all apart = asks_of_store told.ask all.taken.rows told.beside all.beside apart
+
+-- nothing more is read
+pub reads_nothing_more : (most : ℕ) (old mid new : Option (List ℕ)) → ReadsUpTo 4097 old mid → ReadsUpTo most mid new → {asked : ℕ} → most ≡ asked → asked ≡ 0
+    → ReadsUpTo (size_of Cpm8 + 1) old new
+reads_nothing_more most old mid new first later is none =
+    let few : length first.bytes ≤ 4097 = first.few in
+    reads_after (size_of Cpm8 + 1) most old mid new first.bytes first.taken later (omega (arith, few, is, none))
+
+-- ---- why a command ends early
+
+pub early_never : (refusal : Refusal) → IsEarlyRefusal refusal → status_of refusal ≢ 2
+early_never refusal (inl device) = subst (λ r. status_of r ≢ 2) (sym device) (λ two. omega arith)
+early_never refusal (inr (inl clock)) = subst (λ r. status_of r ≢ 2) (sym clock) (λ two. omega arith)
+early_never refusal (inr (inr memory)) = subst (λ r. status_of r ≢ 2) (sym memory) (λ two. omega arith)
+
+-- ---- what is written at 1
+
+pub kept_alike : {Keeps : Type 0} (result : Result Done Refusal) (new old : Ask) → (TellsInRows new → TellsInRows old)
+    → IfErr result (λ refusal. status_of refusal ≡ 1 → Keeps ⊎ TellsInRows new) → IfErr result (λ refusal. status_of refusal ≡ 1 → Keeps ⊎ TellsInRows old)
+kept_alike (Ok done) new old rows kept = tt
+kept_alike (Err refusal) new old rows kept = λ one. elim (kept one) [ inl keeps ↦ inl keeps | inr tells ↦ inr (rows tells) ]
+
+-- ---- from the operands to what is whole
+
+is_keyed : (files : List ℕ → Option (List ℕ)) (input : Option (List ℕ)) (path : Option (Bor (List ℕ))) (key : Option (List ℕ)) (old new : Ask)
+    → IsKeyRead files input (option_map (λ (path : Bor (List ℕ)). path.now) path) key → IsKeyedBy key old new → IsKeyed files input path old new
+is_keyed files input None None old new read is = is
+is_keyed files input None (Some bytes) old new read is = absurd read
+is_keyed files input (Some path) None old new read is = absurd read
+is_keyed files input (Some path) (Some bytes) old new read is = (is.0, is.1, subst (λ k. IsKeyAt files input path.now k) (sym is.2) read)
+
+is_zoned : (files : List ℕ → Option (List ℕ)) (path : Option (Bor (List ℕ))) (zone : Option Zone) (old new : Ask)
+    → IsZoneRead files (option_map (λ (path : Bor (List ℕ)). path.now) path) zone → IsZonedBy zone old new → IsZoned files path old new
+is_zoned files None None old new read is = is
+is_zoned files None (Some zone) old new read is = absurd read
+is_zoned files (Some path) None old new read is = absurd read
+is_zoned files (Some path) (Some zone) old new read is = (zone, is, read)
+
+-- what stands in the files and the first moment of the day are in their places: it is whole
+pub is_whole : (files : List ℕ → Option (List ℕ)) (input : Option (List ℕ)) (told : Told) (key : Option (List ℕ)) (clocks : Option Zone) (keyed zoned : Ask) (result : Result Ask Refusal)
+    → AreOperands files input told.beside key clocks → IsKeyedBy key told.ask keyed → IsZonedBy clocks keyed zoned → IfOk result (IsDated told.beside.day zoned)
+    → IfOk result (Completes files input told)
+is_whole files input told key clocks keyed zoned (Ok ask) are with_key with_zone dated = record {
+  keyed = keyed;
+  zoned = zoned;
+  key = is_keyed files input told.beside.key_file key told.ask keyed are.key_is with_key;
+  zone = is_zoned files told.beside.zone_file clocks keyed zoned are.zone_is with_zone;
+  moment = dated;
+}
+is_whole files input told key clocks keyed zoned (Err refusal) are with_key with_zone dated = tt
+
+-- a day without a moment ends a command early
+pub clock_early : {A : Type 0} (result : Result A Refusal) → IfErr result (λ refusal. refusal ≡ Clock) → IfErr result IsEarlyRefusal
+clock_early (Ok value) clock = tt
+clock_early (Err refusal) clock = inr (inl clock)
+
+-- ---- a day of what has no moment
+
+pub other_dated : (day : ℤ) (ask : Ask) → ((images : ImportAsk) → ask ≡ Import images → ⊥) → ((one : OneQuestionAsk) → ask ≡ OneQuestion one → ⊥) → IsDated (Some day) ask ask
+other_dated day (Import images) no_import no_one = absurd (no_import images refl)
+other_dated day (OneQuestion one) no_import no_one = absurd (no_one one refl)
+other_dated day ask no_import no_one = (pos 0, refl, tt)

@@ -1,0 +1,116 @@
+use Rattle.std.proofs.Common.{◌≡◌, ◌≤◌, ap, arith, inl, inr, subst, sym}
+use Rattle.std.proofs.KnownBytes.{Keeps-refl}
+use Rattle.std.proofs.lemmas.Result.{IfErr-weaker, IfOk-weaker}
+use Rattle.rd_commands.proofs.ReadLimits.{reads_after, reads_within}
+use Rattle.rd_program.specs.Completing.{Completes}
+use Rattle.rd_program.specs.Leaves.{GivesBack}
+use Rattle.rd_program.specs.Performing.{CompletesSo, Performs, sight}
+use Rattle.rd_program.proofs.CompletingLemmas.{early_never, kept_alike, reads_nothing_more, whole_alike}
+use Rattle.rd_program.proofs.dispatch.perform_completed.Goals as goal
+
+-- ---- what is whole
+
+pub perform-requires : goal.perform-requires
+perform-requires g c = (whole_alike _ _ c.args.told c.in-Ok-completed.ask (c.in-Ok-completed.ensures.completes _ _ c.in-Ok.ensures.read)).within c.requires.accession
+
+pub returns-in-Ok-completed-clause-kept : goal.returns-in-Ok-completed-clause-kept
+returns-in-Ok-completed-clause-kept g c =
+    let alike = whole_alike _ _ c.args.told c.in-Ok-completed.ask (c.in-Ok-completed.ensures.completes _ _ c.in-Ok.ensures.read) in
+    kept_alike c.perform.result c.in-Ok-completed.ask c.args.told.ask alike.rows c.perform.ensures.kept
+
+pub returns-in-Ok-completed-clause-in_part : goal.returns-in-Ok-completed-clause-in_part
+returns-in-Ok-completed-clause-in_part g c =
+    let alike = whole_alike _ _ c.args.told c.in-Ok-completed.ask (c.in-Ok-completed.ensures.completes _ _ c.in-Ok.ensures.read) in
+    IfOk-weaker c.perform.result _ _ (λ done tells part. alike.output (tells part)) c.perform.ensures.in_part
+
+pub returns-in-Ok-completed-clause-flushed : goal.returns-in-Ok-completed-clause-flushed
+returns-in-Ok-completed-clause-flushed g c = c.perform.ensures.flushed
+
+pub returns-in-Ok-completed-clause-back : goal.returns-in-Ok-completed-clause-back
+returns-in-Ok-completed-clause-back g c =
+    subst (λ machine. GivesBack (g.M.Machine.shows machine) (g.M.Machine.left machine) (g.M.Machine.left c.perform.new.machine)) c.read_operands.ensures.same c.perform.ensures.back
+
+pub returns-in-Ok-completed-clause-limit : goal.returns-in-Ok-completed-clause-limit
+returns-in-Ok-completed-clause-limit g c =
+    let alike = whole_alike _ _ c.args.told c.in-Ok-completed.ask (c.in-Ok-completed.ensures.completes _ _ c.in-Ok.ensures.read) in
+    reads_nothing_more _ _ _ _ c.read_operands.ensures.limit c.perform.ensures.limit alike.read c.requires.of_store
+
+pub returns-in-Ok-completed-clause-completed : goal.returns-in-Ok-completed-clause-completed
+returns-in-Ok-completed-clause-completed g c = inl (subst
+    (λ machine. CompletesSo g.M.Disk.Store g.M.Door.Door.told g.M.Door.Door.coming
+    (sight g.M.Machine.shows g.M.Machine.clock g.M.Files.file_bytes g.M.Files.sheet_bytes g.M.Machine.stands g.M.Machine.left g.M.Machine.wanted g.M.Machine.sums g.M.Machine.door g.M.Machine.door_limits g.M.Machine.made g.M.Machine.fresh g.M.Machine.new_stores machine)
+    (sight g.M.Machine.shows g.M.Machine.clock g.M.Files.file_bytes g.M.Files.sheet_bytes g.M.Machine.stands g.M.Machine.left g.M.Machine.wanted g.M.Machine.sums g.M.Machine.door g.M.Machine.door_limits g.M.Machine.made g.M.Machine.fresh g.M.Machine.new_stores c.perform.new.machine)
+    (g.R.Read.remaining c.args.input.now) (g.W.Write.contents c.args.output.now) (g.W.Write.contents c.perform.new.output) c.args.told c.perform.result)
+    c.read_operands.ensures.same (record {
+      ask = c.in-Ok-completed.ask;
+      whole = subst (λ machine. Completes (g.M.Files.file_bytes machine) (g.R.Read.remaining c.args.input.now) c.args.told c.in-Ok-completed.ask) (sym c.read_operands.ensures.same)
+          (c.in-Ok-completed.ensures.completes _ _ c.in-Ok.ensures.read);
+      performs = record {
+        gives = c.perform.ensures.of_file;
+        makes = c.perform.ensures.makes;
+        puts = c.perform.ensures.puts;
+        listens = c.perform.ensures.listens;
+        serves = c.perform.ensures.serves;
+        limits = c.perform.ensures.limits;
+        imports = c.perform.ensures.imports;
+        answers = c.perform.ensures.answers;
+        unasked = c.perform.ensures.unasked;
+        on_time = c.perform.ensures.on_time;
+        clock_due = c.perform.ensures.clock;
+        bad_sheet = c.perform.ensures.bad_sheet;
+        leaves = c.perform.ensures.leaves;
+        leaves_refused = c.perform.ensures.leaves_refused;
+        there = c.perform.ensures.there;
+        wanted = c.perform.ensures.asked;
+        sums = c.perform.ensures.sums;
+        lent = c.perform.ensures.lent;
+        late = c.perform.ensures.late;
+        copies = c.perform.ensures.copies;
+      };
+    }))
+
+-- ---- a day without a moment
+
+pub returns-in-Err-completed-clause-never : goal.returns-in-Err-completed-clause-never
+returns-in-Err-completed-clause-never g c = early_never c.in-Err-completed.refused c.in-Err-completed.ensures.early
+
+pub returns-in-Err-completed-clause-kept : goal.returns-in-Err-completed-clause-kept
+returns-in-Err-completed-clause-kept g c = λ one. inl (Keeps-refl _)
+
+pub returns-in-Err-completed-clause-back : goal.returns-in-Err-completed-clause-back
+returns-in-Err-completed-clause-back g c =
+    subst (λ machine. GivesBack (g.M.Machine.shows c.args.machine.now) (g.M.Machine.left c.args.machine.now) (g.M.Machine.left machine)) (sym c.read_operands.ensures.same) (λ shows had. had)
+
+pub returns-in-Err-completed-clause-limit : goal.returns-in-Err-completed-clause-limit
+returns-in-Err-completed-clause-limit g c = reads_within _ _ _ _ (omega arith) c.read_operands.ensures.limit
+
+pub returns-in-Err-completed-clause-completed : goal.returns-in-Err-completed-clause-completed
+returns-in-Err-completed-clause-completed g c = inr (record {
+  refused = tt;
+  why = c.in-Err-completed.ensures.early;
+  same = ap (sight g.M.Machine.shows g.M.Machine.clock g.M.Files.file_bytes g.M.Files.sheet_bytes g.M.Machine.stands g.M.Machine.left g.M.Machine.wanted g.M.Machine.sums g.M.Machine.door g.M.Machine.door_limits g.M.Machine.made g.M.Machine.fresh g.M.Machine.new_stores) c.read_operands.ensures.same;
+  kept = Keeps-refl _;
+})
+
+-- ---- a file that is not read
+
+pub returns-in-Err-clause-never : goal.returns-in-Err-clause-never
+returns-in-Err-clause-never g c = early_never c.in-Err.refused c.in-Err.ensures.early
+
+pub returns-in-Err-clause-kept : goal.returns-in-Err-clause-kept
+returns-in-Err-clause-kept g c = λ one. inl (Keeps-refl _)
+
+pub returns-in-Err-clause-back : goal.returns-in-Err-clause-back
+returns-in-Err-clause-back g c =
+    subst (λ machine. GivesBack (g.M.Machine.shows c.args.machine.now) (g.M.Machine.left c.args.machine.now) (g.M.Machine.left machine)) (sym c.read_operands.ensures.same) (λ shows had. had)
+
+pub returns-in-Err-clause-limit : goal.returns-in-Err-clause-limit
+returns-in-Err-clause-limit g c = reads_within _ _ _ _ (omega arith) c.read_operands.ensures.limit
+
+pub returns-in-Err-clause-completed : goal.returns-in-Err-clause-completed
+returns-in-Err-clause-completed g c = inr (record {
+  refused = tt;
+  why = c.in-Err.ensures.early;
+  same = ap (sight g.M.Machine.shows g.M.Machine.clock g.M.Files.file_bytes g.M.Files.sheet_bytes g.M.Machine.stands g.M.Machine.left g.M.Machine.wanted g.M.Machine.sums g.M.Machine.door g.M.Machine.door_limits g.M.Machine.made g.M.Machine.fresh g.M.Machine.new_stores) c.read_operands.ensures.same;
+  kept = Keeps-refl _;
+})

@@ -1,0 +1,202 @@
+//! Completes what the words of a command ask for by what stands in files, and by the first moment of a day.
+
+ghost use Rattle.std.specs.Prelude.{◌≡◌, IfErr, IfOk, List, Option, Some, option_map, ℕ};
+ghost use Rattle.rd_commands.specs.Input.{ReadsUpTo};
+ghost use Rattle.rd_commands.specs.Refusals.{IsDeviceOrMemory};
+ghost use Rattle.rd_program.specs.Completing as spec;
+ghost use Rattle.rd_program.specs.Completing.{AreOperands, Completes, IsDated, IsKeyRead, IsKeyedBy, IsZoneRead, IsZonedBy};
+ghost use Rattle.rd_program.specs.Performing.{IsEarlyRefusal};
+
+use crate::operands::{key_from, moment_of_day, zone_from};
+use rd_commands::{
+    Ask, Files, ImportAsk, InitAsk, OneQuestionAsk, Refusal, ServeAsk, StaffKeyAsk, Told, WhenAsk,
+};
+use rd_policy::Zone;
+use std::alloc::Global;
+use std::io::Read;
+
+/// What stands in the files that a command names.
+#[derive(Drop)]
+pub(crate) struct Operands {
+    /// The key.
+    key: Option<Vec<u8>>,
+    /// The zone.
+    zone: Option<Zone>,
+}
+
+/// What is asked for, with a key.
+fn with_key<'a>(ask: Ask<'a>, key: &'a [u8]) -> Ask<'a>
+    ensures { result ≡ spec.with_key key.entry ask.entry }
+{
+    match ask {
+        Ask::Init(ask) => Ask::Init(InitAsk { key, ..ask }),
+        Ask::Import(ask) => Ask::Import(ImportAsk { key, ..ask }),
+        Ask::OneQuestion(ask) => Ask::OneQuestion(OneQuestionAsk {
+            key: Some(key),
+            ..ask
+        }),
+        Ask::StaffKey(ask) => Ask::StaffKey(StaffKeyAsk { key, ..ask }),
+        other => other,
+    }
+}
+
+/// When a command asks, by the clocks of a zone.
+fn in_zone(when: WhenAsk, zone: Zone) -> WhenAsk
+    ensures { result ≡ spec.in_zone zone when }
+{
+    WhenAsk { zone, ..when }
+}
+
+/// What is asked for, by the clocks of a zone.
+fn with_zone<'a>(ask: Ask<'a>, zone: Zone) -> Ask<'a>
+    ensures { result ≡ spec.with_zone zone ask.entry }
+{
+    match ask {
+        Ask::Serve(ask) => Ask::Serve(ServeAsk { zone, ..ask }),
+        Ask::Import(ask) => Ask::Import(ImportAsk {
+            when: in_zone(ask.when, zone),
+            ..ask
+        }),
+        Ask::OneQuestion(ask) => Ask::OneQuestion(OneQuestionAsk {
+            when: in_zone(ask.when, zone),
+            ..ask
+        }),
+        other => other,
+    }
+}
+
+/// When a command asks: at the first moment of a day, by its clocks.
+///
+/// It fails with `Clock` when they never show the day.
+fn on_day(when: WhenAsk, day: i32) -> Result<WhenAsk, Refusal>
+    ensures dated { IfOk result (λ dated. spec.IsWhenDated day when dated) }
+    ensures none { IfErr result (λ refusal. refusal ≡ Refusal.Clock) }
+{
+    let seconds = moment_of_day(day, &when.zone)?;
+    Ok(WhenAsk {
+        seconds: Some(seconds),
+        ..when
+    })
+}
+
+/// What is asked for, at the first moment of a day, by its clocks.
+///
+/// It fails with `Clock` when they never show the day.
+fn at_day<'a>(ask: Ask<'a>, day: i32) -> Result<Ask<'a>, Refusal>
+    ensures dated { IfOk result (IsDated (Some day) ask.entry) }
+    ensures none { IfErr result (λ refusal. refusal ≡ Refusal.Clock) }
+{
+    match ask {
+        Ask::Import(ask) => Ok(Ask::Import(ImportAsk {
+            when: on_day(ask.when, day)?,
+            ..ask
+        })),
+        Ask::OneQuestion(ask) => Ok(Ask::OneQuestion(OneQuestionAsk {
+            when: on_day(ask.when, day)?,
+            ..ask
+        })),
+        other => Ok(other),
+    }
+}
+
+/// What is asked for, with the key that was read, if one was.
+fn keyed<'a>(ask: Ask<'a>, operands: &'a Operands) -> Ask<'a>
+    ensures { IsKeyedBy (option_map (λ key. key.items) operands.now.key) ask.entry result }
+{
+    match &operands.key {
+        Some(key) => with_key(ask, key.as_slice()),
+        None => ask,
+    }
+}
+
+/// What is asked for, by the clocks of the zone that was read, if one was.
+fn zoned<'a>(ask: Ask<'a>, zone: Option<Zone>) -> Ask<'a>
+    ensures { IsZonedBy zone ask.entry result }
+{
+    match zone {
+        Some(zone) => with_zone(ask, zone),
+        None => ask,
+    }
+}
+
+/// What is asked for, at the first moment of a day, if there is a day.
+///
+/// It fails with `Clock` when the clocks never show the day.
+fn dated<'a>(ask: Ask<'a>, day: Option<i32>) -> Result<Ask<'a>, Refusal>
+    ensures dated { IfOk result (IsDated day ask.entry) }
+    ensures none { IfErr result (λ refusal. refusal ≡ Refusal.Clock) }
+{
+    match day {
+        Some(day) => at_day(ask, day),
+        None => Ok(ask),
+    }
+}
+
+/// The key in the file at a path, or on standard input if the path is a hyphen; `None` if there is no path.
+///
+/// It fails as `key_from` does.
+fn key_read<R: Read, M: Files>(
+    alloc: Global,
+    path: Option<&str>,
+    input: &mut R,
+    machine: &mut M,
+) -> Result<Option<Vec<u8>>, Refusal>
+    ensures read { IfOk result (λ key. IsKeyRead (M.file_bytes machine.old) (R.remaining input.old) (option_map (λ path. path.now) path.entry) (option_map (λ key. key.items) key)) }
+    ensures refused { IfErr result IsDeviceOrMemory }
+    ensures same { machine.new ≡ machine.old }
+    ensures limit { ReadsUpTo 4_097 (R.remaining input.old) (R.remaining input.new) }
+{
+    match path {
+        Some(path) => Ok(Some(key_from(alloc, path, input, machine)?)),
+        None => Ok(None),
+    }
+}
+
+/// The zone in whose rule the file at a path ends; `None` if there is no path.
+///
+/// It fails as `zone_from` does.
+fn zone_read<M: Files>(
+    alloc: Global,
+    path: Option<&str>,
+    machine: &mut M,
+) -> Result<Option<Zone>, Refusal>
+    ensures read { IfOk result (λ zone. IsZoneRead (M.file_bytes machine.old) (option_map (λ path. path.now) path.entry) zone) }
+    ensures refused { IfErr result IsDeviceOrMemory }
+    ensures same { machine.new ≡ machine.old }
+{
+    match path {
+        Some(path) => Ok(Some(zone_from(alloc, path, machine)?)),
+        None => Ok(None),
+    }
+}
+
+/// Reads the files that the words name: first the one with a key, then the one with a zone.
+///
+/// It fails with `Device` when one cannot be read, is too long, or has no rule, and with `NoMemory`.
+pub(crate) fn read_operands<R: Read, M: Files>(
+    alloc: Global,
+    told: &Told,
+    input: &mut R,
+    machine: &mut M,
+) -> Result<Operands, Refusal>
+    ensures read { IfOk result (λ operands. AreOperands (M.file_bytes machine.old) (R.remaining input.old) told.now.beside (option_map (λ key. key.items) operands.key) operands.zone) }
+    ensures early { IfErr result IsEarlyRefusal }
+    ensures same { machine.new ≡ machine.old }
+    ensures limit { ReadsUpTo 4_097 (R.remaining input.old) (R.remaining input.new) }
+{
+    let key = key_read(alloc, told.beside.key_file, input, machine)?;
+    let zone = zone_read(alloc, told.beside.zone_file, machine)?;
+    Ok(Operands { key, zone })
+}
+
+/// What the words ask for, with what stands in files, and at the first moment of a day.
+///
+/// It fails with `Clock` when the clocks never show the day.
+pub(crate) fn completed<'a>(told: Told<'a>, operands: &'a Operands) -> Result<Ask<'a>, Refusal>
+    ensures completes { (files : List ℕ → Option (List ℕ)) (input : Option (List ℕ))
+        → AreOperands files input told.entry.beside (option_map (λ key. key.items) operands.now.key) operands.now.zone → IfOk result (Completes files input told.entry) }
+    ensures early { IfErr result IsEarlyRefusal }
+{
+    let with_both = zoned(keyed(told.ask, operands), operands.zone);
+    dated(with_both, told.beside.day)
+}
