@@ -2,6 +2,7 @@
 //! and the rows of a sheet. It names no database.
 #![tactic(auto)]
 
+mod asked;
 mod beside;
 mod blanks;
 pub mod cat;

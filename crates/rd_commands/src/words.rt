@@ -1,36 +1,29 @@
 ghost use Rattle.std.specs.Option.{ForSome};
-ghost use Rattle.std.specs.Prelude.{◌≡◌, ◌⊎◌, Bool, IfErr, IfNone, IfOk, IfSome, IsSomeAnd, List, Ok, OnOk, OnSome, Option, Some, codes, map, option_map, ℕ, ℤ};
-ghost use Rattle.std.specs.Str.Parse.{ParsesUnsigned};
-ghost use Rattle.std.specs.declared.num.ParseIntError.{ParseIntError};
-ghost use Rattle.clap.specs.Words.{app_of, first_of, found_of, one_of, rows_of};
+ghost use Rattle.std.specs.Prelude.{◌≡◌, ◌⊎◌, Bool, IfErr, IfNone, IfOk, IfSome, IsSomeAnd, List, Ok, OnOk, OnSome, Option, Some, codes, map, ℕ, ℤ};
+ghost use Rattle.clap.specs.Words.{app_of, first_of, found_of, rows_of};
 ghost use Rattle.clap.specs.Words.{subcommand_rows_of};
-ghost use Rattle.httparse.specs.Grammar.{trim_ows};
-ghost use Rattle.rd_geometry.specs.Kinds.{word_of};
-ghost use Rattle.rd_policy.specs.Rules.{IsScope};
-ghost use Rattle.rd_policy.specs.Zones.{IsZoneOf};
-ghost use Rattle.rd_commands.specs.Asks.{AreCatRows, AreCheckRows, AreExportRows, AreImportRows, AreInitRows, AreListRows, AreServeRows, AreShowRows, IsMomentNamed};
-ghost use Rattle.rd_commands.specs.Asks.{AsksFile, AsksFiles, AsksImages, AsksNew, AsksOneQuestion, AsksVisits, AsksWhen, IsAskable};
 ghost use Rattle.rd_commands.specs.Asks.{EntersAtAPlace, EntersNamed, EntersNoPlace, EntersTimed};
 ghost use Rattle.rd_commands.specs.Asks.{EntersByRule, EntersCat, EntersCheck, EntersExport, EntersImport, EntersInit, EntersList, EntersNaming, EntersNamingNone, EntersServe, EntersShow, EntersTelling, EntersTrusting};
-ghost use Rattle.rd_commands.specs.Asks.{IsSeenFault, IsWithinLimits, IsFaultOf, IsFileAsk, IsFilesAsk, IsForMemory, IsHelp, IsImportAsk, IsInitAsk, IsMistake, IsOneQuestionAsk, IsServeAsk, IsCheck, IsTold, IsVersion, TellsOnOutput};
-ghost use Rattle.rd_commands.specs.Asks.{AreCopyRows, AreStaffKeyRows, AsksCopying, AsksStaff, EntersCopy, EntersStaffKey, EntersSumming, IsCopyAsk, IsStaffKeyAsk, has_sums, is_trusting};
+ghost use Rattle.rd_commands.specs.Asks.{IsSeenFault, IsWithinLimits, IsFaultOf, IsFileAsk, IsFilesAsk, IsForMemory, IsHelp, IsImportAsk, IsInitAsk, IsMistake, IsOneQuestionAsk, IsServeAsk, IsTold, IsVersion, TellsOnOutput};
+ghost use Rattle.rd_commands.specs.Asks.{EntersCopy, EntersStaffKey, EntersSumming, IsCopyAsk, IsStaffKeyAsk, has_sums, is_trusting};
 ghost use Rattle.rd_commands.specs.Beside.{EntersApart, EntersBeside, EntersTogether, FitsTogether, IsApart, IsTakenApart, TellsBeside};
 ghost use Rattle.rd_commands.specs.CommandLine.{IsDeskApp, IsTaken, IsTakenTelling};
 ghost use Rattle.rd_commands.specs.Commands.{IsAskOf, IsCommand, IsTakenServingNowhere, IsTakenShowingNothing, NamesAPlace, NamesWhatItShows, Sums, TellsARule, Trusts};
-ghost use Rattle.rd_commands.specs.Serving.{GivesTimeouts};
 ghost use Rattle.rd_commands.specs.Serving as spec;
 ghost use Rattle.rd_commands.specs.Shown.{IsDayGiven, IsShowable, IsShownAs, NamesAny, NamesShown};
-ghost use Rattle.rd_commands.specs.Words.{AsksHelp, AsksVersion, IsSlotText};
-ghost use Rattle.rd_commands.specs.Told.{AreSecondsTold, CopyFrom, EntersFrom, ImportFrom, InitFrom, IsAccessionTold, IsKeyTold, OneFrom, ServeFrom, StaffKeyFrom, TellsAll, WhenFrom};
-ghost use Rattle.rd_commands.specs.Zones.{HasZoneRule, IsFlagTold, IsRuleNamed, TellsTrust, rule_text};
+ghost use Rattle.rd_commands.specs.Words.{AsksHelp, AsksVersion};
+ghost use Rattle.rd_commands.specs.Told.{EntersFrom, TellsAll};
 ghost use Rattle.rd_commands.specs.declared.words.Unread.TheVariants as Unread;
 
-use crate::beside::{Beside, Told, beside_found, seconds_read};
-use crate::blanks::trimmed;
+use crate::asked::{
+    check_asked, copy_asked, export_asked, file_asked, files_asked, import_asked, init_asked,
+    serve_asked, show_asked, staff_key_asked,
+};
+use crate::beside::{Beside, Told, beside_found};
 use crate::command_line::desk_command;
-use crate::serving::{Place, Timeouts, check_place, count_asked, place_asked, timeouts_asked};
+use crate::serving::{Place, Timeouts, check_place};
 use clap::{ArgMatches, Command, Error};
-use rd_policy::{DateFault, Zone, date_read, is_scope};
+use rd_policy::{DateFault, Zone, date_read};
 use rd_volume::Kind;
 use std::alloc::{AllocError, Global};
 
@@ -220,231 +213,6 @@ impl From<AllocError> for Unread {
     }
 }
 
-/// The kind that the operand for a kind names, `None` if there is none.
-fn kind_asked(found: &ArgMatches) -> Option<Kind>
-    ensures { (kind : Kind)
-        → first_of (codes "KIND") (rows_of (found_of found.now)) ≡ Some (word_of kind)
-        → result ≡ Some kind }
-{
-    Kind::from_word(found.get_str("KIND")?)
-}
-
-/// The number that the operand for a slot reads as, `None` if there is none.
-fn slot_asked(found: &ArgMatches) -> Option<u16>
-    ensures { (text : List ℕ) (slot : ℕ)
-        → one_of (codes "SLOT") (rows_of (found_of found.now)) ≡ Some text
-        → IsSlotText text slot → result ≡ Some slot }
-{
-    found.get_one::<u16>("SLOT")
-}
-
-/// What the operands of `cat` ask for; `None` if one is missing or badly written.
-fn file_asked<'a>(found: &ArgMatches<'a>) -> Option<FileAsk<'a>>
-    ensures { (kind : Kind) (image : List ℕ) (slot : ℕ)
-        → AreCatRows (rows_of (found_of found.now)) kind image slot
-        → IsSomeAnd result (λ ask. AsksFile ask kind image slot) }
-{
-    Some(FileAsk {
-        kind: kind_asked(found)?,
-        image: found.get_str("IMAGE")?,
-        slot: slot_asked(found)?,
-    })
-}
-
-/// What the operands of `list` ask for; `None` if one is missing or badly written.
-fn files_asked<'a>(found: &ArgMatches<'a>) -> Option<ImageAsk<'a>>
-    ensures { (kind : Kind) (image : List ℕ)
-        → AreListRows (rows_of (found_of found.now)) kind image
-        → IsSomeAnd result (λ ask. AsksFiles ask kind image) }
-{
-    Some(ImageAsk {
-        kind: kind_asked(found)?,
-        image: found.get_str("IMAGE")?,
-    })
-}
-
-/// The desk key that its option gives, without blanks and tabs at both ends; nothing, as a key, if it is in a file; and
-/// `None` if there is none.
-fn key_asked<'a>(found: &ArgMatches<'a>) -> Option<&'a [u8]>
-    ensures asked { (key : List ℕ)
-        → first_of (codes "key") (rows_of (found_of found.now)) ≡ Some key
-        → IsSomeAnd result (λ trimmed. trimmed.now ≡ trim_ows key) }
-    ensures from { IfSome result (λ key. IsKeyTold (rows_of (found_of found.now)) key.now) }
-{
-    let Some(key) = found.get_str("key") else {
-        found.get_str("key-file")?;
-        return Some(b"");
-    };
-    Some(trimmed(key.as_bytes()))
-}
-
-/// Whether its flag says that the pages of a new store end in sums.
-fn sums_asked(found: &ArgMatches) -> bool
-    ensures { (summed : Bool) → IsFlagTold (one_of (codes "sums") (rows_of (found_of found.now))) summed → result ≡ summed }
-{
-    found.get_flag("sums")
-}
-
-/// What the options of `init` ask for, `None` if one is missing.
-fn init_asked<'a>(found: &ArgMatches<'a>) -> Option<InitAsk<'a>>
-    ensures asked { (store : List ℕ) (key : List ℕ)
-        → AreInitRows (rows_of (found_of found.now)) store key
-        → IsSomeAnd result (λ ask. AsksNew ask store key) }
-    ensures sums { (summed : Bool) → IsFlagTold (one_of (codes "sums") (rows_of (found_of found.now))) summed
-        → IfSome result (λ ask. ask.has_sums ≡ summed) }
-    ensures from { IfSome result (InitFrom (rows_of (found_of found.now))) }
-{
-    Some(InitAsk {
-        store: found.get_str("store")?,
-        key: key_asked(found)?,
-        has_sums: sums_asked(found),
-    })
-}
-
-/// The zone whose rule its option gives, that of UTC if it is absent, and `None` if the text is no
-/// rule.
-fn zone_asked(found: &ArgMatches) -> Option<Zone>
-    ensures asked { (rule : List ℕ)
-        → IsRuleNamed (first_of (codes "zone") (rows_of (found_of found.now))) rule
-        → IsSomeAnd result (IsZoneOf rule) }
-    ensures zone { OnSome result (HasZoneRule (rows_of (found_of found.now))) }
-    ensures from { IfSome result (IsZoneOf (rule_text (first_of (codes "zone") (rows_of (found_of found.now))))) }
-{
-    let rule = found.get_str("zone").unwrap_or("UTC0");
-    Zone::read(rule).ok()
-}
-
-/// What the options of `serve` ask for; `None` if one is missing or badly written.
-fn serve_asked<'a>(found: &ArgMatches<'a>) -> Option<ServeAsk<'a>>
-    ensures asked { (store : List ℕ) (place : spec.Place) (count : ℕ) (rule : List ℕ)
-        → AreServeRows (rows_of (found_of found.now)) store place count rule
-        → IsSomeAnd result (λ ask. AsksVisits ask store place count rule) }
-    ensures timeouts { IfSome result (λ ask. GivesTimeouts (rows_of (found_of found.now)) ask.timeouts) }
-    ensures zone { OnSome result (HasZoneRule (rows_of (found_of found.now))) }
-    ensures trust { (trusted : Bool) → TellsTrust (rows_of (found_of found.now)) trusted → IfSome result (λ ask. ask.is_trusting ≡ trusted) }
-    ensures from { IfSome result (ServeFrom (rows_of (found_of found.now))) }
-{
-    Some(ServeAsk {
-        store: found.get_str("store")?,
-        place: place_asked(found)?,
-        count: count_asked(found)?,
-        zone: zone_asked(found)?,
-        timeouts: timeouts_asked(found),
-        is_trusting: trust_asked(found),
-    })
-}
-
-/// The moment whose seconds its option gives; `None` if it gives none.
-fn moment_asked(found: &ArgMatches) -> Option<i64>
-    ensures asked { (moment : Option ℤ)
-        → IsMomentNamed (first_of (codes "at") (rows_of (found_of found.now))) moment → result ≡ moment }
-    ensures from { AreSecondsTold (rows_of (found_of found.now)) result }
-{
-    seconds_read(found.get_str("at")?)
-}
-
-/// Whether its flag says that the clock is trusted.
-fn trust_asked(found: &ArgMatches) -> bool
-    ensures { (trusted : Bool) → TellsTrust (rows_of (found_of found.now)) trusted → result ≡ trusted }
-{
-    found.get_flag("trust-clock")
-}
-
-/// When to do a command, and by which clocks; `None` if the text of `--zone` is no rule.
-fn when_asked(found: &ArgMatches) -> Option<WhenAsk>
-    ensures asked { (moment : Option ℤ) (rule : List ℕ)
-        → IsMomentNamed (first_of (codes "at") (rows_of (found_of found.now))) moment
-        → IsRuleNamed (first_of (codes "zone") (rows_of (found_of found.now))) rule
-        → IsSomeAnd result (λ ask. AsksWhen ask moment rule) }
-    ensures zone { OnSome result (HasZoneRule (rows_of (found_of found.now))) }
-    ensures trust { (trusted : Bool) → TellsTrust (rows_of (found_of found.now)) trusted → IfSome result (λ ask. ask.is_trusting ≡ trusted) }
-    ensures from { IfSome result (WhenFrom (rows_of (found_of found.now))) }
-{
-    Some(WhenAsk {
-        seconds: moment_asked(found),
-        zone: zone_asked(found)?,
-        is_trusting: trust_asked(found),
-    })
-}
-
-/// What the options of `import` ask for; `None` if one is missing or badly written.
-fn import_asked<'a>(found: &ArgMatches<'a>) -> Option<ImportAsk<'a>>
-    ensures asked { (store key sheet : List ℕ) (moment : Option ℤ) (rule : List ℕ)
-        → AreImportRows (rows_of (found_of found.now)) store key sheet moment rule
-        → IsSomeAnd result (λ ask. AsksImages ask store key sheet moment rule) }
-    ensures zone { OnSome result (HasZoneRule (rows_of (found_of found.now))) }
-    ensures trust { (trusted : Bool) → TellsTrust (rows_of (found_of found.now)) trusted → IfSome result (λ ask. ask.when.is_trusting ≡ trusted) }
-    ensures from { IfSome result (ImportFrom (rows_of (found_of found.now))) }
-{
-    Some(ImportAsk {
-        store: found.get_str("store")?,
-        key: key_asked(found)?,
-        sheet: found.get_str("sheet")?,
-        when: when_asked(found)?,
-    })
-}
-
-/// The desk key that its option gives, without blanks and tabs at both ends, `None` if it is
-/// absent.
-fn key_operand<'a>(found: &ArgMatches<'a>) -> Option<&'a [u8]>
-    ensures { option_map (λ trimmed. trimmed.now) result
-        ≡ option_map trim_ows (first_of (codes "key") (rows_of (found_of found.now))) }
-{
-    match found.get_str("key") {
-        Some(key) => Some(trimmed(key.as_bytes())),
-        None => None,
-    }
-}
-
-/// The accession that its option gives; `None` if it gives none.
-fn accession_asked(found: &ArgMatches) -> Option<u32>
-    ensures number { (text : List ℕ) (acc : ℕ)
-        → one_of (codes "acc") (rows_of (found_of found.now)) ≡ Some text
-        → ParsesUnsigned {E = ParseIntError} 32 10 text (Ok acc) → IsScope acc → result ≡ Some acc }
-    ensures within { IfSome result IsScope }
-    ensures from { IfSome result (IsAccessionTold (rows_of (found_of found.now))) }
-{
-    let acc = found.get_one::<u32>("acc")?;
-    if is_scope(acc) { Some(acc) } else { None }
-}
-
-/// What the options of `export` ask for; `None` if one is missing or badly written.
-fn export_asked<'a>(found: &ArgMatches<'a>) -> Option<OneQuestionAsk<'a>>
-    ensures asked { (store : List ℕ) (key : Option (List ℕ)) (moment : Option ℤ) (rule : List ℕ)
-        → AreExportRows (rows_of (found_of found.now)) store key moment rule
-        → IsSomeAnd result (λ ask. AsksOneQuestion ask store key Question.Catalogue moment rule) }
-    ensures zone { OnSome result (HasZoneRule (rows_of (found_of found.now))) }
-    ensures trust { (trusted : Bool) → TellsTrust (rows_of (found_of found.now)) trusted → IfSome result (λ ask. ask.when.is_trusting ≡ trusted) }
-    ensures question { IfSome result (λ ask. ask.question ≡ Question.Catalogue) }
-    ensures from { IfSome result (OneFrom (rows_of (found_of found.now))) }
-{
-    Some(OneQuestionAsk {
-        store: found.get_str("store")?,
-        key: key_operand(found),
-        question: Question::Catalogue,
-        when: when_asked(found)?,
-    })
-}
-
-/// What the options of `check` ask for; `None` if one is missing or badly written.
-fn check_asked<'a>(found: &ArgMatches<'a>) -> Option<OneQuestionAsk<'a>>
-    ensures asked { (store key : List ℕ) (acc : ℕ) (moment : Option ℤ) (rule : List ℕ)
-        → AreCheckRows (rows_of (found_of found.now)) store key acc moment rule
-        → IsSomeAnd result (λ ask. AsksOneQuestion ask store (Some key) (Question.Check acc) moment rule) }
-    ensures zone { OnSome result (HasZoneRule (rows_of (found_of found.now))) }
-    ensures trust { (trusted : Bool) → TellsTrust (rows_of (found_of found.now)) trusted → IfSome result (λ ask. ask.when.is_trusting ≡ trusted) }
-    ensures question { IfSome result (λ ask. IsAskable ask.question) }
-    ensures from { IfSome result (OneFrom (rows_of (found_of found.now))) }
-    ensures of { IfSome result (λ ask. IsCheck ask.question) }
-{
-    Some(OneQuestionAsk {
-        store: found.get_str("store")?,
-        key: Some(key_asked(found)?),
-        question: Question::Check(accession_asked(found)?),
-        when: when_asked(found)?,
-    })
-}
-
 /// The day whose date its option gives; `None` if it is absent.
 ///
 /// It fails with `Day` when the text is no date, and with `NoMemory`.
@@ -507,53 +275,6 @@ fn shown_asked(alloc: Global, matches: &ArgMatches) -> Result<Option<Shown>, Unr
         Some(found) => Ok(Some(shown_found(alloc, found)?)),
         None => Ok(None),
     }
-}
-
-/// What the options of `show` ask for, with what it shows; `None` if one is missing or badly written.
-fn show_asked<'a>(found: &ArgMatches<'a>, shown: Shown) -> Option<OneQuestionAsk<'a>>
-    ensures asked { (store key : List ℕ) (moment : Option ℤ) (rule : List ℕ)
-        → AreShowRows (rows_of (found_of found.now)) store key moment rule
-        → IsSomeAnd result (λ ask. AsksOneQuestion ask store (Some key) (Question.Show shown) moment rule) }
-    ensures zone { OnSome result (HasZoneRule (rows_of (found_of found.now))) }
-    ensures trust { (trusted : Bool) → TellsTrust (rows_of (found_of found.now)) trusted → IfSome result (λ ask. ask.when.is_trusting ≡ trusted) }
-    ensures question { IfSome result (λ ask. ask.question ≡ Question.Show shown) }
-    ensures from { NamesShown (rows_of (found_of found.now)) shown → IfSome result (OneFrom (rows_of (found_of found.now))) }
-{
-    Some(OneQuestionAsk {
-        store: found.get_str("store")?,
-        key: Some(key_asked(found)?),
-        question: Question::Show(shown),
-        when: when_asked(found)?,
-    })
-}
-
-/// What the options of `staff-key` ask for, `None` if one is missing.
-fn staff_key_asked<'a>(found: &ArgMatches<'a>) -> Option<StaffKeyAsk<'a>>
-    ensures asked { (store : List ℕ) (key : List ℕ)
-        → AreStaffKeyRows (rows_of (found_of found.now)) store key
-        → IsSomeAnd result (λ ask. AsksStaff ask store key) }
-    ensures from { IfSome result (StaffKeyFrom (rows_of (found_of found.now))) }
-{
-    let store = found.get_str("store")?;
-    let key = key_asked(found)?;
-    Some(StaffKeyAsk { store, key })
-}
-
-/// What the options of `copy` ask for, `None` if one is missing.
-fn copy_asked<'a>(found: &ArgMatches<'a>) -> Option<CopyAsk<'a>>
-    ensures asked { (store : List ℕ) (target : List ℕ) (summed : Bool)
-        → AreCopyRows (rows_of (found_of found.now)) store target summed
-        → IsSomeAnd result (λ ask. AsksCopying ask store target summed) }
-    ensures from { IfSome result (CopyFrom (rows_of (found_of found.now))) }
-{
-    let from = found.get_str("store")?;
-    let target = found.get_str("to")?;
-    let has_sums = sums_asked(found);
-    Some(CopyAsk {
-        store: from,
-        target,
-        has_sums,
-    })
 }
 
 /// What was seen of the words beside what they ask for.

@@ -1,0 +1,14 @@
+use Rattle.clap.specs.Words.{found_of}
+use Rattle.std.proofs.Common.{codes}
+use Rattle.rd_commands.proofs.GetterLemmas.{text_is, text_there}
+use Rattle.rd_commands.proofs.asked.file_asked.Goals as goal
+
+pub returns-in_err-get_str : goal.returns-in_err-get_str
+returns-in_err-get_str c = λ kind image slot rows. absurd (text_there (found_of c.args.found.now) (codes "IMAGE") image c.in_err-get_str.ensures rows.image_found)
+
+pub returns : goal.returns
+returns c = λ kind image slot rows. record {
+  kind_is = let same = c.in_ok-kind_asked.ensures kind rows.kind_found in cc;
+  image_is = text_is (found_of c.args.found.now) (codes "IMAGE") _ image c.in_ok-get_str.ensures rows.image_found;
+  slot_is = let same = c.in_ok-slot_asked.ensures rows.slot_text slot rows.slot_found rows.number in cc;
+}
