@@ -131,7 +131,9 @@ ends 0 "" '*' "$desk" show keys --store "$work/summed" --key abc
 ends 0 "" "$work/done" "$desk" init --store "$work/plain" --key abc
 same "bytes left alone in a page without a sum" 0 "$(od -An -tu1 -j 20 -N 1 "$work/plain" | tr -d ' ')"
 
-# No store with sums is made of the empty database that a refused opening leaves, nor where a desk is; one without is made.
+# No store with sums is made of the empty database that a refused opening of an empty file leaves, nor where a desk is; one
+# without is made.
+: >"$work/refused"
 ends 1 "desk: exists" "$work/nothing" "$desk" init --sums --store "$work/plain" --key abc
 ends 3 "desk: not-a-desk" "$work/nothing" "$desk" show keys --store "$work/refused" --key abc
 ends 3 "desk: store" "$work/nothing" "$desk" init --sums --store "$work/refused" --key abc
@@ -198,5 +200,21 @@ ends 0 "" "$work/both" "$desk" serve --store "$work/store" --socket "$socket" --
 same "the socket at the end of its desk" nothing "$(kind_at "$socket")"
 ends 3 "desk: device" "$work/nothing" "$desk" serve --store "$work/store" --socket '' --count 0
 ends 3 "desk: device" "$work/nothing" "$desk" serve --store "$work/store" --socket "$work/missing/socket" --count 0
+
+# Where no file is, no command but init makes one, and copy its new store; a file that is no database gets no log.
+for words in 'show keys' export 'check --acc 12' 'import --sheet none.csv' staff-key; do
+    key='--key abc'
+    [ "$words" = export ] && key=
+    # shellcheck disable=SC2086
+    ends 3 "desk: not-a-desk" "$work/nothing" "$desk" $words --store "$work/no-store" $key
+done
+ends 3 "desk: not-a-desk" "$work/nothing" "$desk" serve --store "$work/no-store" --socket "$work/no-socket" --count 0
+ends 3 "desk: not-a-desk" "$work/nothing" "$desk" copy --store "$work/no-store" --to "$work/no-copy"
+same "what is at a path without a store" nothing "$(kind_at "$work/no-store")"
+same "the new file of a copy of nothing" nothing "$(kind_at "$work/no-copy")"
+ends 3 "desk: store" "$work/nothing" "$desk" export --store "$work/no-folder/store"
+printf 'a text that is no database\n' >"$work/text"
+ends 3 "desk: store" "$work/nothing" "$desk" export --store "$work/text"
+same "the log beside a text" nothing "$(kind_at "$work/text-wal")"
 
 told

@@ -156,6 +156,9 @@ impl Places<HostDoor> for HostPlaces<'_> {
     }
 }
 
+/// The bytes with which the file of each database begins that is not empty.
+const DATABASE_HEAD: &[u8] = b"SQLite format 3\0";
+
 /// The machine that the program runs on.
 #[derive(Drop)]
 pub struct Host<'a, D: Door + Drop, P: Places<D> + Drop> {
@@ -206,6 +209,26 @@ fn whole_sheet(rt: &HostRuntime, alloc: Global, path: &str) -> io::Result<Vec<u8
         return Err(io::Error::from(ErrorKind::FileTooLarge));
     }
     Ok(bytes)
+}
+
+/// The path of the folder that a path is in.
+fn folder_of(path: &str) -> &str {
+    match path.rfind('/') {
+        Some(0) => "/",
+        Some(end) => &path[..end],
+        None => ".",
+    }
+}
+
+/// Whether a file is a database, or empty: no other file is opened as one, since a log would be left beside it. Of what is
+/// no file, such as a folder or a pipe, nothing is read: `sqlite` says what it is.
+fn may_be_database(rt: &HostRuntime, path: &str) -> io::Result<bool> {
+    if !fs::metadata(rt, path)?.is_file() {
+        return Ok(true);
+    }
+    let mut head = [0; 16];
+    let count = fs::open(rt, path)?.read(&mut head)?;
+    Ok(count == 0 || &head[..count] == DATABASE_HEAD)
 }
 
 impl<D: Door + Drop, P: Places<D> + Drop> Host<'_, D, P> {
@@ -298,13 +321,37 @@ impl<'a, D: Door + Drop, P: Places<D> + Drop> Machine for Host<'a, D, P> {
 
     ghost left = { λ _. None };
 
-    /// It also fails where sums are asked for and a database without them is there, in which nothing stands: it would keep
-    /// its kind.
+    fn is_missing(&mut self, path: &str) -> bool {
+        if is_no_file(path) {
+            return false;
+        }
+        match fs::symlink_metadata(self.rt, path) {
+            Ok(_) => false,
+            Err(error) => {
+                error.kind() == ErrorKind::NotFound
+                    && fs::metadata(self.rt, folder_of(path)).is_ok_and(|found| found.is_dir())
+            }
+        }
+    }
+
+    /// It opens no file that is there and is neither empty nor a database. One that goes away between this look and the
+    /// opening is made anew, empty. It also fails where sums are asked for and a database without them is there, in which
+    /// nothing stands: it would keep its kind.
     fn connect(
         &mut self,
         path: &str,
+        makes: bool,
         new_has_sums: bool,
     ) -> Result<Connection<HostDisk>, MachineFault> {
+        match may_be_database(self.rt, path) {
+            Ok(true) => {}
+            Ok(false) => {
+                self.remembered.keep(path, Said::Unfit);
+                return Err(MachineFault::Failed);
+            }
+            Err(error) if makes && error.kind() == ErrorKind::NotFound => {}
+            Err(error) => return Err(self.keep_fault(path, error)),
+        }
         let is_plain = new_has_sums && is_without_sums(self.rt, path)?;
         let conn = open_store(self.rt, path, new_has_sums)?;
         if is_plain && is_blank(conn.schema()) {

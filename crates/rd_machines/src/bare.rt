@@ -53,6 +53,7 @@ impl Machine for Bare {
     fn connect(
         &mut self,
         _path: &str,
+        _makes: bool,
         _new_has_sums: bool,
     ) -> Result<Connection<MemStore>, MachineFault> {
         Err(MachineFault::Failed)

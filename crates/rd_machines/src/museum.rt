@@ -134,7 +134,12 @@ impl<P: Supply + Drop, S: Alter + Drop> Machine for Museum<P, S> {
 
     /// It also fails at a path without a store, and if the store has not come back, or is inside a
     /// transaction.
-    fn connect(&mut self, path: &str, new_has_sums: bool) -> Result<Connection<S>, MachineFault> {
+    fn connect(
+        &mut self,
+        path: &str,
+        _makes: bool,
+        new_has_sums: bool,
+    ) -> Result<Connection<S>, MachineFault> {
         self.supply.check_store(new_has_sums)?;
         if path != STORE {
             return Err(MachineFault::Failed);

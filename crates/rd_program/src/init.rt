@@ -42,7 +42,7 @@ fn make_desk<M: Machine>(ask: InitAsk, machine: &mut M) -> Result<(), Refusal>
     ensures asked { AsksPath (M.wanted machine.old) ask.entry.store.now (M.wanted machine.new) }
     ensures sums { AsksSums (M.sums machine.old) ask.entry.has_sums (M.sums machine.new) }
 {
-    let conn = match machine.connect(ask.store, ask.has_sums) {
+    let conn = match machine.connect(ask.store, true, ask.has_sums) {
         Ok(conn) => conn,
         Err(fault) => return Err(fault.or(Refusal::Store)),
     };

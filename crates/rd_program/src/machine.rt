@@ -69,13 +69,23 @@ pub trait Machine: Files {
     /// if the machine shows them.
     ghost new_stores: { Self → Option (List (List ℕ × Bool)) } = { λ _. None };
 
-    /// A connection to the database in the file at a path, outside a transaction. It makes the
-    /// file if there is none, with a sum at the end of each page or without.
+    /// Whether nothing is at a path whose folder is there. It leaves the machine as it was.
+    fn is_missing(&mut self, _path: &str) -> bool
+        ensures missing { IsTrue result → stands self.old _path.now ≡ None }
+        ensures same { self.new ≡ self.old }
+    {
+        false
+    }
+
+    /// A connection to the database in the file at a path, outside a transaction. If there is no file, it makes one where
+    /// it is to, with a sum at the end of each page or without, and otherwise nothing.
     ///
-    /// It fails when it cannot open the file, or the file holds no sound database.
+    /// It fails when it cannot open the file, also because there is none and it makes none, or the file holds no sound
+    /// database.
     fn connect(
         &mut self,
         path: &str,
+        makes: bool,
         new_has_sums: bool,
     ) -> Result<Connection<Self::Disk>, MachineFault>
         ensures outside { IfOk result (λ conn. conn.in_transaction ≡ false) }
@@ -83,6 +93,7 @@ pub trait Machine: Files {
         ensures there { IfOk result (λ conn. IsTrue (shows self.old) → stands self.old path.now ≡ Some conn) }
         ensures none { IfErr result (λ _. LeavesNone (left self.old) (left self.new)) }
         ensures kept { IfErr result (λ _. IsTrue (shows self.old) → left self.new ≡ left self.old) }
+        ensures still_stands { IfErr result (λ _. stands self.new path.now ≡ stands self.old path.now) }
         ensures asked { AsksPath (wanted self.old) path.now (wanted self.new) }
         ensures sums { AsksSums (sums self.old) new_has_sums (sums self.new) }
         ensures shows { shows self.new ≡ shows self.old }

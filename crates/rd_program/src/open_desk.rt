@@ -14,12 +14,32 @@ ghost use Rattle.rd_policy.specs.Zones.{day_number};
 
 use crate::faults::not_opened;
 use crate::machine::Machine;
-use rd_commands::{Refusal, WhenAsk};
+use rd_commands::{MachineFault, Refusal, WhenAsk};
 use rd_desk::Desk;
 use rd_policy::{DayFault, Zone};
 use rd_store::{Refused, Store};
 use sqlite::Alter;
 use std::alloc::Global;
+
+/// Why there is no connection to the store at a path: there is no file, and then no desk; or the store failed, or memory
+/// ran out. It leaves the machine as it was.
+fn not_connected<M: Machine>(fault: MachineFault, store: &str, machine: &mut M) -> Refusal
+    ensures absent { result ≡ Refusal.NotADesk → M.stands machine.old store.now ≡ None }
+    ensures one_of { (result ≡ Refusal.NotADesk) ⊎ ((result ≡ Refusal.Store) ⊎ (result ≡ Refusal.NoMemory)) }
+    ensures memory { result ≡ Refusal.NoMemory → fault ≡ MachineFault.NoMemory }
+    ensures same { machine.new ≡ machine.old }
+{
+    match fault {
+        MachineFault::NoMemory => Refusal::NoMemory,
+        MachineFault::Failed => {
+            if machine.is_missing(store) {
+                Refusal::NotADesk
+            } else {
+                Refusal::Store
+            }
+        }
+    }
+}
 
 /// Opens the desk in the file of a store, without clocks. It brings a store of version 1 to version 2.
 ///
@@ -44,9 +64,9 @@ pub(crate) fn open_store<M: Machine>(
     ensures left { IfErr result
         (LeavesUnopened M.Disk.Store (M.left machine.old) (M.stands machine.old store.now) (M.left machine.new)) }
 {
-    let conn = match machine.connect(store, false) {
+    let conn = match machine.connect(store, false, false) {
         Ok(conn) => conn,
-        Err(fault) => return Err(fault.or(Refusal::Store)),
+        Err(fault) => return Err(not_connected(fault, store, machine)),
     };
     match Store::migrate(alloc, conn) {
         Ok(store) => Ok(store),

@@ -2,7 +2,7 @@
 
 use super::folders::Folder;
 use rd_host::Host;
-use rd_program::{Files, MachineFault};
+use rd_program::{Files, Machine, MachineFault};
 use std::alloc::Global;
 use std::fs;
 use std::test::Fail;
@@ -49,6 +49,24 @@ fn is_read(rt: &HostRuntime, read: Read, count: usize) -> Result<bool, Fail> {
     fs::write(rt, path.as_str(), bytes.as_slice())?;
     let given = given(rt, rt.alloc(), read, path.as_str());
     Ok(given == Ok(bytes))
+}
+
+#[test]
+fn the_machine_makes_no_store_where_none_is(rt: HostRuntime) -> Result<(), Fail> {
+    let folder = Folder::new(&rt)?;
+    let path = folder.path("store")?;
+    let log = folder.path("store-wal")?;
+    let mut host = Host::new(&rt);
+    fs::write(&rt, path.as_str(), b"a text that is no database")?;
+    assert!(rt; host.connect(path.as_str(), false, false).is_err());
+    assert!(rt; !host.is_missing(path.as_str()));
+    assert!(rt; !fs::exists(&rt, log.as_str())?);
+    fs::remove_file(&rt, path.as_str())?;
+    assert!(rt; host.connect(path.as_str(), false, false).is_err());
+    assert!(rt; host.is_missing(path.as_str()));
+    assert!(rt; !fs::exists(&rt, path.as_str())?);
+    assert!(rt; !host.is_missing("/no-such-folder/museum.sqlite"));
+    Ok(())
 }
 
 #[test]
