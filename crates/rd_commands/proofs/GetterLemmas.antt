@@ -24,10 +24,10 @@ use Rattle.rd_policy.specs.declared.zone.Zone.{Zone}
 use Rattle.rd_policy.specs.declared.zone.ZoneFault.{ZoneFault}
 use Rattle.rd_geometry.specs.Kinds.{word_of}
 use Rattle.clap.specs.declared.error.kind.ErrorKind.{ErrorKind}
-use Rattle.rd_commands.specs.Asks.{EntersAs, EntersByRule, EntersCat, EntersCheck, EntersCopy, EntersExport, EntersImport, EntersInit, EntersList, EntersNaming, EntersNamingNone, EntersNoPlace, EntersServe, EntersShow, EntersStaffKey, EntersSumming, EntersTelling, EntersTimed, HasTimeouts, IsCopyAsk, IsFaultOf, IsFileAsk, IsFilesAsk, IsForMemory, IsHelp, IsImportAsk, IsInitAsk, IsMistake, IsMomentNamed, IsOneQuestionAsk, IsServeAsk, IsStaffKeyAsk, IsWithinLimits, TellsOnOutput, has_sums, EntersTrusting, is_trusting}
+use Rattle.rd_commands.specs.Asks.{EntersAs, EntersByRule, EntersCat, EntersCheck, EntersCopy, EntersExport, EntersFiles, EntersImport, EntersInit, EntersList, EntersNaming, EntersNamingNone, EntersNoPlace, EntersServe, EntersShow, EntersSift, EntersStaffKey, EntersSumming, EntersTelling, EntersTimed, HasTimeouts, IsCopyAsk, IsExtractAsk, IsFaultOf, IsFileAsk, IsFilesAsk, IsForMemory, IsHelp, IsImportAsk, IsInitAsk, IsMistake, IsMomentNamed, IsOneQuestionAsk, IsServeAsk, IsSiftAsk, IsStaffKeyAsk, IsWithinLimits, TellsOnOutput, has_sums, EntersTrusting, is_trusting}
 use Rattle.rd_commands.specs.CommandLine.{AsksForHelp, Enters, HasFault, IsDeskApp, IsTaken, IsTakenAs, IsTakenTelling, NameList, desk_app}
+use Rattle.rd_commands.specs.Commands.{AsksCheck, AsksCopy, AsksExport, AsksFiles, AsksImport, AsksInit, AsksServe, AsksShow, AsksSift, AsksStaffKey, IsAskOf, IsCommand, IsTakenServingNowhere, IsTakenShowingNothing, NamesWhatItShows, Sums, TellsARule, Trusts}
 use Rattle.rd_commands.specs.Beside.{EntersApart, IsTakenApart}
-use Rattle.rd_commands.specs.Commands.{AsksCheck, AsksCopy, AsksExport, AsksImport, AsksInit, AsksServe, AsksShow, AsksStaffKey, IsAskOf, IsCommand, IsTakenServingNowhere, IsTakenShowingNothing, NamesWhatItShows, Sums, TellsARule, Trusts}
 use Rattle.rd_commands.specs.Serving.{Place}
 use Rattle.rd_commands.specs.Words.{AsksCat, AsksList, IsSlotText}
 use Rattle.rd_commands.specs.Zones.{HasClocks, IsFlagTold, rule_text}
@@ -102,7 +102,7 @@ flag_is None flag r none on off told = none refl ∙ sym told
 
 -- the words that a parse of the program's command line was given went into a command
 pub entered_is : (app : App) (words : List Text) (m : ArgMatches) → IsDeskApp app → HasMatchesOf app words m → subcommand_of app words ≡ subcommand_rows_of m
-entered_is app words m desk matches = sym (matches (ap is_simple desk.is ∙ simple desk.cat_kinds desk.list_kinds desk.shown)).1
+entered_is app words m desk matches = sym (matches (ap is_simple desk.is ∙ simple desk.cat_kinds desk.list_kinds desk.files_kinds desk.shown)).1
 
 -- What a parse of the words found is what they ask for.
 pub record GivesAsk (words : List Text) (o : Option Ask) : Type 0 where
@@ -119,6 +119,9 @@ pub record GivesAsk (words : List Text) (o : Option Ask) : Type 0 where
       → IsSomeAnd o (IsOneQuestionAsk store (Some key) (Check acc) moment rule)
   pub show : (store key : Text) (shown : Shown) (moment : Option ℤ) (rule : Text) → AsksShow words store key shown moment rule
       → IsSomeAnd o (IsOneQuestionAsk store (Some key) (Show shown) moment rule)
+  pub sift : (store key sheet : Text) (moment : Option ℤ) (rule : Text) (dry_run keep_going : Bool) → AsksSift words store key sheet moment rule dry_run keep_going
+      → IsSomeAnd o (IsSiftAsk store key sheet moment rule dry_run keep_going)
+  pub extract : (kind : Kind) (image folder : Text) → AsksFiles words kind image folder → IsSomeAnd o (IsExtractAsk kind image folder)
   pub staff_key : (store key : Text) → AsksStaffKey words store key → IsSomeAnd o (IsStaffKeyAsk store key)
   pub copy : (store target : Text) (summed : Bool) → AsksCopy words store target summed → IsSomeAnd o (IsCopyAsk store target summed)
 
@@ -137,6 +140,9 @@ pub record GivesRows (entered : Option (Text × List Row)) (shown : Option Shown
       → IsSomeAnd o (IsOneQuestionAsk store (Some key) (Check acc) moment rule)
   pub show : (store key : Text) (what : Shown) (moment : Option ℤ) (rule : Text) → shown ≡ Some what → EntersShow entered store key moment rule
       → IsSomeAnd o (IsOneQuestionAsk store (Some key) (Show what) moment rule)
+  pub sift : (store key sheet : Text) (moment : Option ℤ) (rule : Text) (dry_run keep_going : Bool) → EntersSift entered store key sheet moment rule dry_run keep_going
+      → IsSomeAnd o (IsSiftAsk store key sheet moment rule dry_run keep_going)
+  pub extract : (kind : Kind) (image folder : Text) → EntersFiles entered kind image folder → IsSomeAnd o (IsExtractAsk kind image folder)
   pub staff_key : (store key : Text) → EntersStaffKey entered store key → IsSomeAnd o (IsStaffKeyAsk store key)
   pub copy : (store target : Text) (summed : Bool) → EntersCopy entered store target summed → IsSomeAnd o (IsCopyAsk store target summed)
 
@@ -157,13 +163,18 @@ ask_given o shown app words m desk matches naming given =
       serve = λ store place count rule asks. given.serve store place count rule (record { rows = asks.rows; into = sym same ∙ asks.enters.into app desk; found = asks.found });
       timeouts = λ rows enters. timed_rows o (subcommand_rows_of m) rows (sym same ∙ enters.into app desk) given.timeouts;
       import = λ store key sheet moment rule asks.
-          given.import store key sheet moment rule (record { rows = asks.rows; into = sym same ∙ asks.enters.into app desk; found = asks.found });
+          given.import store key sheet moment rule (record { rows = asks.rows; into = sym same ∙ asks.enters.into app desk; found = asks.found; ways = asks.ways });
       export = λ store key moment rule asks. given.export store key moment rule (record { rows = asks.rows; into = sym same ∙ asks.enters.into app desk; found = asks.found });
       check = λ store key acc moment rule asks. given.check store key acc moment rule (record { rows = asks.rows; into = sym same ∙ asks.enters.into app desk; found = asks.found });
       show = λ store key what moment rule asks.
           let into = sym same ∙ asks.enters.into app desk in
           given.show store key what moment rule (named_given shown asks.rows what (naming asks.rows into) asks.names)
           (record { rows = asks.rows; into = into; found = asks.found });
+      sift = λ store key sheet moment rule dry_run keep_going asks.
+          given.sift store key sheet moment rule dry_run keep_going
+          (record { rows = asks.rows; into = sym same ∙ asks.enters.into app desk; found = asks.found; ways = asks.ways; one = asks.one });
+      extract = λ kind image folder asks.
+          given.extract kind image folder (record { rows = asks.rows; into = sym same ∙ asks.enters.into app desk; found = asks.found });
       staff_key = λ store key asks. given.staff_key store key (record { rows = asks.rows; into = sym same ∙ asks.enters.into app desk; found = asks.found });
       copy = λ store target summed asks. given.copy store target summed (record { rows = asks.rows; into = sym same ∙ asks.enters.into app desk; found = asks.found });
     }
@@ -171,7 +182,7 @@ ask_given o shown app words m desk matches naming given =
 -- words that are read are what is asked for
 pub ask_read : (o : Option Ask) (fault : Unread) (r : Result Ask Unread) (words : List Text) → r ≡ ok_or o fault → GivesAsk words o
     → IfOk r (IsAskOf words)
-ask_read (Some ask) fault r words is given = subst (λ x. IfOk x (IsAskOf words)) (sym is) (record { file = given.file; files = given.files; init = given.init; serve = given.serve; timeouts = given.timeouts; import = given.import; export = given.export; check = given.check; show = given.show; staff_key = given.staff_key; copy = given.copy })
+ask_read (Some ask) fault r words is given = subst (λ x. IfOk x (IsAskOf words)) (sym is) (record { file = given.file; files = given.files; init = given.init; serve = given.serve; timeouts = given.timeouts; import = given.import; export = given.export; check = given.check; show = given.show; sift = given.sift; extract = given.extract; staff_key = given.staff_key; copy = given.copy })
 ask_read None fault r words is given = subst (λ x. IfOk x (IsAskOf words)) (sym is) tt
 
 -- an accession that is read is a number of one
@@ -179,12 +190,12 @@ pub ask_accession : (o : Option Ask) (fault : Unread) (r : Result Ask Unread) �
 ask_accession (Some ask) fault r is has = subst (λ x. IfOk x IsWithinLimits) (sym is) has
 ask_accession None fault r is has = subst (λ x. IfOk x IsWithinLimits) (sym is) tt
 
-free : (kinds others shown : NameList) → is_simple_and_free (desk_app kinds others shown) ≡ true
-free kinds others shown = refl
+free : (kinds others more shown : NameList) → is_simple_and_free (desk_app kinds others more shown) ≡ true
+free kinds others more shown = refl
 
 -- words that a parse takes have no fault
 pub taken_by : (app : App) (words : List Text) → IsDeskApp app → (is_simple_and_free app ≡ true → fault_of app words ≡ []) → IsTaken words
-taken_by app words desk none = record { app = app; is_desk = desk; no_fault = none (ap is_simple_and_free desk.is ∙ free desk.cat_kinds desk.list_kinds desk.shown) }
+taken_by app words desk none = record { app = app; is_desk = desk; no_fault = none (ap is_simple_and_free desk.is ∙ free desk.cat_kinds desk.list_kinds desk.files_kinds desk.shown) }
 
 -- so where a parse of the words succeeds
 pub words_taken : {T E : Type 0} (r : Result T E) (app : App) (words : List Text) → IsDeskApp app → (is_simple_and_free app ≡ true → fault_of app words ≡ [])
@@ -195,7 +206,7 @@ words_taken (Err error) app words desk none = tt
 -- where it fails, they have a fault of the error's kind, or memory ran out
 pub words_at_fault : (app : App) (words : List Text) (error : Error) → IsDeskApp app → (is_simple_and_free app ≡ true → HasKind (fault_of app words) error)
     → IsFaultOf words (Clap error)
-words_at_fault app words error desk has = elim (has (ap is_simple_and_free desk.is ∙ free desk.cat_kinds desk.list_kinds desk.shown)) [
+words_at_fault app words error desk has = elim (has (ap is_simple_and_free desk.is ∙ free desk.cat_kinds desk.list_kinds desk.files_kinds desk.shown)) [
   | inl out ↦ inl out
   | inr among ↦ inr (record { app = app; is_desk = desk; fault = among })
 ]
@@ -246,21 +257,21 @@ pub fails_for_memory : (app : App) (words : List Text) (error : Error) → IsDes
 fails_for_memory app words error desk (inl cat) passes has = passes (takes_cat app words cat.0 cat.1 cat.2 desk cat.3)
 fails_for_memory app words error desk (inr (inl list)) passes has = passes (takes_list app words list.0 list.1 desk list.2)
 fails_for_memory app words error desk (inr (inr (inl init))) passes has =
-    none_among (fault_of app words) error (init.2.enters.no_fault app desk) (has (ap is_simple_and_free desk.is ∙ free desk.cat_kinds desk.list_kinds desk.shown))
+    none_among (fault_of app words) error (init.2.enters.no_fault app desk) (has (ap is_simple_and_free desk.is ∙ free desk.cat_kinds desk.list_kinds desk.files_kinds desk.shown))
 fails_for_memory app words error desk (inr (inr (inr (inl serve)))) passes has =
-    none_among (fault_of app words) error (serve.4.enters.no_fault app desk) (has (ap is_simple_and_free desk.is ∙ free desk.cat_kinds desk.list_kinds desk.shown))
+    none_among (fault_of app words) error (serve.4.enters.no_fault app desk) (has (ap is_simple_and_free desk.is ∙ free desk.cat_kinds desk.list_kinds desk.files_kinds desk.shown))
 fails_for_memory app words error desk (inr (inr (inr (inr (inl import))))) passes has =
-    none_among (fault_of app words) error (import.5.enters.no_fault app desk) (has (ap is_simple_and_free desk.is ∙ free desk.cat_kinds desk.list_kinds desk.shown))
+    none_among (fault_of app words) error (import.5.enters.no_fault app desk) (has (ap is_simple_and_free desk.is ∙ free desk.cat_kinds desk.list_kinds desk.files_kinds desk.shown))
 fails_for_memory app words error desk (inr (inr (inr (inr (inr (inl export)))))) passes has =
-    none_among (fault_of app words) error (export.4.enters.no_fault app desk) (has (ap is_simple_and_free desk.is ∙ free desk.cat_kinds desk.list_kinds desk.shown))
+    none_among (fault_of app words) error (export.4.enters.no_fault app desk) (has (ap is_simple_and_free desk.is ∙ free desk.cat_kinds desk.list_kinds desk.files_kinds desk.shown))
 fails_for_memory app words error desk (inr (inr (inr (inr (inr (inr (inl check))))))) passes has =
-    none_among (fault_of app words) error (check.1.4.enters.no_fault app desk) (has (ap is_simple_and_free desk.is ∙ free desk.cat_kinds desk.list_kinds desk.shown))
+    none_among (fault_of app words) error (check.1.4.enters.no_fault app desk) (has (ap is_simple_and_free desk.is ∙ free desk.cat_kinds desk.list_kinds desk.files_kinds desk.shown))
 fails_for_memory app words error desk (inr (inr (inr (inr (inr (inr (inr (inl show)))))))) passes has =
-    none_among (fault_of app words) error (show.5.enters.no_fault app desk) (has (ap is_simple_and_free desk.is ∙ free desk.cat_kinds desk.list_kinds desk.shown))
+    none_among (fault_of app words) error (show.5.enters.no_fault app desk) (has (ap is_simple_and_free desk.is ∙ free desk.cat_kinds desk.list_kinds desk.files_kinds desk.shown))
 fails_for_memory app words error desk (inr (inr (inr (inr (inr (inr (inr (inr (inl staff_key))))))))) passes has =
-    none_among (fault_of app words) error (staff_key.2.enters.no_fault app desk) (has (ap is_simple_and_free desk.is ∙ free desk.cat_kinds desk.list_kinds desk.shown))
+    none_among (fault_of app words) error (staff_key.2.enters.no_fault app desk) (has (ap is_simple_and_free desk.is ∙ free desk.cat_kinds desk.list_kinds desk.files_kinds desk.shown))
 fails_for_memory app words error desk (inr (inr (inr (inr (inr (inr (inr (inr (inr copy))))))))) passes has =
-    none_among (fault_of app words) error (copy.3.enters.no_fault app desk) (has (ap is_simple_and_free desk.is ∙ free desk.cat_kinds desk.list_kinds desk.shown))
+    none_among (fault_of app words) error (copy.3.enters.no_fault app desk) (has (ap is_simple_and_free desk.is ∙ free desk.cat_kinds desk.list_kinds desk.files_kinds desk.shown))
 
 -- words that `clap` takes as a command have no fault
 pub no_fault_in : (words : List Text) (name : Text) (rows : List Row) (kind : ErrorKind) → Enters words name rows → HasFault words kind → ⊥
@@ -286,12 +297,13 @@ unset : false ≡ true → ⊥
 unset set = cc
 
 -- the commands on images, `init`, `staff-key` and `copy` have no clocks
-pub clockless : (name : Text) → (name ≡ codes "cat") ⊎ ((name ≡ codes "list") ⊎ ((name ≡ codes "init") ⊎ ((name ≡ codes "staff-key") ⊎ (name ≡ codes "copy")))) → HasClocks name → ⊥
+pub clockless : (name : Text) → (name ≡ codes "cat") ⊎ ((name ≡ codes "list") ⊎ ((name ≡ codes "files") ⊎ ((name ≡ codes "init") ⊎ ((name ≡ codes "staff-key") ⊎ (name ≡ codes "copy"))))) → HasClocks name → ⊥
 clockless name (inl cat) clocks = unset (subst (λ n. is_clocked (second n) ≡ true) cat (clocked name clocks))
 clockless name (inr (inl list)) clocks = unset (subst (λ n. is_clocked (second n) ≡ true) list (clocked name clocks))
-clockless name (inr (inr (inl init))) clocks = unset (subst (λ n. is_clocked (second n) ≡ true) init (clocked name clocks))
-clockless name (inr (inr (inr (inl staff_key)))) clocks = unset (subst (λ n. is_clocked (second n) ≡ true) staff_key (clocked name clocks))
-clockless name (inr (inr (inr (inr copy)))) clocks = unset (subst (λ n. is_clocked (second n) ≡ true) copy (clocked name clocks))
+clockless name (inr (inr (inl files))) clocks = unset (subst (λ n. is_clocked (second n) ≡ true) files (clocked name clocks))
+clockless name (inr (inr (inr (inl init)))) clocks = unset (subst (λ n. is_clocked (second n) ≡ true) init (clocked name clocks))
+clockless name (inr (inr (inr (inr (inl staff_key))))) clocks = unset (subst (λ n. is_clocked (second n) ≡ true) staff_key (clocked name clocks))
+clockless name (inr (inr (inr (inr (inr copy))))) clocks = unset (subst (λ n. is_clocked (second n) ≡ true) copy (clocked name clocks))
 
 -- the rows of the command that a parse went into
 pub rows_met : (m : ArgMatches) (name : Text) (rows shown : List Row) → subcommand_rows_of m ≡ Some (name, rows)
@@ -404,7 +416,7 @@ module _ (app : App) (words : List Text) (m : ArgMatches) (desk : IsDeskApp app)
   taken_as name entered = record {
     app = app;
     is_desk = desk;
-    no_fault = none (ap is_simple_and_free desk.is ∙ free desk.cat_kinds desk.list_kinds desk.shown);
+    no_fault = none (ap is_simple_and_free desk.is ∙ free desk.cat_kinds desk.list_kinds desk.files_kinds desk.shown);
     rows = entered.0;
     into = entered_is app words m desk matches ∙ entered.1;
   }

@@ -13,23 +13,23 @@ use Rattle.rd_commands.specs.Words.{AsksHelp}
 use Rattle.rd_commands.specs.declared.help.TheConstants.{DESK_HELP}
 use Rattle.rd_commands.specs.declared.words.Unread.TheVariants.{Clap}
 
-long_shows : (kinds others shown : NameList) (rest : List Text) → fault_of (desk_app kinds others shown) (codes "--help" ∷ rest) ≡ DisplayHelp ∷ []
+long_shows : (kinds others more shown : NameList) (rest : List Text) → fault_of (desk_app kinds others more shown) (codes "--help" ∷ rest) ≡ DisplayHelp ∷ []
 unfolding clap_on_literals
-long_shows kinds others shown rest = refl
+long_shows kinds others more shown rest = refl
 
-short_shows : (kinds others shown : NameList) (rest : List Text) → fault_of (desk_app kinds others shown) (codes "-h" ∷ rest) ≡ DisplayHelp ∷ []
+short_shows : (kinds others more shown : NameList) (rest : List Text) → fault_of (desk_app kinds others more shown) (codes "-h" ∷ rest) ≡ DisplayHelp ∷ []
 unfolding clap_on_literals
-short_shows kinds others shown rest = refl
+short_shows kinds others more shown rest = refl
 
 -- help is shown, and nothing else
 shows_help : (app : App) (words : List Text) → IsDeskApp app → AsksHelp words → fault_of app words ≡ DisplayHelp ∷ []
 shows_help app words desk asks = elim asks.1 [
-  | inl long ↦ ap₂ fault_of desk.is long ∙ long_shows desk.cat_kinds desk.list_kinds desk.shown asks.0
-  | inr short ↦ ap₂ fault_of desk.is short ∙ short_shows desk.cat_kinds desk.list_kinds desk.shown asks.0
+  | inl long ↦ ap₂ fault_of desk.is long ∙ long_shows desk.cat_kinds desk.list_kinds desk.files_kinds desk.shown asks.0
+  | inr short ↦ ap₂ fault_of desk.is short ∙ short_shows desk.cat_kinds desk.list_kinds desk.files_kinds desk.shown asks.0
 ]
 
-free : (kinds others shown : NameList) → is_simple_and_free (desk_app kinds others shown) ≡ true
-free kinds others shown = refl
+free : (kinds others more shown : NameList) → is_simple_and_free (desk_app kinds others more shown) ≡ true
+free kinds others more shown = refl
 
 -- the words are no command
 not_faultless : (app : App) (words : List Text) → IsDeskApp app → fault_of app words ≡ [] → AsksHelp words → ⊥
@@ -42,7 +42,7 @@ help_not_taken words taken asks = not_faultless taken.app words taken.is_desk ta
 
 -- nor are they words that a parse takes
 pub not_help : (app : App) (words : List Text) → IsDeskApp app → (is_simple_and_free app ≡ true → fault_of app words ≡ []) → AsksHelp words → ⊥
-not_help app words desk none asks = not_faultless app words desk (none (ap is_simple_and_free desk.is ∙ free desk.cat_kinds desk.list_kinds desk.shown)) asks
+not_help app words desk none asks = not_faultless app words desk (none (ap is_simple_and_free desk.is ∙ free desk.cat_kinds desk.list_kinds desk.files_kinds desk.shown)) asks
 
 -- so where a parse of the words succeeds
 pub help_not_parsed : {T E : Type 0} (r : Result T E) (P : E → Type 0) (app : App) (words : List Text) → IsDeskApp app
@@ -64,7 +64,7 @@ one_kind kinds error is has = elim (subst (λ ks. HasKind ks error) is has) [
 pub help_unread : (app : App) (words : List Text) (error : Error) → IsDeskApp app → (is_simple_and_free app ≡ true → HasKind (fault_of app words) error)
     → AsksHelp words → IsForMemory (Clap error) ⊎ IsHelp (Clap error)
 help_unread app words error desk has asks =
-    one_kind (fault_of app words) error (shows_help app words desk asks) (has (ap is_simple_and_free desk.is ∙ free desk.cat_kinds desk.list_kinds desk.shown))
+    one_kind (fault_of app words) error (shows_help app words desk asks) (has (ap is_simple_and_free desk.is ∙ free desk.cat_kinds desk.list_kinds desk.files_kinds desk.shown))
 
 -- it is the help of the program
 pub help_of_desk : (words : List Text) → AsksHelp words → help_for words ≡ DESK_HELP.now

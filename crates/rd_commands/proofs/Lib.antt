@@ -9,6 +9,7 @@ pub mod ShowWords
 pub mod GetterLemmas
 pub mod Together
 pub mod Looks
+pub mod SheetAsks
 pub mod Places
 pub mod WriterLemmas
 pub mod ExplainLemmas

@@ -15,56 +15,56 @@ use Rattle.rd_commands.proofs.Operands.{ArePlain, level_passes-plain, rows_after
 use Rattle.rd_commands.proofs.Texts.{kind_accepted, kind_plain, operand_plain}
 
 -- `list` as it is built
-abbrev pub list_leaf : NameList → NameList → NameList → Shape
-list_leaf kinds others shown = built_leaf (inherited (desk_app others kinds shown).top (list_app kinds).top)
+abbrev pub list_leaf : NameList → NameList → NameList → NameList → Shape
+list_leaf kinds others more shown = built_leaf (inherited (desk_app others kinds more shown).top (list_app kinds).top)
 
 -- the rows of `list` where its words are its operands
-abbrev pub list_rows : NameList → NameList → NameList → List Text → List Row
-list_rows kinds others shown words = finished (list_leaf kinds others shown).rules (fold (taken (list_leaf kinds others shown).rules) (walk_from nothing_held) words).held
+abbrev pub list_rows : NameList → NameList → NameList → NameList → List Text → List Row
+list_rows kinds others more shown words = finished (list_leaf kinds others more shown).rules (fold (taken (list_leaf kinds others more shown).rules) (walk_from nothing_held) words).held
 
-stops_at_list : (kinds others shown : NameList) (kind image : Text)
-    → (walk (built (desk_app others kinds shown)).top.rules (names_of (built (desk_app others kinds shown))) nothing_held (list_words kind image)).stopped
+stops_at_list : (kinds others more shown : NameList) (kind image : Text)
+    → (walk (built (desk_app others kinds more shown)).top.rules (names_of (built (desk_app others kinds more shown))) nothing_held (list_words kind image)).stopped
     ≡ Some (codes "list", kind ∷ image ∷ [])
 unfolding clap_on_literals
-stops_at_list kinds others shown kind image = refl
+stops_at_list kinds others more shown kind image = refl
 
-list_level : (kinds others shown : NameList) (words : List Text)
-    → entered_passes (built (desk_app others kinds shown)) (Some (codes "list", words)) ≡ level_passes (list_leaf kinds others shown) [] nothing_held words false
-list_level kinds others shown words = refl
+list_level : (kinds others more shown : NameList) (words : List Text)
+    → entered_passes (built (desk_app others kinds more shown)) (Some (codes "list", words)) ≡ level_passes (list_leaf kinds others more shown) [] nothing_held words false
+list_level kinds others more shown words = refl
 
-top_passes : (kinds others shown : NameList) (kind image : Text)
-    → level_passes (built (desk_app others kinds shown)).top (names_of (built (desk_app others kinds shown))) nothing_held (list_words kind image) true ≡ true
+top_passes : (kinds others more shown : NameList) (kind image : Text)
+    → level_passes (built (desk_app others kinds more shown)).top (names_of (built (desk_app others kinds more shown))) nothing_held (list_words kind image) true ≡ true
 unfolding clap_on_literals
-top_passes kinds others shown kind image = refl
+top_passes kinds others more shown kind image = refl
 
-operands_pass : (kinds others shown : NameList) (kind image : Text) → accepts false (Names kinds) kind ≡ true
-    → values_pass_level (list_leaf kinds others shown) (kind ∷ image ∷ []) ≡ true
+operands_pass : (kinds others more shown : NameList) (kind image : Text) → accepts false (Names kinds) kind ≡ true
+    → values_pass_level (list_leaf kinds others more shown) (kind ∷ image ∷ []) ≡ true
 unfolding clap_on_literals
-operands_pass kinds others shown kind image kind_passes = rw kind_passes refl
+operands_pass kinds others more shown kind image kind_passes = rw kind_passes refl
 
-takes_operands : (kinds others shown : NameList) (kind image : Text) → ArePlain (kind ∷ image ∷ [])
+takes_operands : (kinds others more shown : NameList) (kind image : Text) → ArePlain (kind ∷ image ∷ [])
     → accepts false (Names kinds) kind ≡ true
-    → takes (desk_app others kinds shown) (list_words kind image) ≡ true
-takes_operands kinds others shown kind image plain kind_passes =
-    let desk = built (desk_app others kinds shown) in
+    → takes (desk_app others kinds more shown) (list_words kind image) ≡ true
+takes_operands kinds others more shown kind image plain kind_passes =
+    let desk = built (desk_app others kinds more shown) in
     let words = list_words kind image in
-    ap (λ stop. entered_passes desk stop && level_passes desk.top (names_of desk) nothing_held words (is_some (entered desk stop))) (stops_at_list kinds others shown kind image)
+    ap (λ stop. entered_passes desk stop && level_passes desk.top (names_of desk) nothing_held words (is_some (entered desk stop))) (stops_at_list kinds others more shown kind image)
     ∙ ap₂ (λ (below here : Bool). below && here)
-    (list_level kinds others shown (kind ∷ image ∷ []) ∙ level_passes-plain (list_leaf kinds others shown) (kind ∷ image ∷ []) plain ∙ operands_pass kinds others shown kind image kind_passes)
-    (top_passes kinds others shown kind image)
+    (list_level kinds others more shown (kind ∷ image ∷ []) ∙ level_passes-plain (list_leaf kinds others more shown) (kind ∷ image ∷ []) plain ∙ operands_pass kinds others more shown kind image kind_passes)
+    (top_passes kinds others more shown kind image)
 
-enters_list : (kinds others shown : NameList) (kind image : Text)
-    → subcommand_of (desk_app others kinds shown) (list_words kind image) ≡ Some (codes "list", rows_after (list_leaf kinds others shown).rules [] (kind ∷ image ∷ []))
+enters_list : (kinds others more shown : NameList) (kind image : Text)
+    → subcommand_of (desk_app others kinds more shown) (list_words kind image) ≡ Some (codes "list", rows_after (list_leaf kinds others more shown).rules [] (kind ∷ image ∷ []))
 unfolding clap_on_literals
-enters_list kinds others shown kind image = refl
+enters_list kinds others more shown kind image = refl
 
-kind_row : (kinds others shown : NameList) (kind image : Text) → first_of (codes "KIND") (list_rows kinds others shown (kind ∷ image ∷ [])) ≡ Some kind
+kind_row : (kinds others more shown : NameList) (kind image : Text) → first_of (codes "KIND") (list_rows kinds others more shown (kind ∷ image ∷ [])) ≡ Some kind
 unfolding clap_on_literals
-kind_row kinds others shown kind image = refl
+kind_row kinds others more shown kind image = refl
 
-image_row : (kinds others shown : NameList) (kind image : Text) → first_of (codes "IMAGE") (list_rows kinds others shown (kind ∷ image ∷ [])) ≡ Some image
+image_row : (kinds others more shown : NameList) (kind image : Text) → first_of (codes "IMAGE") (list_rows kinds others more shown (kind ∷ image ∷ [])) ≡ Some image
 unfolding clap_on_literals
-image_row kinds others shown kind image = refl
+image_row kinds others more shown kind image = refl
 
 words_plain : (kind : Kind) (image : Text) → IsOperand image → ArePlain (word_of kind ∷ image ∷ [])
 words_plain kind image operand = (kind_plain kind, (operand_plain image operand, tt))
@@ -73,7 +73,7 @@ words_plain kind image operand = (kind_plain kind, (operand_plain image operand,
 pub takes_list : (app : App) (words : List Text) (kind : Kind) (image : Text) → IsDeskApp app → AsksList words kind image → takes app words ≡ true
 takes_list app words kind image desk asks =
     ap₂ takes desk.is asks.spelled
-    ∙ takes_operands desk.list_kinds desk.cat_kinds desk.shown (word_of kind) image (words_plain kind image asks.operand)
+    ∙ takes_operands desk.list_kinds desk.cat_kinds desk.files_kinds desk.shown (word_of kind) image (words_plain kind image asks.operand)
     (kind_accepted desk.list_kinds kind desk.list_names)
 
 -- a parse of a command enters `list`, with the command's operands
@@ -83,11 +83,11 @@ gives_list app words kind image desk asks =
     let plain = words_plain kind image asks.operand in
     let operands = word_of kind ∷ image ∷ [] in
     record {
-      rows = list_rows desk.list_kinds desk.cat_kinds desk.shown operands;
-      into = ap₂ subcommand_of desk.is asks.spelled ∙ enters_list desk.list_kinds desk.cat_kinds desk.shown (word_of kind) image
-          ∙ ap (λ (rows : List Row). Some (codes "list", rows)) (rows_after-plain (list_leaf desk.list_kinds desk.cat_kinds desk.shown).rules operands plain);
+      rows = list_rows desk.list_kinds desk.cat_kinds desk.files_kinds desk.shown operands;
+      into = ap₂ subcommand_of desk.is asks.spelled ∙ enters_list desk.list_kinds desk.cat_kinds desk.files_kinds desk.shown (word_of kind) image
+          ∙ ap (λ (rows : List Row). Some (codes "list", rows)) (rows_after-plain (list_leaf desk.list_kinds desk.cat_kinds desk.files_kinds desk.shown).rules operands plain);
       found = record {
-        kind_found = kind_row desk.list_kinds desk.cat_kinds desk.shown (word_of kind) image;
-        image_found = image_row desk.list_kinds desk.cat_kinds desk.shown (word_of kind) image;
+        kind_found = kind_row desk.list_kinds desk.cat_kinds desk.files_kinds desk.shown (word_of kind) image;
+        image_found = image_row desk.list_kinds desk.cat_kinds desk.files_kinds desk.shown (word_of kind) image;
       };
     }

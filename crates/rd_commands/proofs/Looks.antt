@@ -12,13 +12,14 @@ use Rattle.clap.specs.Words.{Row, Text, first_of, first_value, one_of, rows_of}
 use Rattle.clap.specs.declared.parser.matches.Found.{Found}
 use Rattle.clap.proofs.WalkLemmas.{first_value-rows}
 use Rattle.rd_policy.specs.Dates.{IsDateOf}
-use Rattle.rd_commands.specs.Asks.{EntersNamed, EntersNaming, IsCheck, IsMomentNamed, IsSeenFault}
+use Rattle.rd_commands.specs.Asks.{EntersNamed, EntersNaming, EntersTimed, IsCheck, IsMomentNamed, IsSeenFault, IsWithinLimits, TellsInRows}
 use Rattle.rd_commands.specs.Beside.{IsApart, IsDayTold, IsMomentText, IsOneAtMost, IsSeconds}
 use Rattle.rd_commands.specs.Serving.{IsCountGiven}
-use Rattle.rd_commands.specs.Told.{AreSecondsTold, CallerFrom, EntersFrom, IsAccessionTold, OneFrom, question_name}
+use Rattle.rd_commands.specs.Told.{AreSecondsTold, AskFrom, CallerFrom, EntersFrom, IsAccessionTold, OneFrom, command_name, question_name}
 use Rattle.rd_commands.specs.declared.words.Question.TheVariants.{Catalogue, Check}
 use Rattle.rd_commands.specs.declared.words.Question.{Question}
-use Rattle.rd_commands.specs.declared.words.Ask.TheVariants.{OneQuestion}
+use Rattle.rd_commands.specs.declared.words.Ask.{Ask}
+use Rattle.rd_commands.specs.declared.words.Ask.TheVariants.{Import, OneQuestion, Sift}
 use Rattle.rd_commands.specs.declared.words.OneQuestionAsk.{OneQuestionAsk}
 use Rattle.rd_commands.specs.Shown.{NamesAny, NamesShown}
 use Rattle.rd_commands.specs.declared.words.Shown.{Shown}
@@ -188,10 +189,26 @@ pub question_from : (entered : Option (Text × List Row)) (rows : List Row) (ask
     → question_name ask.question ≡ name → OneFrom rows ask → EntersFrom entered (OneQuestion ask)
 question_from entered rows ask name into is from = (rows, into ∙ ap (λ (n : Text). Some (n, rows)) (sym is), from)
 
+-- a sheet goes with `import`
+pub sheet_from : (entered : Option (Text × List Row)) (rows : List Row) (ask : Ask) → entered ≡ Some (codes "import", rows)
+    → command_name ask ≡ codes "import" → AskFrom rows ask → EntersFrom entered ask
+sheet_from entered rows ask into is from = (rows, into ∙ ap (λ (n : Text). Some (n, rows)) (sym is), from)
+
 -- what `show` shows is named in its rows
 pub shown_in : (entered : Option (Text × List Row)) (shown : Option Shown) (what : Shown) (rows : List Row) → EntersNaming entered shown
     → entered ≡ Some (codes "show", rows) → shown ≡ Some what → NamesShown rows what
 shown_in entered shown what rows naming into is = subst (λ o. IsSomeAnd o (NamesShown rows)) is (naming rows into)
+
+-- the commands on sheets name no accession, and give visitors no time
+pub sheet_within : (ask : Ask) → TellsInRows ask → IsWithinLimits ask
+sheet_within (Import ask) rows = tt
+sheet_within (Sift ask) rows = tt
+sheet_within other rows = absurd rows
+
+pub sheet_timed : (ask : Ask) (entered : Option (Text × List Row)) → TellsInRows ask → EntersTimed entered ask
+sheet_timed (Import ask) entered rows = λ found into. tt
+sheet_timed (Sift ask) entered rows = λ found into. tt
+sheet_timed other entered rows = absurd rows
 
 -- ---- options that do not go together
 

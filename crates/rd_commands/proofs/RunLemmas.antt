@@ -13,7 +13,7 @@ use Rattle.rd_commands.specs.RefusalLines.{Tells}
 use Rattle.rd_commands.specs.Commands.{AsksOfStore, IsAskOf}
 use Rattle.rd_commands.specs.Words.{AsksOfKind}
 use Rattle.rd_commands.specs.declared.words.Ask.{Ask}
-use Rattle.rd_commands.specs.declared.words.Ask.TheVariants.{Copy, File, Files, Import, Init, OneQuestion, Serve, StaffKey}
+use Rattle.rd_commands.specs.declared.words.Ask.TheVariants.{Copy, Extract, File, Files, Import, Init, OneQuestion, Serve, Sift, StaffKey}
 use Rattle.rd_commands.specs.declared.refusal.Refusal.{Refusal}
 use Rattle.rd_commands.specs.declared.refusal.Refusal.TheVariants.{Usage, Device, NoMemory, WrongSize, NoFile, ListedOnly, Faulty, Exists, NotADesk, Version, Inconsistent, Store, Clock, BadSheet, UnknownKey, StaffOnly, NoAccession}
 use Rattle.rd_commands.specs.declared.words.FileAsk.{FileAsk}
@@ -113,6 +113,10 @@ reads_of_kind words (Import ask) kind is (inl cat) = absurd (is.file kind cat.0 
 reads_of_kind words (Import ask) kind is (inr list) = absurd (is.files kind list.0 list.1)
 reads_of_kind words (OneQuestion ask) kind is (inl cat) = absurd (is.file kind cat.0 cat.1 cat.2)
 reads_of_kind words (OneQuestion ask) kind is (inr list) = absurd (is.files kind list.0 list.1)
+reads_of_kind words (Sift ask) kind is (inl cat) = absurd (is.file kind cat.0 cat.1 cat.2)
+reads_of_kind words (Sift ask) kind is (inr list) = absurd (is.files kind list.0 list.1)
+reads_of_kind words (Extract ask) kind is (inl cat) = absurd (is.file kind cat.0 cat.1 cat.2)
+reads_of_kind words (Extract ask) kind is (inr list) = absurd (is.files kind list.0 list.1)
 reads_of_kind words (StaffKey ask) kind is (inl cat) = absurd (is.file kind cat.0 cat.1 cat.2)
 reads_of_kind words (StaffKey ask) kind is (inr list) = absurd (is.files kind list.0 list.1)
 reads_of_kind words (Copy ask) kind is (inl cat) = absurd (is.file kind cat.0 cat.1 cat.2)
@@ -140,6 +144,15 @@ reads_no_input words (Init ask) is asks = refl
 reads_no_input words (Serve ask) is asks = refl
 reads_no_input words (Import ask) is asks = refl
 reads_no_input words (OneQuestion ask) is asks = refl
+reads_no_input words (Sift ask) is asks = refl
+reads_no_input words (Extract ask) is (inl init) = absurd (is.init init.0 init.1 init.2)
+reads_no_input words (Extract ask) is (inr (inl serve)) = absurd (is.serve serve.0 serve.1 serve.2 serve.3 serve.4)
+reads_no_input words (Extract ask) is (inr (inr (inl import))) = absurd (is.import import.0 import.1 import.2 import.3 import.4 import.5)
+reads_no_input words (Extract ask) is (inr (inr (inr (inl export)))) = absurd (is.export export.0 export.1 export.2 export.3 export.4)
+reads_no_input words (Extract ask) is (inr (inr (inr (inr (inl check))))) = absurd (is.check check.1.0 check.1.1 check.0 check.1.2 check.1.3 check.1.4)
+reads_no_input words (Extract ask) is (inr (inr (inr (inr (inr (inl show)))))) = absurd (is.show show.0 show.1 show.2 show.3 show.4 show.5)
+reads_no_input words (Extract ask) is (inr (inr (inr (inr (inr (inr (inl staff_key))))))) = absurd (is.staff_key staff_key.0 staff_key.1 staff_key.2)
+reads_no_input words (Extract ask) is (inr (inr (inr (inr (inr (inr (inr copy))))))) = absurd (is.copy copy.0 copy.1 copy.2 copy.3)
 reads_no_input words (StaffKey ask) is asks = refl
 reads_no_input words (Copy ask) is asks = refl
 
@@ -151,6 +164,8 @@ reads_few (Init ask) = omega arith
 reads_few (Serve ask) = omega arith
 reads_few (Import ask) = omega arith
 reads_few (OneQuestion ask) = omega arith
+reads_few (Sift ask) = omega arith
+reads_few (Extract ask) = largest ask.image.kind
 reads_few (StaffKey ask) = omega arith
 reads_few (Copy ask) = omega arith
 

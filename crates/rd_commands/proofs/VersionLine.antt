@@ -12,23 +12,23 @@ use Rattle.rd_commands.specs.Words.{AsksVersion}
 use Rattle.rd_commands.specs.declared.words.Unread.{Unread}
 use Rattle.rd_commands.specs.declared.words.Unread.TheVariants.{Clap, Day, Key, Moment, NoMemory, Place, Usage, Zones}
 
-long_shows : (kinds others shown : NameList) (rest : List Text) → fault_of (desk_app kinds others shown) (codes "--version" ∷ rest) ≡ DisplayVersion ∷ []
+long_shows : (kinds others more shown : NameList) (rest : List Text) → fault_of (desk_app kinds others more shown) (codes "--version" ∷ rest) ≡ DisplayVersion ∷ []
 unfolding clap_on_literals
-long_shows kinds others shown rest = refl
+long_shows kinds others more shown rest = refl
 
-short_shows : (kinds others shown : NameList) (rest : List Text) → fault_of (desk_app kinds others shown) (codes "-V" ∷ rest) ≡ DisplayVersion ∷ []
+short_shows : (kinds others more shown : NameList) (rest : List Text) → fault_of (desk_app kinds others more shown) (codes "-V" ∷ rest) ≡ DisplayVersion ∷ []
 unfolding clap_on_literals
-short_shows kinds others shown rest = refl
+short_shows kinds others more shown rest = refl
 
 -- the version is shown, and nothing else
 shows_version : (app : App) (words : List Text) → IsDeskApp app → AsksVersion words → fault_of app words ≡ DisplayVersion ∷ []
 shows_version app words desk asks = elim asks.1 [
-  | inl long ↦ ap₂ fault_of desk.is long ∙ long_shows desk.cat_kinds desk.list_kinds desk.shown asks.0
-  | inr short ↦ ap₂ fault_of desk.is short ∙ short_shows desk.cat_kinds desk.list_kinds desk.shown asks.0
+  | inl long ↦ ap₂ fault_of desk.is long ∙ long_shows desk.cat_kinds desk.list_kinds desk.files_kinds desk.shown asks.0
+  | inr short ↦ ap₂ fault_of desk.is short ∙ short_shows desk.cat_kinds desk.list_kinds desk.files_kinds desk.shown asks.0
 ]
 
-free : (kinds others shown : NameList) → is_simple_and_free (desk_app kinds others shown) ≡ true
-free kinds others shown = refl
+free : (kinds others more shown : NameList) → is_simple_and_free (desk_app kinds others more shown) ≡ true
+free kinds others more shown = refl
 
 -- the words are no command
 not_faultless : (app : App) (words : List Text) → IsDeskApp app → fault_of app words ≡ [] → AsksVersion words → ⊥
@@ -41,14 +41,14 @@ version_not_taken words taken asks = not_faultless taken.app words taken.is_desk
 
 -- nor are they words that a parse takes
 pub not_version : (app : App) (words : List Text) → IsDeskApp app → (is_simple_and_free app ≡ true → fault_of app words ≡ []) → AsksVersion words → ⊥
-not_version app words desk none asks = not_faultless app words desk (none (ap is_simple_and_free desk.is ∙ free desk.cat_kinds desk.list_kinds desk.shown)) asks
+not_version app words desk none asks = not_faultless app words desk (none (ap is_simple_and_free desk.is ∙ free desk.cat_kinds desk.list_kinds desk.files_kinds desk.shown)) asks
 
 -- so where a parse of the words succeeds
 pub version_not_parsed : {T E : Type 0} (r : Result T E) (P : E → Type 0) (app : App) (words : List Text) → IsDeskApp app
     → (is_simple_and_free app ≡ true → fault_of app words ≡ []) → IfErr r (λ fault. AsksVersion words → P fault)
 version_not_parsed (Ok value) P app words desk none = tt
 version_not_parsed (Err fault) P app words desk none = λ asks.
-    absurd (not_faultless app words desk (none (ap is_simple_and_free desk.is ∙ free desk.cat_kinds desk.list_kinds desk.shown)) asks)
+    absurd (not_faultless app words desk (none (ap is_simple_and_free desk.is ∙ free desk.cat_kinds desk.list_kinds desk.files_kinds desk.shown)) asks)
 
 one_kind : (kinds : List ErrorKind) (error : Error) → kinds ≡ DisplayVersion ∷ [] → HasKind kinds error
     → (kind_of error ≡ OutOfMemory) ⊎ (kind_of error ≡ DisplayVersion)
@@ -64,7 +64,7 @@ one_kind kinds error is has = elim (subst (λ ks. HasKind ks error) is has) [
 pub version_unread : (app : App) (words : List Text) (error : Error) → IsDeskApp app → (is_simple_and_free app ≡ true → HasKind (fault_of app words) error)
     → AsksVersion words → IsForMemory (Clap error) ⊎ IsVersion (Clap error)
 version_unread app words error desk has asks =
-    one_kind (fault_of app words) error (shows_version app words desk asks) (has (ap is_simple_and_free desk.is ∙ free desk.cat_kinds desk.list_kinds desk.shown))
+    one_kind (fault_of app words) error (shows_version app words desk asks) (has (ap is_simple_and_free desk.is ∙ free desk.cat_kinds desk.list_kinds desk.files_kinds desk.shown))
 
 -- what is told of the words is the version only where they ask for it
 pub version_asked : (words : List Text) (unread : Unread) → IsVersion unread → IsFaultOf words unread → AsksForVersion words

@@ -1,5 +1,5 @@
 -- What the program reads in the words of a command.
-use Rattle.std.specs.Prelude.{◌≡◌, ◌+◌, ◌⊎◌, ⊤, ℕ, ℤ, Bool, IsSomeAnd, List, None, Ok, Option, Some, codes, false, option_map}
+use Rattle.std.specs.Prelude.{◌≡◌, ◌+◌, ◌⊎◌, ◌||◌, ⊤, ℕ, ℤ, Bool, IsSomeAnd, List, None, Ok, Option, Some, codes, false, option_map, true}
 use Rattle.std.specs.Int.{w64}
 use Rattle.std.specs.Str.Parse.{ParsesSigned, ParsesUnsigned}
 use Rattle.std.specs.declared.num.ParseIntError.{ParseIntError}
@@ -12,7 +12,8 @@ use Rattle.rd_geometry.specs.Kinds.{size_of, word_of}
 use Rattle.rd_policy.specs.Zones.{IsZoneOf}
 use Rattle.rd_policy.specs.Rules.{IsScope}
 use Rattle.rd_commands.specs.declared.words.Ask.{Ask}
-use Rattle.rd_commands.specs.declared.words.Ask.TheVariants.{Copy, File, Files, Import, Init, OneQuestion, Serve, StaffKey}
+use Rattle.rd_commands.specs.declared.words.Ask.TheVariants.{Copy, Extract, File, Files, Import, Init, OneQuestion, Serve, Sift, StaffKey}
+use Rattle.rd_commands.specs.declared.words.ExtractAsk.{ExtractAsk}
 use Rattle.rd_commands.specs.declared.words.CopyAsk.{CopyAsk}
 use Rattle.rd_commands.specs.declared.words.FileAsk.{FileAsk}
 use Rattle.rd_commands.specs.declared.words.ImageAsk.{ImageAsk}
@@ -23,6 +24,7 @@ use Rattle.rd_commands.specs.declared.words.Question.{Question}
 use Rattle.rd_commands.specs.declared.words.Question.TheVariants as question
 use Rattle.rd_commands.specs.declared.words.ServeAsk.{ServeAsk}
 use Rattle.rd_commands.specs.declared.words.Shown.{Shown}
+use Rattle.rd_commands.specs.declared.words.SiftAsk.{SiftAsk}
 use Rattle.rd_commands.specs.declared.words.StaffKeyAsk.{StaffKeyAsk}
 use Rattle.rd_commands.specs.declared.words.Unread.{Unread}
 use Rattle.rd_commands.specs.declared.words.WhenAsk.{WhenAsk}
@@ -71,6 +73,17 @@ pub record AsksImages (ask : ImportAsk) (store key sheet : List ℕ) (moment : O
   pub key_is : ask.key.now ≡ trim_ows key
   pub sheet_is : ask.sheet.now ≡ sheet
   pub when_is : AsksWhen ask.when moment rule
+
+-- it asks so, and whether nothing is taken in, and whether it goes past files that cannot be read
+pub record AsksSifted (ask : SiftAsk) (store key sheet : List ℕ) (moment : Option ℤ) (rule : List ℕ) (dry_run keep_going : Bool) : Type 0 where
+  pub images : AsksImages ask.import store key sheet moment rule
+  pub dry_run_is : ask.dry_run ≡ dry_run
+  pub keep_going_is : ask.keep_going ≡ keep_going
+
+-- it asks for the sound files of the image of the kind, in the folder
+pub record AsksExtracted (ask : ExtractAsk) (kind : Kind) (image folder : List ℕ) : Type 0 where
+  pub image_is : AsksFiles ask.image kind image
+  pub folder_is : ask.folder.now ≡ folder
 
 -- It asks the desk in the file of the store this question, for a caller with this key, or without one, at this
 -- moment, by the clocks of this rule. Blanks and tabs at both ends of a key do not count.
@@ -124,6 +137,16 @@ abbrev pub IsImportAsk : List ℕ → List ℕ → List ℕ → Option ℤ → L
 IsImportAsk store key sheet moment rule (Import ask) = AsksImages ask store key sheet moment rule
 IsImportAsk store key sheet moment rule _ = ⊥
 
+-- the command asks for that in another way
+abbrev pub IsSiftAsk : List ℕ → List ℕ → List ℕ → Option ℤ → List ℕ → Bool → Bool → Ask → Type 0
+IsSiftAsk store key sheet moment rule dry_run keep_going (Sift ask) = AsksSifted ask store key sheet moment rule dry_run keep_going
+IsSiftAsk store key sheet moment rule dry_run keep_going _ = ⊥
+
+-- the command asks for the sound files of the image of the kind, in the folder
+abbrev pub IsExtractAsk : Kind → List ℕ → List ℕ → Ask → Type 0
+IsExtractAsk kind image folder (Extract ask) = AsksExtracted ask kind image folder
+IsExtractAsk kind image folder _ = ⊥
+
 -- the command asks for an answer of the desk in the file of the store
 abbrev pub IsOneQuestionAsk : List ℕ → Option (List ℕ) → Question → Option ℤ → List ℕ → Ask → Type 0
 IsOneQuestionAsk store key question moment rule (OneQuestion ask) = AsksOneQuestion ask store key question moment rule
@@ -168,13 +191,20 @@ IsAskable other = ⊤
 -- if not all is well, the output says so: what became of a row, or that an image is changed
 abbrev pub TellsOnOutput : Ask → Type 0
 TellsOnOutput (Import ask) = ⊤
+TellsOnOutput (Sift ask) = ⊤
 TellsOnOutput (OneQuestion ask) = IsCheck ask.question
 TellsOnOutput _ = ⊥
 
 -- the command goes row by row, and a line for each row says what became of it
 abbrev pub TellsInRows : Ask → Type 0
 TellsInRows (Import ask) = ⊤
+TellsInRows (Sift ask) = ⊤
 TellsInRows _ = ⊥
+
+-- the command makes a file for each sound one of an image, and a line for each says so
+abbrev pub IsExtraction : Ask → Type 0
+IsExtraction (Extract ask) = ⊤
+IsExtraction _ = ⊥
 
 -- if the command names an accession, its number is from 1 to 999,999, and if it names a day, that is of the years 1 to
 -- 9999
@@ -191,6 +221,7 @@ has_sums ask = false
 abbrev pub is_trusting : Ask → Bool
 is_trusting (Serve ask) = ask.is_trusting
 is_trusting (Import ask) = ask.when.is_trusting
+is_trusting (Sift ask) = ask.import.when.is_trusting
 is_trusting (OneQuestion ask) = ask.when.is_trusting
 is_trusting ask = false
 
@@ -203,6 +234,8 @@ most_read (Init ask) = 0
 most_read (Serve ask) = 0
 most_read (Import ask) = 0
 most_read (OneQuestion ask) = 0
+most_read (Sift ask) = 0
+most_read (Extract ask) = size_of ask.image.kind + 1
 most_read (StaffKey ask) = 0
 most_read (Copy ask) = 0
 
@@ -340,12 +373,38 @@ pub record AreImportRows (rows : List Row) (store key sheet : List ℕ) (moment 
   pub rule_named : IsRuleNamed (first_of (codes "zone") rows) rule
   pub no_zone_file : first_of (codes "zone-file") rows ≡ None
 
--- the parse went into `import`, and found its options
+-- the flags that `clap` found for `import`
+pub record AreWays (rows : List Row) (dry_run keep_going : Bool) : Type 0 where
+  pub dry_run_told : IsFlagTold (one_of (codes "dry-run") rows) dry_run
+  pub keep_going_told : IsFlagTold (one_of (codes "keep-going") rows) keep_going
+
+-- the parse went into `import`, found its options, and neither of these flags
 pub record EntersImport (entered : Option (Text × List Row)) (store key sheet : List ℕ) (moment : Option ℤ) (rule : List ℕ)
     : Type 0 where
   pub rows : List Row
   pub into : entered ≡ Some (codes "import", rows)
   pub found : AreImportRows rows store key sheet moment rule
+  pub ways : AreWays rows false false
+
+-- the parse went into `import`, found its options, and these flags, of which one is set
+pub record EntersSift (entered : Option (Text × List Row)) (store key sheet : List ℕ) (moment : Option ℤ) (rule : List ℕ) (dry_run keep_going : Bool)
+    : Type 0 where
+  pub rows : List Row
+  pub into : entered ≡ Some (codes "import", rows)
+  pub found : AreImportRows rows store key sheet moment rule
+  pub ways : AreWays rows dry_run keep_going
+  pub one : (dry_run || keep_going) ≡ true
+
+-- the operands that `clap` found for `files`
+pub record AreFilesRows (rows : List Row) (kind : Kind) (image folder : List ℕ) : Type 0 where
+  pub image_rows : AreListRows rows kind image
+  pub folder_found : first_of (codes "to") rows ≡ Some folder
+
+-- the parse went into `files`, and found its operands
+pub record EntersFiles (entered : Option (Text × List Row)) (kind : Kind) (image folder : List ℕ) : Type 0 where
+  pub rows : List Row
+  pub into : entered ≡ Some (codes "files", rows)
+  pub found : AreFilesRows rows kind image folder
 
 -- the parse went into the command of this name
 abbrev pub EntersAs : Text → Option (Text × List Row) → Type 0

@@ -100,6 +100,18 @@ sheet_rule = required_option (codes "sheet")
 abbrev pub moment_rule : Rule
 moment_rule = option (codes "at")
 
+-- the flag that has the lines of an import told and nothing taken in
+abbrev pub dry_run_rule : Rule
+dry_run_rule = flag (codes "dry-run")
+
+-- the flag that has an import go past files that cannot be read
+abbrev pub keep_going_rule : Rule
+keep_going_rule = flag (codes "keep-going")
+
+-- the option for a folder
+abbrev pub folder_rule : Rule
+folder_rule = required_option (codes "to")
+
 -- the flag that has a refusal explained
 abbrev pub explain_rule : Rule
 explain_rule = flag (codes "explain")
@@ -138,6 +150,10 @@ cat_app kinds = explained (with_rule (image_app (codes "cat") kinds) slot_rule)
 abbrev pub list_app : NameList → App
 list_app kinds = explained (image_app (codes "list") kinds)
 
+-- the command `files`
+abbrev pub files_app : NameList → App
+files_app kinds = explained (with_rule (image_app (codes "files") kinds) folder_rule)
+
 -- a command on the file of a store
 abbrev pub store_app : Text → App
 store_app name = with_rule (new_app name) store_rule
@@ -159,7 +175,8 @@ serve_app =
 -- the command `import`
 abbrev pub import_app : App
 import_app =
-    explained (with_moment (with_rule (with_caller (store_app (codes "import"))) sheet_rule))
+    explained (with_rule (with_rule (with_moment (with_rule (with_caller (store_app (codes "import"))) sheet_rule)) dry_run_rule)
+    keep_going_rule)
 
 -- the command `export`
 abbrev pub export_app : App
@@ -213,11 +230,12 @@ abbrev pub bare_app : App
 bare_app = on_top wants_command (new_app (codes "desk"))
 
 -- the program
-abbrev pub desk_app : NameList → NameList → NameList → App
-desk_app kinds kinds' names =
+abbrev pub desk_app : NameList → NameList → NameList → NameList → App
+desk_app kinds kinds' kinds'' names =
     with_subcommand (with_subcommand (with_subcommand (with_subcommand (with_subcommand (with_subcommand (with_subcommand
-    (with_subcommand (with_subcommand (with_subcommand bare_app (cat_app kinds).top) (list_app kinds').top) init_app.top)
-    serve_app.top) import_app.top) export_app.top) check_app.top) (show_app names).top) staff_key_app.top) copy_app.top
+    (with_subcommand (with_subcommand (with_subcommand (with_subcommand bare_app (cat_app kinds).top) (list_app kinds').top)
+    (files_app kinds'').top) init_app.top) serve_app.top) import_app.top) export_app.top) check_app.top) (show_app names).top)
+    staff_key_app.top) copy_app.top
 
 -- the names are the words of all kinds
 abbrev pub AreKindNames : NameList → Type 0
@@ -235,6 +253,10 @@ IsCatApp app = (kinds : NameList) × AreKindNames kinds × (app ≡ cat_app kind
 abbrev pub IsListApp : App → Type 0
 IsListApp app = (kinds : NameList) × AreKindNames kinds × (app ≡ list_app kinds)
 
+-- the command `files`, with one of the kinds
+abbrev pub IsFilesApp : App → Type 0
+IsFilesApp app = (kinds : NameList) × AreKindNames kinds × (app ≡ files_app kinds)
+
 -- the names are the words for what `show` shows
 abbrev pub AreWhatNames : NameList → Type 0
 AreWhatNames names = map (λ name. name.now) names.now ≡ what_words
@@ -251,11 +273,13 @@ IsShowApp app = (names : NameList) × AreWhatNames names × (app ≡ show_app na
 pub record IsDeskApp (app : App) : Type 0 where
   pub cat_kinds : NameList
   pub list_kinds : NameList
+  pub files_kinds : NameList
   pub shown : NameList
   pub cat_names : AreKindNames cat_kinds
   pub list_names : AreKindNames list_kinds
+  pub files_names : AreKindNames files_kinds
   pub shown_names : AreWhatNames shown
-  pub is : app ≡ desk_app cat_kinds list_kinds shown
+  pub is : app ≡ desk_app cat_kinds list_kinds files_kinds shown
 
 -- `clap` finds no fault in the words: they are a command of the program, in a plain form or in another, such as `list
 -- cpm8 -- -x`

@@ -1,11 +1,11 @@
 -- What words ask for.
-use Rattle.std.specs.Prelude.{◌⊎◌, ℕ, ℤ, Bool, List, Option, Some, codes}
+use Rattle.std.specs.Prelude.{◌≡◌, ◌⊎◌, ◌||◌, ℕ, ℤ, Bool, List, Option, Some, codes, false, true}
 use Rattle.clap.specs.Words.{Row, Text, one_of}
 use Rattle.rd_geometry.specs.declared.kind.Kind.{Kind}
 use Rattle.rd_commands.specs.declared.words.Ask.{Ask}
 use Rattle.rd_commands.specs.declared.words.Question.TheVariants.{Catalogue, Check, Show}
 use Rattle.rd_commands.specs.declared.words.Shown.{Shown}
-use Rattle.rd_commands.specs.Asks.{AreCheckRows, AreCopyRows, AreExportRows, AreImportRows, AreInitRows, AreServeRows, AreShowRows, AreStaffKeyRows, HasTimeouts, IsCopyAsk, IsFileAsk, IsFilesAsk, IsImportAsk, IsInitAsk, IsOneQuestionAsk, IsServeAsk, IsStaffKeyAsk}
+use Rattle.rd_commands.specs.Asks.{AreCheckRows, AreCopyRows, AreExportRows, AreFilesRows, AreImportRows, AreInitRows, AreServeRows, AreShowRows, AreStaffKeyRows, AreWays, HasTimeouts, IsCopyAsk, IsExtractAsk, IsFileAsk, IsFilesAsk, IsImportAsk, IsInitAsk, IsOneQuestionAsk, IsServeAsk, IsSiftAsk, IsStaffKeyAsk}
 use Rattle.rd_commands.specs.CommandLine.{Enters, IsTakenAs}
 use Rattle.rd_commands.specs.Serving.{NamesOnePlace, Place}
 use Rattle.rd_commands.specs.Shown.{NamesAny, NamesShown}
@@ -32,11 +32,26 @@ pub record AsksImport (words : List Text) (store key sheet : List ℕ) (moment :
   pub rows : List Row
   pub enters : Enters words (codes "import") rows
   pub found : AreImportRows rows store key sheet moment rule
+  pub ways : AreWays rows false false
 
 -- they ask for it with some options
 abbrev pub IsImport : List Text → Type 0
 IsImport words = (store : List ℕ) × (key : List ℕ) × (sheet : List ℕ) × (moment : Option ℤ) × (rule : List ℕ)
     × AsksImport words store key sheet moment rule
+
+-- The words ask for that with one of the flags --dry-run and --keep-going, or both: they have these.
+pub record AsksSift (words : List Text) (store key sheet : List ℕ) (moment : Option ℤ) (rule : List ℕ) (dry_run keep_going : Bool) : Type 0 where
+  pub rows : List Row
+  pub enters : Enters words (codes "import") rows
+  pub found : AreImportRows rows store key sheet moment rule
+  pub ways : AreWays rows dry_run keep_going
+  pub one : (dry_run || keep_going) ≡ true
+
+-- The words ask for the sound files of an image of a kind, in a folder: they are those of `files`, as `clap` takes them.
+pub record AsksFiles (words : List Text) (kind : Kind) (image folder : List ℕ) : Type 0 where
+  pub rows : List Row
+  pub enters : Enters words (codes "files") rows
+  pub found : AreFilesRows rows kind image folder
 
 -- The words ask for the catalogue of the desk in the file of a store, for a caller with this key
 -- or without one, at a moment that they name, or that of the clock, by the clocks of the rule:
@@ -144,6 +159,9 @@ pub record IsAskOf (words : List Text) (ask : Ask) : Type 0 where
   pub serve : (store : List ℕ) (place : Place) (count : ℕ) (rule : List ℕ) → AsksServe words store place count rule
       → IsServeAsk store place count rule ask
   pub timeouts : (rows : List Row) → Enters words (codes "serve") rows → HasTimeouts rows ask
+  pub sift : (store key sheet : List ℕ) (moment : Option ℤ) (rule : List ℕ) (dry_run keep_going : Bool)
+      → AsksSift words store key sheet moment rule dry_run keep_going → IsSiftAsk store key sheet moment rule dry_run keep_going ask
+  pub extract : (kind : Kind) (image folder : List ℕ) → AsksFiles words kind image folder → IsExtractAsk kind image folder ask
   pub import : (store key sheet : List ℕ) (moment : Option ℤ) (rule : List ℕ)
       → AsksImport words store key sheet moment rule → IsImportAsk store key sheet moment rule ask
   pub export : (store : List ℕ) (key : Option (List ℕ)) (moment : Option ℤ) (rule : List ℕ)

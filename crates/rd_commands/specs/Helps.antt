@@ -2,7 +2,7 @@
 use Rattle.std.specs.Prelude.{◌≡◌, ℕ, List, [], ◌∷◌, Option, bytes_eq, codes, if◌then◌else◌}
 use Rattle.std.specs.Io.KnownBytes.{Keeps}
 use Rattle.rd_commands.specs.Output.{AppendsPart}
-use Rattle.rd_commands.specs.declared.help.TheConstants.{CAT_HELP, CHECK_HELP, COPY_HELP, DESK_HELP, EXPORT_HELP, HELP_HELP, IMPORT_HELP, INIT_HELP, LIST_HELP, SERVE_HELP, SHOW_HELP, STAFF_KEY_HELP}
+use Rattle.rd_commands.specs.declared.help.TheConstants.{CAT_HELP, CHECK_HELP, COPY_HELP, DESK_HELP, EXPORT_HELP, FILES_HELP, HELP_HELP, IMPORT_HELP, INIT_HELP, LIST_HELP, SERVE_HELP, SHOW_HELP, STAFF_KEY_HELP}
 use Rattle.rd_commands.specs.declared.refusal.Refusal.{Refusal}
 use Rattle.rd_commands.specs.declared.refusal.Refusal.TheVariants.{Device, NoMemory}
 
@@ -11,6 +11,7 @@ abbrev pub help_named : List ℕ → List ℕ
 help_named name =
     if bytes_eq name (codes "cat") then CAT_HELP.now else
     if bytes_eq name (codes "list") then LIST_HELP.now else
+    if bytes_eq name (codes "files") then FILES_HELP.now else
     if bytes_eq name (codes "init") then INIT_HELP.now else
     if bytes_eq name (codes "serve") then SERVE_HELP.now else
     if bytes_eq name (codes "import") then IMPORT_HELP.now else

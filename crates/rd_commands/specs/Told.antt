@@ -1,12 +1,13 @@
 -- What the program takes from what `clap` found for a command, in all forms: also where a key or a rule for clocks is in a
 -- file, and where a day stands in place of a moment.
-use Rattle.std.specs.Prelude.{◌≡◌, ◌⊎◌, ⊤, ℕ, ℤ, Bool, IsSome, List, [], None, Ok, Option, Some, codes, option_map}
+use Rattle.std.specs.Prelude.{◌≡◌, ◌⊎◌, ⊤, ℕ, ℤ, Bool, IsSome, List, [], None, Ok, Option, Some, codes, false, option_map}
 use Rattle.std.specs.Str.Parse.{ParsesUnsigned}
 use Rattle.std.specs.declared.num.ParseIntError.{ParseIntError}
 use Rattle.clap.specs.Words.{Row, Text, first_of, one_of}
 use Rattle.httparse.specs.Grammar.{trim_ows}
 use Rattle.rd_policy.specs.Rules.{IsScope}
 use Rattle.rd_policy.specs.Zones.{IsZoneOf}
+use Rattle.rd_commands.specs.Asks.{AreWays}
 use Rattle.rd_commands.specs.Beside.{IsBeside, IsSeconds}
 use Rattle.rd_commands.specs.CommandLine.{IsTakenAs}
 use Rattle.rd_commands.specs.Serving.{IsCountTold, NamesPlace, place_of}
@@ -14,7 +15,7 @@ use Rattle.rd_commands.specs.Shown.{NamesShown}
 use Rattle.rd_commands.specs.Zones.{IsFlagTold, rule_text}
 use Rattle.rd_commands.specs.declared.beside.Told.{Told}
 use Rattle.rd_commands.specs.declared.words.Ask.{Ask}
-use Rattle.rd_commands.specs.declared.words.Ask.TheVariants.{Copy, File, Files, Import, Init, OneQuestion, Serve, StaffKey}
+use Rattle.rd_commands.specs.declared.words.Ask.TheVariants.{Copy, Extract, File, Files, Import, Init, OneQuestion, Serve, Sift, StaffKey}
 use Rattle.rd_commands.specs.declared.words.CopyAsk.{CopyAsk}
 use Rattle.rd_commands.specs.declared.words.ImportAsk.{ImportAsk}
 use Rattle.rd_commands.specs.declared.words.InitAsk.{InitAsk}
@@ -22,6 +23,7 @@ use Rattle.rd_commands.specs.declared.words.OneQuestionAsk.{OneQuestionAsk}
 use Rattle.rd_commands.specs.declared.words.Question.{Question}
 use Rattle.rd_commands.specs.declared.words.Question.TheVariants as question
 use Rattle.rd_commands.specs.declared.words.ServeAsk.{ServeAsk}
+use Rattle.rd_commands.specs.declared.words.SiftAsk.{SiftAsk}
 use Rattle.rd_commands.specs.declared.words.StaffKeyAsk.{StaffKeyAsk}
 use Rattle.rd_commands.specs.declared.words.WhenAsk.{WhenAsk}
 
@@ -73,12 +75,16 @@ pub record ServeFrom (rows : List Row) (ask : ServeAsk) : Type 0 where
   pub count : IsCountTold rows ask.count
   pub zone : IsZoneOf (rule_text (first_of (codes "zone") rows)) ask.zone
 
--- what `import` asks for
+-- what `import` asks for, in whatever way
 pub record ImportFrom (rows : List Row) (ask : ImportAsk) : Type 0 where
   pub store : first_of (codes "store") rows ≡ Some ask.store.now
   pub key : IsKeyTold rows ask.key.now
   pub sheet : first_of (codes "sheet") rows ≡ Some ask.sheet.now
   pub when : WhenFrom rows ask.when
+
+-- the flags of `import` are these
+abbrev pub WaysFrom : List Row → Bool → Bool → Type 0
+WaysFrom rows dry_run keep_going = (dry going : Bool) → AreWays rows dry going → (dry_run ≡ dry) × (keep_going ≡ going)
 
 -- the caller of a question: the key of `check` and of `show` is needed, that of `export` may be absent
 abbrev pub CallerFrom : List Row → Question → Option (List ℕ) → Type 0
@@ -104,7 +110,8 @@ pub record OneFrom (rows : List Row) (ask : OneQuestionAsk) : Type 0 where
 abbrev pub AskFrom : List Row → Ask → Type 0
 AskFrom rows (Init ask) = InitFrom rows ask
 AskFrom rows (Serve ask) = ServeFrom rows ask
-AskFrom rows (Import ask) = ImportFrom rows ask
+AskFrom rows (Import ask) = ImportFrom rows ask × WaysFrom rows false false
+AskFrom rows (Sift ask) = ImportFrom rows ask.import × WaysFrom rows ask.dry_run ask.keep_going
 AskFrom rows (OneQuestion ask) = OneFrom rows ask
 AskFrom rows (StaffKey ask) = StaffKeyFrom rows ask
 AskFrom rows (Copy ask) = CopyFrom rows ask
@@ -120,9 +127,11 @@ question_name (question.Show shown) = codes "show"
 abbrev pub command_name : Ask → Text
 command_name (File ask) = codes "cat"
 command_name (Files ask) = codes "list"
+command_name (Extract ask) = codes "files"
 command_name (Init ask) = codes "init"
 command_name (Serve ask) = codes "serve"
 command_name (Import ask) = codes "import"
+command_name (Sift ask) = codes "import"
 command_name (OneQuestion ask) = question_name ask.question
 command_name (StaffKey ask) = codes "staff-key"
 command_name (Copy ask) = codes "copy"

@@ -1,6 +1,6 @@
 //! What the options and operands of each command ask for, from what `clap` found of them.
 
-ghost use Rattle.std.specs.Prelude.{◌≡◌, Bool, IfSome, IsSomeAnd, List, Ok, OnSome, Option, Some, codes, option_map, ℕ, ℤ};
+ghost use Rattle.std.specs.Prelude.{◌≡◌, ◌||◌, Bool, IfSome, IsSomeAnd, List, Ok, OnSome, Option, Some, codes, false, option_map, true, ℕ, ℤ};
 ghost use Rattle.std.specs.Str.Parse.{ParsesUnsigned};
 ghost use Rattle.std.specs.declared.num.ParseIntError.{ParseIntError};
 ghost use Rattle.clap.specs.Words.{first_of, found_of, one_of, rows_of};
@@ -8,23 +8,24 @@ ghost use Rattle.httparse.specs.Grammar.{trim_ows};
 ghost use Rattle.rd_geometry.specs.Kinds.{word_of};
 ghost use Rattle.rd_policy.specs.Rules.{IsScope};
 ghost use Rattle.rd_policy.specs.Zones.{IsZoneOf};
-ghost use Rattle.rd_commands.specs.Asks.{AreCatRows, AreCheckRows, AreExportRows, AreImportRows, AreInitRows, AreListRows, AreServeRows, AreShowRows, IsMomentNamed};
-ghost use Rattle.rd_commands.specs.Asks.{AsksFile, AsksFiles, AsksImages, AsksNew, AsksOneQuestion, AsksVisits, AsksWhen, IsAskable};
-ghost use Rattle.rd_commands.specs.Asks.{IsCheck};
+ghost use Rattle.rd_commands.specs.Asks.{AreCatRows, AreCheckRows, AreExportRows, AreFilesRows, AreImportRows, AreInitRows, AreListRows, AreServeRows, AreShowRows, AreWays, IsMomentNamed};
+ghost use Rattle.rd_commands.specs.Asks.{AsksExtracted, AsksFile, AsksFiles, AsksImages, AsksNew, AsksOneQuestion, AsksVisits, AsksWhen, IsAskable};
+ghost use Rattle.rd_commands.specs.Asks.{IsCheck, IsImportAsk, IsSiftAsk, TellsInRows, is_trusting};
 ghost use Rattle.rd_commands.specs.Asks.{AreCopyRows, AreStaffKeyRows, AsksCopying, AsksStaff};
 ghost use Rattle.rd_commands.specs.Serving.{GivesTimeouts};
 ghost use Rattle.rd_commands.specs.Serving as spec;
 ghost use Rattle.rd_commands.specs.Shown.{NamesShown};
 ghost use Rattle.rd_commands.specs.Words.{IsSlotText};
-ghost use Rattle.rd_commands.specs.Told.{AreSecondsTold, CopyFrom, ImportFrom, InitFrom, IsAccessionTold, IsKeyTold, OneFrom, ServeFrom, StaffKeyFrom, WhenFrom};
+ghost use Rattle.rd_commands.specs.Told.{AreSecondsTold, CopyFrom, AskFrom, ImportFrom, InitFrom, IsAccessionTold, IsKeyTold, OneFrom, ServeFrom, StaffKeyFrom, WhenFrom, command_name};
 ghost use Rattle.rd_commands.specs.Zones.{HasZoneRule, IsFlagTold, IsRuleNamed, TellsTrust, rule_text};
+ghost use Rattle.rd_commands.specs.declared.words.Ask.TheVariants as ask;
 
-use crate::beside::seconds_read;
+use crate::beside::{is_set, seconds_read};
 use crate::blanks::trimmed;
 use crate::serving::{count_asked, place_asked, timeouts_asked};
 use crate::words::{
-    CopyAsk, FileAsk, ImageAsk, ImportAsk, InitAsk, OneQuestionAsk, Question, ServeAsk, Shown,
-    StaffKeyAsk, WhenAsk,
+    Ask, CopyAsk, ExtractAsk, FileAsk, ImageAsk, ImportAsk, InitAsk, OneQuestionAsk, Question,
+    ServeAsk, Shown, SiftAsk, StaffKeyAsk, WhenAsk,
 };
 use clap::ArgMatches;
 use rd_policy::{Zone, is_scope};
@@ -178,7 +179,7 @@ fn when_asked(found: &ArgMatches) -> Option<WhenAsk>
 }
 
 /// What the options of `import` ask for; `None` if one is missing or badly written.
-pub(crate) fn import_asked<'a>(found: &ArgMatches<'a>) -> Option<ImportAsk<'a>>
+fn import_asked<'a>(found: &ArgMatches<'a>) -> Option<ImportAsk<'a>>
     ensures asked { (store key sheet : List ℕ) (moment : Option ℤ) (rule : List ℕ)
         → AreImportRows (rows_of (found_of found.now)) store key sheet moment rule
         → IsSomeAnd result (λ ask. AsksImages ask store key sheet moment rule) }
@@ -191,6 +192,57 @@ pub(crate) fn import_asked<'a>(found: &ArgMatches<'a>) -> Option<ImportAsk<'a>>
         key: key_asked(found)?,
         sheet: found.get_str("sheet")?,
         when: when_asked(found)?,
+    })
+}
+
+/// What is asked for with these flags.
+fn sheet_ask<'a>(import: ImportAsk<'a>, dry_run: bool, keep_going: bool) -> Ask<'a>
+    ensures import { dry_run ≡ false → keep_going ≡ false → result ≡ ask.Import import.entry }
+    ensures sift { (dry_run || keep_going) ≡ true
+        → result ≡ ask.Sift (record { import = import.entry; dry_run = dry_run; keep_going = keep_going }) }
+{
+    match (dry_run, keep_going) {
+        (false, false) => Ask::Import(import),
+        _ => Ask::Sift(SiftAsk {
+            import,
+            dry_run,
+            keep_going,
+        }),
+    }
+}
+
+/// What the options of `import` ask for, with the flags that say in which way; `None` if one is missing or badly
+/// written.
+pub(crate) fn sheet_asked<'a>(found: &ArgMatches<'a>) -> Option<Ask<'a>>
+    ensures import { (store key sheet : List ℕ) (moment : Option ℤ) (rule : List ℕ)
+        → AreImportRows (rows_of (found_of found.now)) store key sheet moment rule
+        → AreWays (rows_of (found_of found.now)) false false
+        → IsSomeAnd result (IsImportAsk store key sheet moment rule) }
+    ensures sift { (store key sheet : List ℕ) (moment : Option ℤ) (rule : List ℕ) (dry_run keep_going : Bool)
+        → AreImportRows (rows_of (found_of found.now)) store key sheet moment rule
+        → AreWays (rows_of (found_of found.now)) dry_run keep_going → (dry_run || keep_going) ≡ true
+        → IsSomeAnd result (IsSiftAsk store key sheet moment rule dry_run keep_going) }
+    ensures zone { OnSome result (HasZoneRule (rows_of (found_of found.now))) }
+    ensures trust { (trusted : Bool) → TellsTrust (rows_of (found_of found.now)) trusted → IfSome result (λ ask. is_trusting ask ≡ trusted) }
+    ensures rows { IfSome result TellsInRows }
+    ensures from { IfSome result (AskFrom (rows_of (found_of found.now))) }
+    ensures named { IfSome result (λ ask. command_name ask ≡ codes "import") }
+{
+    let import = import_asked(found)?;
+    let dry_run = is_set(found, "dry-run");
+    let keep_going = is_set(found, "keep-going");
+    Some(sheet_ask(import, dry_run, keep_going))
+}
+
+/// What the operands of `files` ask for; `None` if one is missing or badly written.
+pub(crate) fn extract_asked<'a>(found: &ArgMatches<'a>) -> Option<ExtractAsk<'a>>
+    ensures { (kind : Kind) (image folder : List ℕ)
+        → AreFilesRows (rows_of (found_of found.now)) kind image folder
+        → IsSomeAnd result (λ ask. AsksExtracted ask kind image folder) }
+{
+    Some(ExtractAsk {
+        image: files_asked(found)?,
+        folder: found.get_str("to")?,
     })
 }
 

@@ -1,7 +1,7 @@
 ghost use Rattle.std.specs.Prelude.{◌≡◌, IfOk, codes, false};
 ghost use Rattle.clap.specs.Words.{app_of, rule_of};
 ghost use Rattle.clap.specs.declared.builder.command.Command.TheViews.{out-Command as fields_of};
-ghost use Rattle.rd_commands.specs.CommandLine.{IsCatApp, IsDeskApp, IsKindRule, IsListApp, IsShowApp, IsWhatRule, accession_rule, bare_app, check_app, copy_app, count_rule, day_rule, explain_rule, explained, export_app, image_rule, import_app, init_app, key_file_rule, key_rule, moment_rule, port_rule, serve_app, sheet_rule, slot_rule, socket_rule, staff_key_app, store_rule, sums_rule, target_rule, timeout_rule, untimed_app, with_caller, with_clocks, with_moment, zone_file_rule, zone_rule, trust_rule};
+ghost use Rattle.rd_commands.specs.CommandLine.{IsCatApp, IsDeskApp, IsFilesApp, IsKindRule, IsListApp, IsShowApp, IsWhatRule, accession_rule, bare_app, check_app, copy_app, count_rule, day_rule, dry_run_rule, explain_rule, explained, export_app, folder_rule, image_rule, import_app, init_app, keep_going_rule, key_file_rule, key_rule, moment_rule, port_rule, serve_app, sheet_rule, slot_rule, socket_rule, staff_key_app, store_rule, sums_rule, target_rule, timeout_rule, untimed_app, with_caller, with_clocks, with_moment, zone_file_rule, zone_rule, trust_rule};
 
 use crate::version::VERSION;
 use clap::{Arg, ArgAction, Command, value_parser};
@@ -74,6 +74,31 @@ fn list_command<'a>(alloc: Global) -> Result<Command<'a>, AllocError>
         .after_help("Examples:\n  desk list cpm8 disk.img\n  desk list d64 disk.d64")
         .arg(kind_operand(alloc))?
         .arg(image_operand(alloc))?
+        .arg(explain_flag(alloc))
+}
+
+/// The option for a folder.
+fn folder_option<'a>(alloc: Global) -> Arg<'a>
+    ensures rule { rule_of result ≡ folder_rule }
+    ensures local { result.global ≡ false }
+{
+    Arg::new(alloc, "to")
+        .long("to")
+        .value_name("FOLDER")
+        .required(true)
+        .help("The folder for the files, which is there; no file in it is replaced")
+}
+
+fn files_command<'a>(alloc: Global) -> Result<Command<'a>, AllocError>
+    ensures shape { IfOk result (λ files. IsFilesApp (app_of files)) }
+    ensures local { IfOk result (λ files. (fields_of files).has_globals ≡ false) }
+{
+    Command::new(alloc, "files")
+        .about("Writes each sound file of an image into a folder, under its slot and a safe name")
+        .after_help("Example:\n  desk files d64 disk.d64 --to disk-files")
+        .arg(kind_operand(alloc))?
+        .arg(image_operand(alloc))?
+        .arg(folder_option(alloc))?
         .arg(explain_flag(alloc))
 }
 
@@ -219,6 +244,28 @@ fn moment_option<'a>(alloc: Global) -> Arg<'a>
     )
 }
 
+/// The flag that has the lines of an import told, and nothing taken in.
+fn dry_run_flag<'a>(alloc: Global) -> Arg<'a>
+    ensures rule { rule_of result ≡ dry_run_rule }
+    ensures local { result.global ≡ false }
+{
+    Arg::new(alloc, "dry-run")
+        .long("dry-run")
+        .action(ArgAction::SetTrue)
+        .help("Tells what would become of each row, and takes nothing in")
+}
+
+/// The flag that has an import go past files that cannot be read.
+fn keep_going_flag<'a>(alloc: Global) -> Arg<'a>
+    ensures rule { rule_of result ≡ keep_going_rule }
+    ensures local { result.global ≡ false }
+{
+    Arg::new(alloc, "keep-going")
+        .long("keep-going")
+        .action(ArgAction::SetTrue)
+        .help("Goes on after a row whose file cannot be read")
+}
+
 /// Adds the options for a key.
 fn add_caller<'a>(alloc: Global, command: Command<'a>) -> Result<Command<'a>, AllocError>
     ensures shape { IfOk result (λ added. app_of added ≡ with_caller (app_of command.entry)) }
@@ -330,11 +377,14 @@ fn import_command<'a>(alloc: Global) -> Result<Command<'a>, AllocError>
         .about("Takes in the images that a sheet names, and tells what became of each row")
         .override_usage("desk import [OPTIONS] --store <FILE> --key <KEY> --sheet <SHEET>")
         .after_help(
-            "Examples:\n  desk import --store museum.sqlite --key 'a long phrase' --sheet images.csv\n  desk import --store museum.sqlite --key-file key.txt --sheet images.csv",
+            "Examples:\n  desk import --store museum.sqlite --key 'a long phrase' --sheet images.csv\n  desk import --store museum.sqlite --key-file key.txt --sheet images.csv --dry-run",
         )
         .arg(store_option(alloc))?;
     let given = add_caller(alloc, begun)?.arg(sheet_option(alloc))?;
-    add_moment(alloc, given)?.arg(explain_flag(alloc))
+    add_moment(alloc, given)?
+        .arg(dry_run_flag(alloc))?
+        .arg(keep_going_flag(alloc))?
+        .arg(explain_flag(alloc))
 }
 
 fn accession_option<'a>(alloc: Global) -> Arg<'a>
@@ -458,7 +508,7 @@ fn bare_desk<'a>(alloc: Global) -> Result<Command<'a>, AllocError>
         .version(VERSION)
         .about("Reads files from disk images, and serves those of a museum by its rules")
         .after_help(
-            "Examples:\n  desk list cpm8 disk.img\n  desk cat cpm8 disk.img 0\n  desk list d64 disk.d64\n  desk init --store museum.sqlite --key 'a long phrase'\n  desk serve --store museum.sqlite --port 8041 --count 1000\n  desk import --store museum.sqlite --key 'a long phrase' --sheet images.csv\n  desk export --store museum.sqlite\n  desk check --store museum.sqlite --key 'a long phrase' --acc 12\n  desk show deeds --store museum.sqlite --key 'a long phrase'\n  desk staff-key --store museum.sqlite --key 'another long phrase'\n  desk copy --store museum.sqlite --to new.sqlite --sums",
+            "Examples:\n  desk list cpm8 disk.img\n  desk cat cpm8 disk.img 0\n  desk list d64 disk.d64\n  desk files d64 disk.d64 --to disk-files\n  desk init --store museum.sqlite --key 'a long phrase'\n  desk serve --store museum.sqlite --port 8041 --count 1000\n  desk import --store museum.sqlite --key 'a long phrase' --sheet images.csv\n  desk export --store museum.sqlite\n  desk check --store museum.sqlite --key 'a long phrase' --acc 12\n  desk show deeds --store museum.sqlite --key 'a long phrase'\n  desk staff-key --store museum.sqlite --key 'another long phrase'\n  desk copy --store museum.sqlite --to new.sqlite --sums",
         )
         .no_binary_name(true)
         .bin_name("desk")?;
@@ -472,6 +522,7 @@ pub(crate) fn desk_command<'a>(alloc: Global) -> Result<Command<'a>, AllocError>
     bare_desk(alloc)?
         .subcommand(cat_command(alloc)?)?
         .subcommand(list_command(alloc)?)?
+        .subcommand(files_command(alloc)?)?
         .subcommand(init_command(alloc)?)?
         .subcommand(serve_command(alloc)?)?
         .subcommand(import_command(alloc)?)?

@@ -22,6 +22,7 @@ Usage: desk <COMMAND>
 Commands:
   cat        Writes the bytes of a file of an image to standard output
   list       Lists the files of an image: slot, user, type, size, faults and name
+  files      Writes each sound file of an image into a folder, under its slot and a safe name
   init       Makes a desk with one staff key in the file of a store
   serve      Serves visits over HTTP on 127.0.0.1 or at a Unix socket, one after the other
   import     Takes in the images that a sheet names, and tells what became of each row
@@ -40,6 +41,7 @@ Examples:
   desk list cpm8 disk.img
   desk cat cpm8 disk.img 0
   desk list d64 disk.d64
+  desk files d64 disk.d64 --to disk-files
   desk init --store museum.sqlite --key 'a long phrase'
   desk serve --store museum.sqlite --port 8041 --count 1000
   desk import --store museum.sqlite --key 'a long phrase' --sheet images.csv
@@ -85,6 +87,25 @@ Options:
 Examples:
   desk list cpm8 disk.img
   desk list d64 disk.d64
+";
+
+/// The help of `files`.
+pub const FILES_HELP: &str =
+    "Writes each sound file of an image into a folder, under its slot and a safe name
+
+Usage: desk files [OPTIONS] --to <FOLDER> <KIND> <IMAGE>
+
+Arguments:
+  <KIND>   The kind of disk image; a d64e is a d64 with error bytes behind it [possible values: cpm8, d64, d64e]
+  <IMAGE>  The path of the image, or - for standard input
+
+Options:
+      --to <FOLDER>  The folder for the files, which is there; no file in it is replaced
+      --explain      Says more about a refusal, in lines below its name
+  -h, --help         Print help
+
+Example:
+  desk files d64 disk.d64 --to disk-files
 ";
 
 /// The help of `init`.
@@ -145,12 +166,14 @@ Options:
       --zone <ZONE>       The rule of the desk's clocks as POSIX writes it, such as CET-1CEST,M3.5.0,M10.5.0/3; UTC0 where it is not given
       --zone-file <FILE>  A file of the time zone database, in whose last line the rule of the desk's clocks is, in place of --zone
       --trust-clock       Goes by the clock even if it shows a day long before that of a recorded check
+      --dry-run           Tells what would become of each row, and takes nothing in
+      --keep-going        Goes on after a row whose file cannot be read
       --explain           Says more about a refusal, in lines below its name
   -h, --help              Print help
 
 Examples:
   desk import --store museum.sqlite --key 'a long phrase' --sheet images.csv
-  desk import --store museum.sqlite --key-file key.txt --sheet images.csv
+  desk import --store museum.sqlite --key-file key.txt --sheet images.csv --dry-run
 ";
 
 /// The help of `export`.
@@ -272,6 +295,7 @@ fn help_of(name: &str) -> &'static str
     match name {
         "cat" => CAT_HELP,
         "list" => LIST_HELP,
+        "files" => FILES_HELP,
         "init" => INIT_HELP,
         "serve" => SERVE_HELP,
         "import" => IMPORT_HELP,

@@ -34,8 +34,9 @@ pub use refusal::Refusal;
 pub use remembered::{Remembered, RowNote, SystemFault};
 pub use serving::{Place, Timeouts};
 pub use sheet::{SheetRow, bad_column, is_header, next_row, row_of};
+pub use source::read_image;
 pub use tell::{exit_code, tell_refusal, tell_unread};
 pub use words::{
-    Ask, CopyAsk, FileAsk, ImageAsk, ImportAsk, InitAsk, OneQuestionAsk, Question, ServeAsk, Shown,
-    StaffKeyAsk, Unread, WhenAsk, read_words,
+    Ask, CopyAsk, ExtractAsk, FileAsk, ImageAsk, ImportAsk, InitAsk, OneQuestionAsk, Question,
+    ServeAsk, Shown, SiftAsk, StaffKeyAsk, Unread, WhenAsk, read_words,
 };

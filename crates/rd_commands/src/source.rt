@@ -15,7 +15,7 @@ use std::io::Read;
 /// image.
 ///
 /// It fails with `Device` when it cannot read the image, and with `NoMemory`.
-pub(crate) fn read_image<R: Read, M: Files>(
+pub fn read_image<R: Read, M: Files>(
     alloc: Global,
     kind: Kind,
     path: &str,

@@ -2,9 +2,9 @@ ghost use Rattle.std.specs.Option.{ForSome};
 ghost use Rattle.std.specs.Prelude.{◌≡◌, ◌⊎◌, Bool, IfErr, IfNone, IfOk, IfSome, IsSomeAnd, List, Ok, OnOk, OnSome, Option, Some, codes, map, ℕ, ℤ};
 ghost use Rattle.clap.specs.Words.{app_of, first_of, found_of, rows_of};
 ghost use Rattle.clap.specs.Words.{subcommand_rows_of};
-ghost use Rattle.rd_commands.specs.Asks.{EntersAtAPlace, EntersNamed, EntersNoPlace, EntersTimed};
+ghost use Rattle.rd_commands.specs.Asks.{EntersAtAPlace, EntersFiles, EntersNamed, EntersNoPlace, EntersSift, EntersTimed};
 ghost use Rattle.rd_commands.specs.Asks.{EntersByRule, EntersCat, EntersCheck, EntersExport, EntersImport, EntersInit, EntersList, EntersNaming, EntersNamingNone, EntersServe, EntersShow, EntersTelling, EntersTrusting};
-ghost use Rattle.rd_commands.specs.Asks.{IsSeenFault, IsWithinLimits, IsFaultOf, IsFileAsk, IsFilesAsk, IsForMemory, IsHelp, IsImportAsk, IsInitAsk, IsMistake, IsOneQuestionAsk, IsServeAsk, IsTold, IsVersion, TellsOnOutput};
+ghost use Rattle.rd_commands.specs.Asks.{IsExtractAsk, IsSeenFault, IsSiftAsk, IsWithinLimits, IsFaultOf, IsFileAsk, IsFilesAsk, IsForMemory, IsHelp, IsImportAsk, IsInitAsk, IsMistake, IsOneQuestionAsk, IsServeAsk, IsTold, IsVersion, TellsOnOutput};
 ghost use Rattle.rd_commands.specs.Asks.{EntersCopy, EntersStaffKey, EntersSumming, IsCopyAsk, IsStaffKeyAsk, has_sums, is_trusting};
 ghost use Rattle.rd_commands.specs.Beside.{EntersApart, EntersBeside, EntersTogether, FitsTogether, IsApart, IsTakenApart, TellsBeside};
 ghost use Rattle.rd_commands.specs.CommandLine.{IsDeskApp, IsTaken, IsTakenTelling};
@@ -16,8 +16,8 @@ ghost use Rattle.rd_commands.specs.Told.{EntersFrom, TellsAll};
 ghost use Rattle.rd_commands.specs.declared.words.Unread.TheVariants as Unread;
 
 use crate::asked::{
-    check_asked, copy_asked, export_asked, file_asked, files_asked, import_asked, init_asked,
-    serve_asked, show_asked, staff_key_asked,
+    check_asked, copy_asked, export_asked, extract_asked, file_asked, files_asked, init_asked,
+    serve_asked, sheet_asked, show_asked, staff_key_asked,
 };
 use crate::beside::{Beside, Told, beside_found};
 use crate::command_line::desk_command;
@@ -100,6 +100,26 @@ pub struct ImportAsk<'a> {
     pub when: WhenAsk,
 }
 
+/// The images that `import` takes in, or would take in, in another way.
+#[derive(Clone, Copy, Debug)]
+pub struct SiftAsk<'a> {
+    /// The images.
+    pub import: ImportAsk<'a>,
+    /// Whether none is taken in, and the lines say what would become of them.
+    pub dry_run: bool,
+    /// Whether it goes past files that cannot be read.
+    pub keep_going: bool,
+}
+
+/// The sound files of an image, and the folder that `files` writes them into.
+#[derive(Clone, Copy, Debug)]
+pub struct ExtractAsk<'a> {
+    /// The image.
+    pub image: ImageAsk<'a>,
+    /// The path of the folder.
+    pub folder: &'a str,
+}
+
 /// The one question that a command asks a desk.
 #[derive(Clone, Copy, Debug)]
 pub enum Question {
@@ -174,6 +194,10 @@ pub enum Ask<'a> {
     Import(ImportAsk<'a>),
     /// One question to a desk, by `export`, `check` or `show`.
     OneQuestion(OneQuestionAsk<'a>),
+    /// Images to take in, in another way.
+    Sift(SiftAsk<'a>),
+    /// The sound files of an image, in a folder.
+    Extract(ExtractAsk<'a>),
     /// A key of the staff in a desk that stands.
     StaffKey(StaffKeyAsk<'a>),
     /// A copy of a desk in a new store.
@@ -336,6 +360,12 @@ fn ask_found<'a>(matches: &ArgMatches<'a>, shown: Option<Shown>) -> Option<Ask<'
     ensures show { (store key : List ℕ) (what : Shown) (moment : Option ℤ) (rule : List ℕ) → shown ≡ Some what
         → EntersShow (subcommand_rows_of matches.now) store key moment rule
         → IsSomeAnd result (IsOneQuestionAsk store (Some key) (Question.Show what) moment rule) }
+    ensures sift { (store key sheet : List ℕ) (moment : Option ℤ) (rule : List ℕ) (dry_run keep_going : Bool)
+        → EntersSift (subcommand_rows_of matches.now) store key sheet moment rule dry_run keep_going
+        → IsSomeAnd result (IsSiftAsk store key sheet moment rule dry_run keep_going) }
+    ensures extract { (kind : Kind) (image folder : List ℕ)
+        → EntersFiles (subcommand_rows_of matches.now) kind image folder
+        → IsSomeAnd result (IsExtractAsk kind image folder) }
     ensures staff_key { (store key : List ℕ)
         → EntersStaffKey (subcommand_rows_of matches.now) store key
         → IsSomeAnd result (IsStaffKeyAsk store key) }
@@ -354,9 +384,10 @@ fn ask_found<'a>(matches: &ArgMatches<'a>, shown: Option<Shown>) -> Option<Ask<'
     match name {
         "cat" => Some(Ask::File(file_asked(found)?)),
         "list" => Some(Ask::Files(files_asked(found)?)),
+        "files" => Some(Ask::Extract(extract_asked(found)?)),
         "init" => Some(Ask::Init(init_asked(found)?)),
         "serve" => Some(Ask::Serve(serve_asked(found)?)),
-        "import" => Some(Ask::Import(import_asked(found)?)),
+        "import" => Some(sheet_asked(found)?),
         "export" => Some(Ask::OneQuestion(export_asked(found)?)),
         "check" => Some(Ask::OneQuestion(check_asked(found)?)),
         "show" => Some(Ask::OneQuestion(show_asked(found, shown?)?)),

@@ -4,3 +4,4 @@ pub mod ReplyLemmas
 pub mod BatchLemmas
 pub mod ListLemmas
 pub mod RehearsalLemmas
+pub mod ShelfLemmas

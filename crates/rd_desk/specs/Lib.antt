@@ -4,6 +4,7 @@
 -- of `Calls` only `IsResponse`, `IsResponseAfter`, `LeavesStep`, `IsOneChange` and `MakesOneChange`
 pub mod Calls
 pub mod Served
+pub mod Shelving
 pub use Rattle.rd_protocol.specs.Requests
 pub use Rattle.rd_protocol.specs.Refusals
 pub use Rattle.rd_protocol.specs.Lent

@@ -1,6 +1,6 @@
 //! The desk: who sees what, by which rule, and how the tables change.
 
-ghost use Rattle.std.specs.Prelude.{◌≡◌, ◌↔◌, Ok, IsOk, IfOk, IfErr, MatchBool, None};
+ghost use Rattle.std.specs.Prelude.{◌≡◌, ◌↔◌, Ok, IsOk, IfOk, IfErr, MatchBool, None, OnErr};
 ghost use Rattle.rd_policy.specs.Days.{HasDay, IsDay};
 ghost use Rattle.rd_policy.specs.Zones.{day_number};
 ghost use Rattle.rd_store.specs.Held.{LeavesOpen, Reads, desk};
@@ -8,10 +8,12 @@ ghost use Rattle.rd_store.specs.Latest.{HasCheckAfter, HasNoCheckAfter};
 ghost use Rattle.rd_desk.specs.Calls.{IsResponseAfter, IsWritten, MakesOneChange, MakesResponse};
 ghost use Rattle.rd_protocol.specs.Requests.{IsForStaff, IsRequest};
 ghost use Rattle.rd_desk.specs.Served.{Responds, Serves};
+ghost use Rattle.rd_desk.specs.Shelving.{WouldAnswer};
 
 use crate::asking::{Unavailable, audience};
 use crate::commands::command;
 use crate::queries::{Caller, query};
+use crate::would_take::{Shelf, Shelved, would_take};
 use rd_policy::{Audience, DayFault, Zone, day_of};
 use rd_protocol::{Refusal, Reply, Request, Response, reply_text};
 use rd_store::Store;
@@ -107,6 +109,26 @@ impl<S: Alter> Desk<S> {
             Ok(found) => Ok(found),
             Err(_) => Err(Unavailable),
         }
+    }
+
+    /// What the desk would answer to a caller with the badge who asks to take in an image, if the images on the shelf had
+    /// been taken in before. It changes nothing but the shelf: an image that would be taken in is put there.
+    ///
+    /// It fails with `Unavailable` when the store fails or `alloc` has no memory.
+    pub fn would_take(
+        &mut self,
+        alloc: Global,
+        badge: &[u8; 32],
+        image: Shelved,
+        bytes: &[u8],
+        shelf: &mut Shelf,
+    ) -> Result<Response, Unavailable>
+        ensures reads { Reads S.Store self.old.store self.new.store result
+            (WouldAnswer shelf.old.images.items shelf.new.images.items (desk S.Store self.old.store) badge.now image bytes.now) }
+        ensures kept { OnErr result (shelf.new.images.items ≡ shelf.old.images.items) }
+        ensures zone { self.new.zone ≡ self.old.zone }
+    {
+        would_take(&mut self.store, alloc, badge, image, bytes, shelf)
     }
 
     /// Gives the store back, with the state that it has.

@@ -11,6 +11,7 @@ mod rehearsals;
 mod staff_lists;
 mod surveys;
 mod verdicts;
+mod would_take;
 
 pub use asking::Unavailable;
 pub use desk::Desk;
@@ -21,3 +22,4 @@ pub use rd_protocol::{
     hidden_bytes_are_not_told, one_reply, reply_to, same_again, unavailable, what_is_shown_decides,
 };
 pub use rd_store::Outcome;
+pub use would_take::{Shelf, Shelved};

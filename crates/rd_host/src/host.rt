@@ -6,14 +6,14 @@ use crate::places::{HostListener, at_port, at_socket};
 use rd_http::{Clock, Door, StreamDoor, TimeLimits};
 use rd_program::{
     Files, Line, Machine, MachineFault, Place, Refusal, Remembered, RowNote, Said, SystemFault,
-    Why, connect_fault, exit_code, explain, read_front, run,
+    Why, WriteFault, connect_fault, exit_code, explain, read_front, run,
 };
 use rd_tables::is_blank;
 use rd_volume::Kind;
 use sqlite::{Connection, FileFrom, FileStore, Options, Wary};
 use sqlite_std_file::OpenError;
 use std::alloc::{AllocError, Global};
-use std::fs::OpenOptions;
+use std::fs::{File, OpenOptions};
 use std::hash::{BuildHasher, RandomState};
 use std::io::{BufWriter, ErrorKind, Read, Write};
 use std::os::unix::fs::OpenOptionsExt;
@@ -211,6 +211,21 @@ fn whole_sheet(rt: &HostRuntime, alloc: Global, path: &str) -> io::Result<Vec<u8
     Ok(bytes)
 }
 
+/// Makes a file with these bytes where nothing is.
+fn write_file(rt: &HostRuntime, path: &str, bytes: &[u8]) -> io::Result<()> {
+    let mut file = File::create_new(rt, path)?;
+    file.write_all(bytes)?;
+    file.flush()
+}
+
+/// The path of a name in a folder. It fails when memory runs out.
+fn path_in(alloc: Global, folder: &str, name: &str) -> Result<String, AllocError> {
+    let mut path = String::from_str(alloc, folder)?;
+    path.push_str("/")?;
+    path.push_str(name)?;
+    Ok(path)
+}
+
 /// The path of the folder that a path is in.
 fn folder_of(path: &str) -> &str {
     match path.rfind('/') {
@@ -320,6 +335,29 @@ impl<'a, D: Door + Drop, P: Places<D> + Drop> Machine for Host<'a, D, P> {
     ghost stands = { λ _ _. None };
 
     ghost left = { λ _. None };
+
+    fn write_new(
+        &mut self,
+        alloc: Global,
+        folder: &str,
+        name: &str,
+        bytes: &[u8],
+    ) -> Result<(), WriteFault> {
+        let Ok(path) = path_in(alloc, folder, name) else {
+            return Err(WriteFault::NoMemory);
+        };
+        match write_file(self.rt, path.as_str(), bytes) {
+            Ok(()) => Ok(()),
+            Err(error) if error.kind() == ErrorKind::AlreadyExists => {
+                self.remembered.keep(path.as_str(), Said::Standing);
+                Err(WriteFault::Exists)
+            }
+            Err(error) => match self.keep_fault(path.as_str(), error) {
+                MachineFault::NoMemory => Err(WriteFault::NoMemory),
+                MachineFault::Failed => Err(WriteFault::Failed),
+            },
+        }
+    }
 
     fn is_missing(&mut self, path: &str) -> bool {
         if is_no_file(path) {

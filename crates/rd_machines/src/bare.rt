@@ -3,7 +3,7 @@
 ghost use Rattle.std.specs.Prelude.{None, false};
 
 use rd_http::{MemoryDoor, TimeLimits};
-use rd_program::{Files, Machine, MachineFault, Place};
+use rd_program::{Files, Machine, MachineFault, Place, WriteFault};
 use sqlite::{Connection, MemStore};
 use std::alloc::Global;
 use std::io::Write;
@@ -57,6 +57,16 @@ impl Machine for Bare {
         _new_has_sums: bool,
     ) -> Result<Connection<MemStore>, MachineFault> {
         Err(MachineFault::Failed)
+    }
+
+    fn write_new(
+        &mut self,
+        _alloc: Global,
+        _folder: &str,
+        _name: &str,
+        _bytes: &[u8],
+    ) -> Result<(), WriteFault> {
+        Err(WriteFault::Failed)
     }
 
     fn release(&mut self, _conn: &mut Option<Connection<MemStore>>) {}

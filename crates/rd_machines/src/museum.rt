@@ -1,13 +1,13 @@
 //! A machine with one store, which stays between runs.
 
-ghost use Rattle.std.specs.Prelude.{◌≡◌, IfOk, IfSome, None, Ok, Option, Some, true, ℤ};
+ghost use Rattle.std.specs.Prelude.{◌≡◌, Err, IfOk, IfSome, None, Ok, Option, Some, true, ℤ};
 
 use rd_http::{MemoryDoor, TimeLimits};
 use rd_program::{
-    Files, Line, Machine, MachineFault, Place, Remembered, RowNote, Said, SystemFault,
+    Files, Line, Machine, MachineFault, Place, Remembered, RowNote, Said, SystemFault, WriteFault,
 };
 use sqlite::{Alter, Connection, MemStore};
-use std::alloc::Global;
+use std::alloc::{AllocError, Global};
 use std::io::Write;
 
 /// The path of the store of a museum.
@@ -41,6 +41,22 @@ pub trait Supply {
         Ok(())
     }
 
+    /// Takes a new file into a folder; it has none, unless it says otherwise.
+    ///
+    /// It fails with `Exists` where there is a file of that name, with `Failed`, and with `NoMemory`.
+    fn take(
+        &mut self,
+        _alloc: Global,
+        _folder: &str,
+        _name: &str,
+        _bytes: &[u8],
+    ) -> Result<(), WriteFault>
+        ensures clock { clock self.new ≡ clock self.old }
+        ensures over_nothing { result ≡ Err WriteFault.Exists → self.new ≡ self.old }
+    {
+        Err(WriteFault::Failed)
+    }
+
     /// The moment, in seconds since 1970-01-01T00:00:00 UTC.
     ///
     /// It fails when the clock fails, which then shows no moment.
@@ -72,6 +88,33 @@ impl<P: Supply + Drop, S: Alter + Drop> Museum<P, S> {
             self.remembered.keep(path, Said::Missing);
         }
     }
+
+    /// Remembers that there is a file of a name in a folder, or no such folder, where a new one was not taken and memory is
+    /// no reason.
+    fn remember_new(
+        &self,
+        alloc: Global,
+        folder: &str,
+        name: &str,
+        taken: &Result<(), WriteFault>,
+    ) {
+        let said = match taken {
+            Err(WriteFault::Exists) => Said::Standing,
+            Err(WriteFault::Failed) => Said::Missing,
+            _ => return,
+        };
+        if let Ok(path) = path_in(alloc, folder, name) {
+            self.remembered.keep(path.as_str(), said);
+        }
+    }
+}
+
+/// The path of a name in a folder. It fails when memory runs out.
+fn path_in(alloc: Global, folder: &str, name: &str) -> Result<String, AllocError> {
+    let mut path = String::from_str(alloc, folder)?;
+    path.push_str("/")?;
+    path.push_str(name)?;
+    Ok(path)
 }
 
 impl<P: Supply + Drop, S: Alter + Drop> Files for Museum<P, S> {
@@ -152,6 +195,19 @@ impl<P: Supply + Drop, S: Alter + Drop> Machine for Museum<P, S> {
         }
         self.conn = Some(conn);
         Err(MachineFault::Failed)
+    }
+
+    /// It makes a file only where its supply takes it in.
+    fn write_new(
+        &mut self,
+        alloc: Global,
+        folder: &str,
+        name: &str,
+        bytes: &[u8],
+    ) -> Result<(), WriteFault> {
+        let taken = self.supply.take(alloc, folder, name, bytes);
+        self.remember_new(alloc, folder, name, &taken);
+        taken
     }
 
     /// It closes nothing: the one that runs the program does.

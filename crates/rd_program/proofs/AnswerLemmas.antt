@@ -11,7 +11,7 @@ use Rattle.rd_program.specs.Serving.{IsClockRefusal, IsOpenRefusal}
 use Rattle.rd_commands.specs.declared.refusal.Refusal.{Refusal}
 use Rattle.rd_commands.specs.declared.refusal.Refusal.TheVariants.{Clock, Device, Inconsistent, NoAccession, NoMemory, NotADesk, StaffOnly, Store, UnknownKey, Version}
 use Rattle.rd_commands.specs.declared.words.Ask.{Ask}
-use Rattle.rd_commands.specs.declared.words.Ask.TheVariants.{Copy, File, Files, Import, Init, OneQuestion, Serve, StaffKey}
+use Rattle.rd_commands.specs.declared.words.Ask.TheVariants.{Copy, Extract, File, Files, Import, Init, OneQuestion, Serve, Sift, StaffKey}
 
 -- ---- what is asked for
 
@@ -26,6 +26,8 @@ module _ (words : List (List ℕ)) where
   export_asks (Import ask) is asked = is.export asked.0 asked.1 asked.2 asked.3 asked.4
   export_asks (StaffKey ask) is asked = is.export asked.0 asked.1 asked.2 asked.3 asked.4
   export_asks (Copy ask) is asked = is.export asked.0 asked.1 asked.2 asked.3 asked.4
+  export_asks (Sift ask) is asked = is.export asked.0 asked.1 asked.2 asked.3 asked.4
+  export_asks (Extract ask) is asked = is.export asked.0 asked.1 asked.2 asked.3 asked.4
 
   -- and nothing is told of it on the output but the catalogue
   pub export_is_whole : (ask : Ask) → IsAskOf words ask → IsExport words → TellsOnOutput ask → ⊥
@@ -37,6 +39,8 @@ module _ (words : List (List ℕ)) where
   export_is_whole (Import ask) is asked tells = is.export asked.0 asked.1 asked.2 asked.3 asked.4
   export_is_whole (StaffKey ask) is asked tells = is.export asked.0 asked.1 asked.2 asked.3 asked.4
   export_is_whole (Copy ask) is asked tells = is.export asked.0 asked.1 asked.2 asked.3 asked.4
+  export_is_whole (Sift ask) is asked tells = is.export asked.0 asked.1 asked.2 asked.3 asked.4
+  export_is_whole (Extract ask) is asked tells = tells
 
   -- nor is anything where they ask to show what stands
   pub show_is_whole : (ask : Ask) → IsAskOf words ask → IsShow words → TellsOnOutput ask → ⊥
@@ -48,6 +52,8 @@ module _ (words : List (List ℕ)) where
   show_is_whole (Import ask) is asked tells = is.show asked.0 asked.1 asked.2 asked.3 asked.4 asked.5
   show_is_whole (StaffKey ask) is asked tells = is.show asked.0 asked.1 asked.2 asked.3 asked.4 asked.5
   show_is_whole (Copy ask) is asked tells = is.show asked.0 asked.1 asked.2 asked.3 asked.4 asked.5
+  show_is_whole (Sift ask) is asked tells = is.show asked.0 asked.1 asked.2 asked.3 asked.4 asked.5
+  show_is_whole (Extract ask) is asked tells = tells
 
   module _ (acc : ℕ) where
     -- where they ask for a check of an accession, a desk is asked for it
@@ -60,6 +66,8 @@ module _ (words : List (List ℕ)) where
     check_asks (Import ask) is asked = is.check asked.0 asked.1 acc asked.2 asked.3 asked.4
     check_asks (StaffKey ask) is asked = is.check asked.0 asked.1 acc asked.2 asked.3 asked.4
     check_asks (Copy ask) is asked = is.check asked.0 asked.1 acc asked.2 asked.3 asked.4
+    check_asks (Sift ask) is asked = is.check asked.0 asked.1 acc asked.2 asked.3 asked.4
+    check_asks (Extract ask) is asked = is.check asked.0 asked.1 acc asked.2 asked.3 asked.4
 
 pub check_of_desk : (acc : ℕ) (ask : Ask) → AsksCheckOf acc ask → AsksADesk ask
 check_of_desk acc (OneQuestion ask) asked = tt

@@ -1,12 +1,12 @@
 -- What is asked for once it is whole is alike what the words ask for.
-use Rattle.std.proofs.Common.{◌≡◌, ◌≢◌, ◌≤◌, ◌+◌, ◌∙◌, ◌⊎◌, ℕ, ℤ, Err, IfErr, IfOk, List, None, Ok, Option, Result, Some, arith, codes, inl, inr, length, option_map, pos, refl, subst, sym}
+use Rattle.std.proofs.Common.{◌≡◌, ◌≢◌, ◌≤◌, ◌+◌, ◌∙◌, ◌⊎◌, ℕ, ℤ, Err, IfErr, List, None, Ok, Option, Result, Some, arith, codes, inl, inr, length, refl, subst, sym, IfOk, option_map, pos}
 use Rattle.std.specs.Prelude.{⊤}
 use Rattle.std.specs.Borrow.{Bor}
 use Rattle.clap.specs.Words.{Row, Text}
 use Rattle.rd_geometry.specs.Kinds.{size_of}
 use Rattle.rd_geometry.specs.declared.kind.Kind.TheVariants.{Cpm8}
 use Rattle.rd_policy.specs.declared.zone.Zone.{Zone}
-use Rattle.rd_commands.specs.Asks.{IsWithinLimits, TellsInRows, TellsOnOutput, most_read}
+use Rattle.rd_commands.specs.Asks.{IsExtraction, IsWithinLimits, TellsInRows, TellsOnOutput, most_read}
 use Rattle.rd_commands.specs.Beside.{IsBeside, IsPlain}
 use Rattle.rd_commands.specs.Input.{ReadsUpTo}
 use Rattle.rd_commands.specs.Refusals.{status_of}
@@ -19,26 +19,30 @@ use Rattle.rd_commands.specs.declared.refusal.Refusal.TheVariants.{Clock}
 use Rattle.rd_commands.specs.declared.words.Ask.{Ask}
 use Rattle.rd_commands.specs.declared.words.ImportAsk.{ImportAsk}
 use Rattle.rd_commands.specs.declared.words.OneQuestionAsk.{OneQuestionAsk}
-use Rattle.rd_commands.specs.declared.words.Ask.TheVariants.{Copy, File, Files, Import, Init, OneQuestion, Serve, StaffKey}
+use Rattle.rd_commands.specs.declared.words.SiftAsk.{SiftAsk}
+use Rattle.rd_commands.specs.declared.words.Ask.TheVariants.{Copy, Extract, File, Files, Import, Init, OneQuestion, Serve, Sift, StaffKey}
 use Rattle.rd_program.specs.Completing.{AreOperands, Completes, IsDated, IsKeyAt, IsKeyRead, IsKeyed, IsKeyedBy, IsZoneRead, IsZoned, IsZonedBy, with_key, with_moment, with_zone}
+use Rattle.rd_program.specs.Extracting.{ExtractsBy, Made}
 use Rattle.rd_program.specs.Performing.{IsEarlyRefusal}
 use Rattle.rd_commands.proofs.ReadLimits.{reads_after}
-use Rattle.rd_program.proofs.Plain.{image_plain}
+use Rattle.rd_program.proofs.Plain.{extraction_plain, image_plain}
 
 -- One command reads as much of the input as another, and tells as much of what it did.
 pub record IsAlike (new old : Ask) : Type 0 where
   pub read : most_read new ≡ most_read old
   pub rows : TellsInRows new → TellsInRows old
+  pub files : IsExtraction new → IsExtraction old
   pub output : TellsOnOutput new → TellsOnOutput old
   pub within : IsWithinLimits old → IsWithinLimits new
 
 alike_itself : (ask : Ask) → IsAlike ask ask
-alike_itself ask = record { read = refl; rows = λ tells. tells; output = λ tells. tells; within = λ is. is }
+alike_itself ask = record { read = refl; rows = λ tells. tells; files = λ is. is; output = λ tells. tells; within = λ is. is }
 
 alike_then : (new mid old : Ask) → IsAlike new mid → IsAlike mid old → IsAlike new old
 alike_then new mid old later first = record {
   read = later.read ∙ first.read;
   rows = λ tells. first.rows (later.rows tells);
+  files = λ is. first.files (later.files is);
   output = λ tells. first.output (later.output tells);
   within = λ is. later.within (first.within is);
 }
@@ -46,21 +50,25 @@ alike_then new mid old later first = record {
 with_key_alike : (key : Bor (List ℕ)) (ask : Ask) → IsAlike (with_key key ask) ask
 with_key_alike key (File ask) = alike_itself (File ask)
 with_key_alike key (Files ask) = alike_itself (Files ask)
-with_key_alike key (Init ask) = record { read = refl; rows = λ tells. tells; output = λ tells. tells; within = λ is. is }
+with_key_alike key (Init ask) = record { read = refl; rows = λ tells. tells; files = λ is. is; output = λ tells. tells; within = λ is. is }
 with_key_alike key (Serve ask) = alike_itself (Serve ask)
-with_key_alike key (Import ask) = record { read = refl; rows = λ tells. tells; output = λ tells. tells; within = λ is. is }
-with_key_alike key (OneQuestion ask) = record { read = refl; rows = λ tells. tells; output = λ tells. tells; within = λ is. is }
-with_key_alike key (StaffKey ask) = record { read = refl; rows = λ tells. tells; output = λ tells. tells; within = λ is. is }
+with_key_alike key (Import ask) = record { read = refl; rows = λ tells. tells; files = λ is. is; output = λ tells. tells; within = λ is. is }
+with_key_alike key (OneQuestion ask) = record { read = refl; rows = λ tells. tells; files = λ is. is; output = λ tells. tells; within = λ is. is }
+with_key_alike key (StaffKey ask) = record { read = refl; rows = λ tells. tells; files = λ is. is; output = λ tells. tells; within = λ is. is }
+with_key_alike key (Sift ask) = record { read = refl; rows = λ tells. tells; files = λ is. is; output = λ tells. tells; within = λ is. is }
+with_key_alike key (Extract ask) = alike_itself (Extract ask)
 with_key_alike key (Copy ask) = alike_itself (Copy ask)
 
 with_zone_alike : (zone : Zone) (ask : Ask) → IsAlike (with_zone zone ask) ask
 with_zone_alike zone (File ask) = alike_itself (File ask)
 with_zone_alike zone (Files ask) = alike_itself (Files ask)
 with_zone_alike zone (Init ask) = alike_itself (Init ask)
-with_zone_alike zone (Serve ask) = record { read = refl; rows = λ tells. tells; output = λ tells. tells; within = λ is. is }
-with_zone_alike zone (Import ask) = record { read = refl; rows = λ tells. tells; output = λ tells. tells; within = λ is. is }
-with_zone_alike zone (OneQuestion ask) = record { read = refl; rows = λ tells. tells; output = λ tells. tells; within = λ is. is }
+with_zone_alike zone (Serve ask) = record { read = refl; rows = λ tells. tells; files = λ is. is; output = λ tells. tells; within = λ is. is }
+with_zone_alike zone (Import ask) = record { read = refl; rows = λ tells. tells; files = λ is. is; output = λ tells. tells; within = λ is. is }
+with_zone_alike zone (OneQuestion ask) = record { read = refl; rows = λ tells. tells; files = λ is. is; output = λ tells. tells; within = λ is. is }
 with_zone_alike zone (StaffKey ask) = alike_itself (StaffKey ask)
+with_zone_alike zone (Sift ask) = record { read = refl; rows = λ tells. tells; files = λ is. is; output = λ tells. tells; within = λ is. is }
+with_zone_alike zone (Extract ask) = alike_itself (Extract ask)
 with_zone_alike zone (Copy ask) = alike_itself (Copy ask)
 
 with_moment_alike : (seconds : ℤ) (ask : Ask) → IsAlike (with_moment seconds ask) ask
@@ -68,9 +76,11 @@ with_moment_alike seconds (File ask) = alike_itself (File ask)
 with_moment_alike seconds (Files ask) = alike_itself (Files ask)
 with_moment_alike seconds (Init ask) = alike_itself (Init ask)
 with_moment_alike seconds (Serve ask) = alike_itself (Serve ask)
-with_moment_alike seconds (Import ask) = record { read = refl; rows = λ tells. tells; output = λ tells. tells; within = λ is. is }
-with_moment_alike seconds (OneQuestion ask) = record { read = refl; rows = λ tells. tells; output = λ tells. tells; within = λ is. is }
+with_moment_alike seconds (Import ask) = record { read = refl; rows = λ tells. tells; files = λ is. is; output = λ tells. tells; within = λ is. is }
+with_moment_alike seconds (OneQuestion ask) = record { read = refl; rows = λ tells. tells; files = λ is. is; output = λ tells. tells; within = λ is. is }
 with_moment_alike seconds (StaffKey ask) = alike_itself (StaffKey ask)
+with_moment_alike seconds (Sift ask) = record { read = refl; rows = λ tells. tells; files = λ is. is; output = λ tells. tells; within = λ is. is }
+with_moment_alike seconds (Extract ask) = alike_itself (Extract ask)
 with_moment_alike seconds (Copy ask) = alike_itself (Copy ask)
 
 keyed_alike : (files : List ℕ → Option (List ℕ)) (input : Option (List ℕ)) (path : Option (Bor (List ℕ))) (old new : Ask) → IsKeyed files input path old new → IsAlike new old
@@ -101,6 +111,8 @@ asks_of_store (Serve ask) rows beside is apart = refl
 asks_of_store (Import ask) rows beside is apart = refl
 asks_of_store (OneQuestion ask) rows beside is apart = refl
 asks_of_store (StaffKey ask) rows beside is apart = refl
+asks_of_store (Sift ask) rows beside is apart = refl
+asks_of_store (Extract ask) rows beside is apart = absurd (apart (extraction_plain rows beside is))
 asks_of_store (Copy ask) rows beside is apart = refl
 
 pub reads_no_more : (words : List Text) (told : Told) → TellsAll words told → (IsPlain told.beside → ⊥) → most_read told.ask ≡ 0
@@ -123,9 +135,30 @@ early_never refusal (inr (inr memory)) = subst (λ r. status_of r ≢ 2) (sym me
 -- ---- what is written at 1
 
 pub kept_alike : {Keeps : Type 0} (result : Result Done Refusal) (new old : Ask) → (TellsInRows new → TellsInRows old)
-    → IfErr result (λ refusal. status_of refusal ≡ 1 → Keeps ⊎ TellsInRows new) → IfErr result (λ refusal. status_of refusal ≡ 1 → Keeps ⊎ TellsInRows old)
-kept_alike (Ok done) new old rows kept = tt
-kept_alike (Err refusal) new old rows kept = λ one. elim (kept one) [ inl keeps ↦ inl keeps | inr tells ↦ inr (rows tells) ]
+    → (IsExtraction new → IsExtraction old) → IfErr result (λ refusal. status_of refusal ≡ 1 → Keeps ⊎ (TellsInRows new ⊎ IsExtraction new))
+    → IfErr result (λ refusal. status_of refusal ≡ 1 → Keeps ⊎ (TellsInRows old ⊎ IsExtraction old))
+kept_alike (Ok done) new old rows files kept = tt
+kept_alike (Err refusal) new old rows files kept = λ one. elim (kept one) [
+  | inl keeps ↦ inl keeps
+  | inr (inl tells) ↦ inr (inl (rows tells))
+  | inr (inr extracts) ↦ inr (inr (files extracts))
+]
+
+-- ---- files of an image in a folder
+
+-- what reads nothing makes none of them
+pub extracts_none : (files : List ℕ → Option (List ℕ)) (input : Option (List ℕ)) (before after : Option (List Made)) (out written : Option (List ℕ)) (ask : Ask) (result : Result Done Refusal)
+    → most_read ask ≡ 0 → ExtractsBy files input before after out written ask result
+extracts_none files input before after out written (Extract ask) result none = absurd (omega (arith, none))
+extracts_none files input before after out written (File ask) result none = tt
+extracts_none files input before after out written (Files ask) result none = tt
+extracts_none files input before after out written (Init ask) result none = tt
+extracts_none files input before after out written (Serve ask) result none = tt
+extracts_none files input before after out written (Import ask) result none = tt
+extracts_none files input before after out written (Sift ask) result none = tt
+extracts_none files input before after out written (OneQuestion ask) result none = tt
+extracts_none files input before after out written (StaffKey ask) result none = tt
+extracts_none files input before after out written (Copy ask) result none = tt
 
 -- ---- from the operands to what is whole
 
@@ -163,7 +196,9 @@ clock_early (Err refusal) clock = inr (inl clock)
 
 -- ---- a day of what has no moment
 
-pub other_dated : (day : ℤ) (ask : Ask) → ((images : ImportAsk) → ask ≡ Import images → ⊥) → ((one : OneQuestionAsk) → ask ≡ OneQuestion one → ⊥) → IsDated (Some day) ask ask
-other_dated day (Import images) no_import no_one = absurd (no_import images refl)
-other_dated day (OneQuestion one) no_import no_one = absurd (no_one one refl)
-other_dated day ask no_import no_one = (pos 0, refl, tt)
+pub other_dated : (day : ℤ) (ask : Ask) → ((images : ImportAsk) → ask ≡ Import images → ⊥) → ((one : OneQuestionAsk) → ask ≡ OneQuestion one → ⊥)
+    → ((sift : SiftAsk) → ask ≡ Sift sift → ⊥) → IsDated (Some day) ask ask
+other_dated day (Import images) no_import no_one no_sift = absurd (no_import images refl)
+other_dated day (OneQuestion one) no_import no_one no_sift = absurd (no_one one refl)
+other_dated day (Sift sift) no_import no_one no_sift = absurd (no_sift sift refl)
+other_dated day ask no_import no_one no_sift = (pos 0, refl, tt)

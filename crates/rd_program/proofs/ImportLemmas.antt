@@ -27,7 +27,8 @@ use Rattle.rd_commands.specs.declared.files.MachineFault.TheVariants as machine_
 use Rattle.rd_commands.specs.declared.refusal.Refusal.{Refusal}
 use Rattle.rd_commands.specs.declared.refusal.Refusal.TheVariants.{BadSheet, Clock, Device, Inconsistent, NoMemory, NotADesk, Store, Version}
 use Rattle.rd_commands.specs.declared.words.Ask.{Ask}
-use Rattle.rd_commands.specs.declared.words.Ask.TheVariants.{Copy, File, Files, Import, Init, OneQuestion, Serve, StaffKey}
+use Rattle.rd_commands.specs.declared.words.Ask.TheVariants.{Copy, Extract, File, Files, Import, Init, OneQuestion, Serve, Sift, StaffKey}
+use Rattle.rd_program.specs.Rows.{TakesRows}
 use Rattle.rd_commands.proofs.WriterLemmas.{none_written, part_after, piece_more}
 
 -- ---- lines
@@ -185,12 +186,14 @@ whole_is P (Err refusal) r is = subst (λ x. IfOk x (λ done. done ≡ InPart �
 -- ---- what is asked for
 
 -- where words ask for an import, an import is asked for
-pub import_tells : (words : List (List ℕ)) (ask : Ask) → IsAskOf words ask → IsImport words → TellsInRows ask
+pub import_tells : (words : List (List ℕ)) (ask : Ask) → IsAskOf words ask → IsImport words → TakesRows ask
 import_tells words (File ask) is asks = is.import asks.0 asks.1 asks.2 asks.3 asks.4 asks.5
 import_tells words (Files ask) is asks = is.import asks.0 asks.1 asks.2 asks.3 asks.4 asks.5
 import_tells words (Init ask) is asks = is.import asks.0 asks.1 asks.2 asks.3 asks.4 asks.5
 import_tells words (Serve ask) is asks = is.import asks.0 asks.1 asks.2 asks.3 asks.4 asks.5
 import_tells words (Import ask) is asks = tt
+import_tells words (Sift ask) is asks = is.import asks.0 asks.1 asks.2 asks.3 asks.4 asks.5
+import_tells words (Extract ask) is asks = is.import asks.0 asks.1 asks.2 asks.3 asks.4 asks.5
 import_tells words (OneQuestion ask) is asks = is.import asks.0 asks.1 asks.2 asks.3 asks.4 asks.5
 import_tells words (StaffKey ask) is asks = is.import asks.0 asks.1 asks.2 asks.3 asks.4 asks.5
 import_tells words (Copy ask) is asks = is.import asks.0 asks.1 asks.2 asks.3 asks.4 asks.5
@@ -198,6 +201,7 @@ import_tells words (Copy ask) is asks = is.import asks.0 asks.1 asks.2 asks.3 as
 -- what is done in rows is told on the output
 pub rows_tell : (ask : Ask) → TellsInRows ask → TellsOnOutput ask
 rows_tell (Import ask) tells = tt
+rows_tell (Sift ask) tells = tt
 rows_tell (OneQuestion ask) tells = absurd tells
 rows_tell ask tells = tells
 
@@ -222,12 +226,19 @@ not_in_rows words (Init ask) is tells asks = tells
 not_in_rows words (Serve ask) is tells asks = tells
 not_in_rows words (StaffKey ask) is tells asks = tells
 not_in_rows words (Copy ask) is tells asks = tells
+not_in_rows words (Extract ask) is tells asks = tells
 not_in_rows words (Import ask) is tells (inl cat) = is.file cat.0 cat.1 cat.2 cat.3
 not_in_rows words (Import ask) is tells (inr (inl list)) = is.files list.0 list.1 list.2
 not_in_rows words (Import ask) is tells (inr (inr (inl init))) = is.init init.0 init.1 init.2
 not_in_rows words (Import ask) is tells (inr (inr (inr (inl serve)))) = is.serve serve.0 serve.1 serve.2 serve.3 serve.4
 not_in_rows words (Import ask) is tells (inr (inr (inr (inr (inl staff_key))))) = is.staff_key staff_key.0 staff_key.1 staff_key.2
 not_in_rows words (Import ask) is tells (inr (inr (inr (inr (inr copy))))) = is.copy copy.0 copy.1 copy.2 copy.3
+not_in_rows words (Sift ask) is tells (inl cat) = is.file cat.0 cat.1 cat.2 cat.3
+not_in_rows words (Sift ask) is tells (inr (inl list)) = is.files list.0 list.1 list.2
+not_in_rows words (Sift ask) is tells (inr (inr (inl init))) = is.init init.0 init.1 init.2
+not_in_rows words (Sift ask) is tells (inr (inr (inr (inl serve)))) = is.serve serve.0 serve.1 serve.2 serve.3 serve.4
+not_in_rows words (Sift ask) is tells (inr (inr (inr (inr (inl staff_key))))) = is.staff_key staff_key.0 staff_key.1 staff_key.2
+not_in_rows words (Sift ask) is tells (inr (inr (inr (inr (inr copy))))) = is.copy copy.0 copy.1 copy.2 copy.3
 not_in_rows words (OneQuestion ask) is tells (inl cat) = is.file cat.0 cat.1 cat.2 cat.3
 not_in_rows words (OneQuestion ask) is tells (inr (inl list)) = is.files list.0 list.1 list.2
 not_in_rows words (OneQuestion ask) is tells (inr (inr (inl init))) = is.init init.0 init.1 init.2

@@ -23,3 +23,6 @@ pub mod StaffKeyLemmas
 pub mod CopyLemmas
 pub mod OnTimeLemmas
 pub mod BehindLemmas
+pub mod SiftLemmas
+pub mod ExtractLemmas
+pub mod FolderLemmas

@@ -3,16 +3,17 @@ use Rattle.std.proofs.Common.{◌≡◌, ◌∙◌, ◌⊎◌, ℕ, ℤ, Bool, L
 use Rattle.std.specs.Borrow.{Bor}
 use Rattle.clap.specs.Words.{Row, Text}
 use Rattle.rd_geometry.specs.declared.kind.Kind.{Kind}
-use Rattle.rd_commands.specs.Asks.{IsFileAsk, IsFilesAsk, IsMomentNamed}
+use Rattle.rd_commands.specs.Asks.{IsExtraction, IsFileAsk, IsFilesAsk, IsMomentNamed}
 use Rattle.rd_commands.specs.Beside.{IsBeside, IsDayTold, IsPlain, TellsBeside}
 use Rattle.rd_commands.specs.Commands.{AsksCheck, AsksCopy, AsksExport, AsksImport, AsksInit, AsksOfStore, AsksServe, AsksShow, AsksStaffKey, IsAskOf}
+use Rattle.rd_commands.specs.CommandLine.{IsTakenAs}
 use Rattle.rd_commands.specs.Serving.{Place}
 use Rattle.rd_commands.specs.Told.{TellsAll, command_name}
 use Rattle.rd_commands.specs.Words.{AsksOfKind}
 use Rattle.rd_commands.specs.declared.beside.Beside.{Beside}
 use Rattle.rd_commands.specs.declared.beside.Told.{Told}
 use Rattle.rd_commands.specs.declared.words.Ask.{Ask}
-use Rattle.rd_commands.specs.declared.words.Ask.TheVariants.{Copy, File, Files, Import, Init, OneQuestion, Serve, StaffKey}
+use Rattle.rd_commands.specs.declared.words.Ask.TheVariants.{Copy, Extract, File, Files, Import, Init, OneQuestion, Serve, Sift, StaffKey}
 use Rattle.rd_commands.specs.declared.words.Shown.{Shown}
 use Rattle.rd_commands.proofs.Together.{clocked, keyed, no_clocks, no_key, no_moment, timed, unset}
 use Rattle.rd_program.specs.Asked.{AsksAt, NamesStore}
@@ -129,6 +130,8 @@ file_asked_plain (Serve ask) rows beside kind image slot asked is = absurd asked
 file_asked_plain (Import ask) rows beside kind image slot asked is = absurd asked
 file_asked_plain (OneQuestion ask) rows beside kind image slot asked is = absurd asked
 file_asked_plain (StaffKey ask) rows beside kind image slot asked is = absurd asked
+file_asked_plain (Sift ask) rows beside kind image slot asked is = absurd asked
+file_asked_plain (Extract ask) rows beside kind image slot asked is = absurd asked
 file_asked_plain (Copy ask) rows beside kind image slot asked is = absurd asked
 
 files_asked_plain : (ask : Ask) (rows : List Row) (beside : Beside) (kind : Kind) (image : Text) → IsFilesAsk kind image ask
@@ -140,7 +143,16 @@ files_asked_plain (Serve ask) rows beside kind image asked is = absurd asked
 files_asked_plain (Import ask) rows beside kind image asked is = absurd asked
 files_asked_plain (OneQuestion ask) rows beside kind image asked is = absurd asked
 files_asked_plain (StaffKey ask) rows beside kind image asked is = absurd asked
+files_asked_plain (Sift ask) rows beside kind image asked is = absurd asked
+files_asked_plain (Extract ask) rows beside kind image asked is = absurd asked
 files_asked_plain (Copy ask) rows beside kind image asked is = absurd asked
+
+-- `files` takes none of them
+pub extraction_plain : (rows : List Row) (beside : Beside) → IsBeside (codes "files") rows beside → IsPlain beside
+extraction_plain rows beside is = (
+  is.no_key_file (λ takes. unset (keyed (codes "files") takes)),
+  (is.no_zone_file (λ clocks. unset (clocked (codes "files") clocks)), is.no_day (λ has. unset (timed (codes "files") has))),
+)
 
 module _ (words : List Text) (told : Told) (all : TellsAll words told) where
   pub file_plain : (kind : Kind) (image : Text) (slot : ℕ) → IsFileAsk kind image slot told.ask → IsPlain told.beside
@@ -164,3 +176,13 @@ plain_completes files input told plain = record {
   zone = subst (λ path. IsZoned files path told.ask told.ask) (sym plain.1.0) refl;
   moment = subst (λ day. IsDated day told.ask told.ask) (sym plain.1.1) refl;
 }
+
+-- ---- files of an image in a folder
+
+-- they are words of `files`
+pub extraction_taken : (words : List Text) (told : Told) → IsExtraction told.ask → TellsAll words told → IsTakenAs (codes "files") words
+extraction_taken words told is all = subst (λ name. IsTakenAs name words) (named told.ask is) all.taken
+  where
+    named : (ask : Ask) → IsExtraction ask → command_name ask ≡ codes "files"
+    named (Extract ask) is = refl
+    named other is = absurd is

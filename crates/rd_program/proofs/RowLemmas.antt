@@ -147,12 +147,12 @@ reads_on old new state bytes found fields at read kept took = from (pending_of (
           };
         }
 
-next_some : (next : Option Read) (fields : List (List ℕ)) (last : State) (rest : List ℕ) → NextIs next true fields last rest → next ≡ Some (fields, last, rest)
+pub next_some : (next : Option Read) (fields : List (List ℕ)) (last : State) (rest : List ℕ) → NextIs next true fields last rest → next ≡ Some (fields, last, rest)
 next_some None fields last rest is = let e : true ≡ false = is in cc
 next_some (Some p) fields last rest (found, is, state, left) =
     sym (ap (λ f. Some (f, last, rest)) is ∙ (ap (λ s. Some (p.0, s, rest)) state ∙ ap (λ r. Some (p.0, p.1, r)) left))
 
-next_none : (next : Option Read) (fields : List (List ℕ)) (last : State) (rest : List ℕ) → NextIs next false fields last rest → next ≡ None
+pub next_none : (next : Option Read) (fields : List (List ℕ)) (last : State) (rest : List ℕ) → NextIs next false fields last rest → next ≡ None
 next_none None fields last rest is = refl
 next_none (Some p) fields last rest (found, is, state, left) = let e : false ≡ true = found in cc
 
@@ -162,7 +162,7 @@ pub record IsStrict (reader : Reader (Bor (List ℕ))) : Type 0 where
   pub columns : expected_len reader ≡ Some (length header)
 
 -- so once it has taken the names of the columns
-strict_first : (old new : Reader (Bor (List ℕ))) (found : Bool) (fields : List (List ℕ)) → ReadRecord slice_rest old new found fields → (found ≡ true → ReadsOn old new)
+pub strict_first : (old new : Reader (Bor (List ℕ))) (found : Bool) (fields : List (List ℕ)) → ReadRecord slice_rest old new found fields → (found ≡ true → ReadsOn old new)
     → found ≡ true → fields ≡ header → is_flexible old ≡ false → IsStrict new
 strict_first old new found fields read on is named strict = record {
   strict = (on is).2 ∙ strict;
@@ -170,7 +170,7 @@ strict_first old new found fields read on is named strict = record {
 }
 
 -- a row that it takes has as many
-strict_next : (old new : Reader (Bor (List ℕ))) (found : Bool) (fields : List (List ℕ)) → ReadRecord slice_rest old new found fields → (found ≡ true → ReadsOn old new)
+pub strict_next : (old new : Reader (Bor (List ℕ))) (found : Bool) (fields : List (List ℕ)) → ReadRecord slice_rest old new found fields → (found ≡ true → ReadsOn old new)
     → found ≡ true → IsStrict old → IsStrict new × (length fields ≡ length header)
 strict_next old new found fields read on is strict =
     let kept : expected_len new ≡ Some (length header) = subst (λ o. IfSome o (λ e. expected_len new ≡ Some e)) strict.columns (read.5 is strict.strict).0 in
@@ -306,15 +306,20 @@ took_next old new state bytes fields at took =
     go (Some rest) next = (rest, next_some (next_record default_config state [] [] bytes) fields (reader_state new) rest next)
 
 -- a row of another number of fields comes after some rows
+pub longer_no_sheet : (sheet : List ℕ) (first : List (List (List ℕ))) (state : State) (rest : List ℕ) (reader after : Reader (Bor (List ℕ))) → IsAt reader state rest
+    → HasRows sheet first state rest → IsStrict reader → HasOtherLength reader after → (rows : List (List (List ℕ))) → IsSheetOf sheet rows → ⊥
+longer_no_sheet sheet first state rest reader after at has strict longer rows is =
+    let next = took_next reader after state rest longer.fields at longer.took in
+    let both : Some longer.expected ≡ Some (length header) = sym longer.first ∙ strict.columns in
+    let columns : longer.expected ≡ length header = cc both in
+    no_fit StartRecord (strip_bom sheet) (header ∷ first) (header ∷ rows) state is.last (reader_state after) rest is.rest next.0 longer.fields
+    has next.1 (λ same. longer.other (columns ∙ sym same)) is.has is.ends (All-cons (λ row. length row ≡ length header) header rows refl is.fit)
+
 pub no_sheet_after : {S : Type 0} (g : Ghosts S) (files : List ℕ → Option (List ℕ)) (badge : List ℕ) (day : ℤ) (sheet : List ℕ) (out written : Option (List ℕ)) (opened now : Held S)
     (reader after : Reader (Bor (List ℕ))) (number : ℕ) (done : Done) → RowsSoFar g files badge day sheet out written opened now reader number done
     → HasOtherLength reader after → (rows : List (List (List ℕ))) → IsSheetOf sheet rows → ⊥
 no_sheet_after g files badge day sheet out written opened now reader after number done so_far longer rows is =
-    let next = took_next reader after so_far.state so_far.rest longer.fields so_far.at longer.took in
-    let both : Some longer.expected ≡ Some (length header) = sym longer.first ∙ so_far.strict.columns in
-    let columns : longer.expected ≡ length header = cc both in
-    no_fit StartRecord (strip_bom sheet) (header ∷ so_far.rows) (header ∷ rows) so_far.state is.last (reader_state after) so_far.rest is.rest next.0 longer.fields
-    so_far.has next.1 (λ same. longer.other (columns ∙ sym same)) is.has is.ends (All-cons (λ row. length row ≡ length header) header rows refl is.fit)
+    longer_no_sheet sheet so_far.rows so_far.state so_far.rest reader after so_far.at so_far.has so_far.strict longer rows is
 
 -- a reader that has read nothing refuses no first record for its length
 pub none_expected : (reader after : Reader (Bor (List ℕ))) → expected_len reader ≡ None → HasOtherLength reader after → ⊥

@@ -10,7 +10,7 @@ use Rattle.rd_commands.specs.declared.done.Done.{Done}
 use Rattle.rd_commands.specs.declared.refusal.Refusal.{Refusal}
 use Rattle.rd_commands.specs.declared.refusal.Refusal.TheVariants.{Clock}
 use Rattle.rd_commands.specs.declared.words.Ask.{Ask}
-use Rattle.rd_commands.specs.declared.words.Ask.TheVariants.{Copy, Import, Init, OneQuestion, Serve, StaffKey}
+use Rattle.rd_commands.specs.declared.words.Ask.TheVariants.{Copy, Import, Init, OneQuestion, Serve, Sift, StaffKey}
 use Rattle.rd_commands.specs.declared.words.Shown.{Shown}
 use Rattle.rd_commands.specs.Serving.{Place}
 use Rattle.rd_program.specs.Doors.{AsksPath, AsksSums, AsksThen, Wanted}
@@ -71,6 +71,7 @@ abbrev pub AsksBy : Option (List Wanted) → Ask → Option (List Wanted) → Ty
 AsksBy old (Init ask) new = AsksPath old ask.store.now new
 AsksBy old (Serve ask) new = AsksPath old ask.store.now new
 AsksBy old (Import ask) new = AsksPath old ask.store.now new
+AsksBy old (Sift ask) new = AsksPath old ask.import.store.now new
 AsksBy old (OneQuestion ask) new = AsksPath old ask.store.now new
 AsksBy old (StaffKey ask) new = AsksPath old ask.store.now new
 AsksBy old (Copy ask) new = AsksThen old (StoreAt ask.store.now) (NewAt ask.target.now) new
@@ -79,12 +80,14 @@ AsksBy old other new = new ≡ old
 -- when a command that asks at a moment may fail with `clock`
 abbrev pub IsClockDueBy : {S : Type 0} → Ghosts S → (List ℕ → Option (Held S)) → Option (Held S) → Ask → Refusal → Type 0
 IsClockDueBy g stands left (Import ask) refusal = IsClockDue g true ask.when.seconds (stands ask.store.now) left refusal
+IsClockDueBy g stands left (Sift ask) refusal = IsClockDue g true ask.import.when.seconds (stands ask.import.store.now) left refusal
 IsClockDueBy g stands left (OneQuestion ask) refusal = IsClockDue g (is_dated ask.question) ask.when.seconds (stands ask.store.now) left refusal
 IsClockDueBy g stands left ask refusal = ⊤
 
 -- a command that asks at a moment fails before it asks the desk, if its moment is known and has no day
 abbrev pub IsUnaskedBy : Option ℤ → Ask → Result Done Refusal → Type 0
 IsUnaskedBy clock (Import ask) result = IsUnasked (moment_of ask.when.seconds clock) result
+IsUnaskedBy clock (Sift ask) result = IsUnasked (moment_of ask.import.when.seconds clock) result
 IsUnaskedBy clock (OneQuestion ask) result = IsUnasked (moment_of ask.when.seconds clock) result
 IsUnaskedBy clock ask result = ⊤
 

@@ -8,7 +8,7 @@ use Rattle.rd_policy.specs.declared.zone.Zone.{Zone}
 use Rattle.rd_commands.specs.declared.beside.Beside.{Beside}
 use Rattle.rd_commands.specs.declared.beside.Told.{Told}
 use Rattle.rd_commands.specs.declared.words.Ask.{Ask}
-use Rattle.rd_commands.specs.declared.words.Ask.TheVariants.{Import, Init, OneQuestion, Serve, StaffKey}
+use Rattle.rd_commands.specs.declared.words.Ask.TheVariants.{Import, Init, OneQuestion, Serve, Sift, StaffKey}
 use Rattle.rd_commands.specs.declared.words.ImportAsk.{ImportAsk}
 use Rattle.rd_commands.specs.declared.words.WhenAsk.{WhenAsk}
 
@@ -27,6 +27,7 @@ IsZoneAt files path zone = IfSome (files path) (λ bytes. IsZoneOfFile bytes zon
 abbrev pub with_key : Bor (List ℕ) → Ask → Ask
 with_key key (Init ask) = Init (record ask { key = key })
 with_key key (Import ask) = Import (record ask { key = key })
+with_key key (Sift ask) = Sift (record ask { import = record ask.import { key = key } })
 with_key key (OneQuestion ask) = OneQuestion (record ask { key = Some key })
 with_key key (StaffKey ask) = StaffKey (record ask { key = key })
 with_key key ask = ask
@@ -38,6 +39,7 @@ in_zone zone when = record when { zone = zone }
 abbrev pub with_zone : Zone → Ask → Ask
 with_zone zone (Serve ask) = Serve (record ask { zone = zone })
 with_zone zone (Import ask) = Import (record ask { when = in_zone zone ask.when })
+with_zone zone (Sift ask) = Sift (record ask { import = record ask.import { when = in_zone zone ask.import.when } })
 with_zone zone (OneQuestion ask) = OneQuestion (record ask { when = in_zone zone ask.when })
 with_zone zone ask = ask
 
@@ -47,12 +49,14 @@ at_moment seconds when = record when { seconds = Some seconds }
 
 abbrev pub with_moment : ℤ → Ask → Ask
 with_moment seconds (Import ask) = Import (record ask { when = at_moment seconds ask.when })
+with_moment seconds (Sift ask) = Sift (record ask { import = record ask.import { when = at_moment seconds ask.import.when } })
 with_moment seconds (OneQuestion ask) = OneQuestion (record ask { when = at_moment seconds ask.when })
 with_moment seconds ask = ask
 
 -- this holds of the zone of the clocks by which a command asks at a moment
 abbrev pub OfClocks : Ask → (Zone → Type 0) → Type 0
 OfClocks (Import ask) P = P ask.when.zone
+OfClocks (Sift ask) P = P ask.import.when.zone
 OfClocks (OneQuestion ask) P = P ask.when.zone
 OfClocks ask P = ⊤
 

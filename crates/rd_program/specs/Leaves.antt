@@ -2,7 +2,7 @@
 -- that the machine took back, if the machine shows both. If there was no connection, the machine
 -- took none back, and nothing more is stated of such a run: only the machine knows what is in the
 -- file then.
-use Rattle.std.specs.Prelude.{◌≡◌, ◌⊎◌, ⊤, ◌++◌, ℕ, ℤ, List, [], ◌∷◌, Err, IfSome, IsSome, IsTrue, Bool, None, Ok, Option, Result, Some, option_map}
+use Rattle.std.specs.Prelude.{◌≡◌, ◌⊎◌, ⊤, ◌++◌, ℕ, ℤ, List, [], ◌∷◌, Err, IfSome, IsSome, IsTrue, Bool, None, Ok, Option, Result, Some, false, option_map, true}
 use Rattle.std.specs.Io.KnownBytes.{Appends}
 use Rattle.sha2.specs.Sha256.{sha256}
 use Rattle.sqlite.specs.Store.{Ghosts}
@@ -27,7 +27,7 @@ use Rattle.rd_commands.specs.declared.refusal.Refusal.{Refusal}
 use Rattle.rd_commands.specs.declared.refusal.Refusal.TheVariants.{Clock, Device, Inconsistent, NoMemory, NotADesk, Store, Version}
 use Rattle.rd_commands.specs.declared.sheet.SheetRow.{SheetRow}
 use Rattle.rd_commands.specs.declared.words.Ask.{Ask}
-use Rattle.rd_commands.specs.declared.words.Ask.TheVariants.{Copy, Import, Init, OneQuestion, Serve, StaffKey}
+use Rattle.rd_commands.specs.declared.words.Ask.TheVariants.{Copy, Import, Init, OneQuestion, Serve, Sift, StaffKey}
 use Rattle.rd_commands.specs.declared.words.Question.{Question}
 use Rattle.rd_commands.specs.declared.words.Question.TheVariants as question
 
@@ -170,6 +170,11 @@ TakesInTurn badge day (asked ∷ more) old new =
 abbrev pub TakesIn : List ℕ → (ℤ → Type 0) → Desk → Desk → Type 0
 TakesIn badge Days old new = (new ≡ old) ⊎ ((day : ℤ) × Days day × ((asked : List What) × TakesInTurn badge day asked old new))
 
+-- the same where images are taken in; where nothing is to be, the desk is as it was
+abbrev pub TakesUnlessDry : Bool → List ℕ → (ℤ → Type 0) → Desk → Desk → Type 0
+TakesUnlessDry true badge Days old new = IsSame old new
+TakesUnlessDry false badge Days old new = TakesIn badge Days old new
+
 -- ---- inside
 
 -- the desk is as it was, or after the step of one request to take in the image of this row, whatever its bytes
@@ -188,6 +193,7 @@ abbrev pub StandsThere : {S : Type 0} → Bool → (List ℕ → Option (Held S)
 StandsThere shows stands left (Init ask) = HasBoth shows (stands ask.store.now) left
 StandsThere shows stands left (Serve ask) = HasBoth shows (stands ask.store.now) left
 StandsThere shows stands left (Import ask) = HasBoth shows (stands ask.store.now) left
+StandsThere shows stands left (Sift ask) = HasBoth shows (stands ask.import.store.now) left
 StandsThere shows stands left (OneQuestion ask) = HasBoth shows (stands ask.store.now) left
 StandsThere shows stands left (StaffKey ask) = HasBoth shows (stands ask.store.now) left
 StandsThere shows stands left (Copy ask) = HasBoth shows (stands ask.store.now) left
@@ -198,6 +204,8 @@ abbrev pub LeavesBy : {S : Type 0} → Ghosts S → Option ℤ → Option (Held 
 LeavesBy g clock was stands new (Serve ask) = Leaves was (stands ask.store.now) new (Lasts g)
 LeavesBy g clock was stands new (Import ask) =
     Leaves was (stands ask.store.now) new (LeavesStore g (TakesIn (sha256 ask.key.now) (IsDayAt (moment_of ask.when.seconds clock) ask.when.zone)))
+LeavesBy g clock was stands new (Sift ask) =
+    Leaves was (stands ask.import.store.now) new (LeavesStore g (TakesUnlessDry ask.dry_run (sha256 ask.import.key.now) (IsDayAt (moment_of ask.import.when.seconds clock) ask.import.when.zone)))
 LeavesBy g clock was stands new (OneQuestion ask) =
     Leaves was (stands ask.store.now) new (LeavesStore g (StepsOf (option_map sha256 (option_map (λ key. key.now) ask.key)) (IsDayAt (moment_of ask.when.seconds clock) ask.when.zone) ask.question))
 LeavesBy g clock was stands new (Copy ask) = Leaves was (stands ask.store.now) new (LeavesStore g IsSame)
@@ -209,5 +217,6 @@ abbrev pub LeavesRefused : {S : Type 0} → Ghosts S → Option (Held S) → (Li
     → Option (List ℕ) → Option (List ℕ) → Ask → Refusal → Type 0
 LeavesRefused g was stands new out written (Serve ask) refusal = LeavesServe g was (stands ask.store.now) new (place_of ask.place) out written refusal
 LeavesRefused g was stands new out written (Import ask) refusal = NamesOpening g (stands ask.store.now) new refusal
+LeavesRefused g was stands new out written (Sift ask) refusal = NamesOpening g (stands ask.import.store.now) new refusal
 LeavesRefused g was stands new out written (OneQuestion ask) refusal = NamesOpening g (stands ask.store.now) new refusal
 LeavesRefused g was stands new out written ask refusal = ⊤

@@ -36,4 +36,6 @@ pub mod DiskFiles
 pub mod Answers
 pub use Rattle.rd_commands.specs.Sheets
 pub mod Completing
+pub mod Extracting
+pub mod Sifting
 pub mod Performing

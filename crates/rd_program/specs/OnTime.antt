@@ -15,7 +15,7 @@ use Rattle.rd_commands.specs.declared.done.Done.{Done}
 use Rattle.rd_commands.specs.declared.refusal.Refusal.{Refusal}
 use Rattle.rd_commands.specs.declared.refusal.Refusal.TheVariants.{Clock}
 use Rattle.rd_commands.specs.declared.words.Ask.{Ask}
-use Rattle.rd_commands.specs.declared.words.Ask.TheVariants.{Import, OneQuestion}
+use Rattle.rd_commands.specs.declared.words.Ask.TheVariants.{Import, OneQuestion, Sift}
 use Rattle.rd_commands.specs.declared.words.Question.{Question}
 use Rattle.rd_commands.specs.declared.words.Question.TheVariants as question
 use Rattle.rd_program.specs.Leaves.{moment_of}
@@ -82,6 +82,8 @@ must_be_on_time moment trusted = false
 abbrev pub IsOnTimeBy : {S : Type 0} → Ghosts S → Option ℤ → (List ℕ → Option (Held S)) → Option (Held S) → Ask → Result Done Refusal → Type 0
 IsOnTimeBy g clock stands left (Import ask) result =
     IsTrue (must_be_on_time ask.when.seconds ask.when.is_trusting) → OnOk result (WasOnTime g clock ask.when.zone (stands ask.store.now) left)
+IsOnTimeBy g clock stands left (Sift ask) result =
+    IsTrue (must_be_on_time ask.import.when.seconds ask.import.when.is_trusting) → OnOk result (WasOnTime g clock ask.import.when.zone (stands ask.import.store.now) left)
 IsOnTimeBy g clock stands left (OneQuestion ask) result =
     is_dated ask.question ≡ true → IsTrue (must_be_on_time ask.when.seconds ask.when.is_trusting) → OnOk result (WasOnTime g clock ask.when.zone (stands ask.store.now) left)
 IsOnTimeBy g clock stands left ask result = ⊤
@@ -105,4 +107,6 @@ IsBehindBy g clock stands left (Import ask) refusal =
     IsBehindIn g true (must_be_on_time ask.when.seconds ask.when.is_trusting) (moment_of ask.when.seconds clock) ask.when.zone (stands ask.store.now) left refusal
 IsBehindBy g clock stands left (OneQuestion ask) refusal =
     IsBehindIn g (is_dated ask.question) (must_be_on_time ask.when.seconds ask.when.is_trusting) (moment_of ask.when.seconds clock) ask.when.zone (stands ask.store.now) left refusal
+IsBehindBy g clock stands left (Sift ask) refusal =
+    IsBehindIn g true (must_be_on_time ask.import.when.seconds ask.import.when.is_trusting) (moment_of ask.import.when.seconds clock) ask.import.when.zone (stands ask.import.store.now) left refusal
 IsBehindBy g clock stands left ask refusal = ⊤

@@ -8,7 +8,7 @@ use Rattle.sqlite.specs.Store.{Ghosts}
 use Rattle.rd_messages.specs.DoorVisits.{Coming, VisitsSoFar}
 use Rattle.rd_geometry.specs.declared.kind.Kind.{Kind}
 use Rattle.rd_messages.specs.declared.pace.TimeLimits.{TimeLimits}
-use Rattle.rd_commands.specs.Asks.{AsksADesk, AsksCheckOf, IsFileAsk, IsFilesAsk, IsInitAsk, IsServeAsk, IsStaffKeyAsk, TellsInRows, most_read}
+use Rattle.rd_commands.specs.Asks.{AsksADesk, AsksCheckOf, IsFileAsk, IsFilesAsk, IsInitAsk, IsServeAsk, IsStaffKeyAsk, most_read}
 use Rattle.rd_commands.specs.Cat.{Refuses, Serves}
 use Rattle.rd_commands.specs.Input.{ReadsUpTo}
 use Rattle.rd_commands.specs.Listed.{Lists, RefusesList}
@@ -30,12 +30,14 @@ use Rattle.rd_program.specs.Asking.{RefusesOneQuestion, TellsCheck}
 use Rattle.rd_program.specs.DiskFiles.{GivesFile, IsOfImage}
 use Rattle.rd_program.specs.Doors.{Wanted}
 use Rattle.rd_program.specs.Importing.{RefusesImport, TellsRows}
+use Rattle.rd_program.specs.Extracting.{ExtractsBy, Made}
 use Rattle.rd_program.specs.Inits.{LeavesInit, MakesDesk, RefusesInit, done_line}
 use Rattle.rd_program.specs.Leaves.{LeavesBy, LeavesRefused, NamesOpening, OnEnded, StandsThere}
 use Rattle.rd_program.specs.OnTime.{IsBehindBy, IsOnTimeBy}
-use Rattle.rd_program.specs.Rows.{ImportsBy, RefusesSheetBy}
+use Rattle.rd_program.specs.Rows.{ImportsBy, RefusesSheetBy, TakesRows}
 use Rattle.rd_program.specs.Serving.{LimitsVisitors, RefusesServe, WritesOnceLentBy, serve_text}
 use Rattle.rd_program.specs.Showing.{AnswersBy, EndsWith}
+use Rattle.rd_program.specs.Sifting.{SiftsBy}
 use Rattle.rd_program.specs.StaffKeys.{LeavesStaffKey, PutsStaff, RefusesStaffKey}
 use Rattle.rd_program.specs.Visiting.{ServesBy}
 
@@ -54,12 +56,13 @@ pub record Sight (S D : Type 0) : Type 0 where
   pub made : Option (Held S)
   pub fresh : List ℕ → Option (Held S)
   pub new_stores : Option (List (List ℕ × Bool))
+  pub written : Option (List Made)
 
 -- what a machine shows, by each thing that it may show
 abbrev pub sight : {M S D : Type 0} → (M → Bool) → (M → Option ℤ) → (M → List ℕ → Option (List ℕ)) → (M → List ℕ → Option (List ℕ)) → (M → List ℕ → Option (Held S))
     → (M → Option (Held S)) → (M → Option (List Wanted)) → (M → Option (List Bool)) → (M → Place → Option D) → (M → Option TimeLimits)
-    → (M → Option (Held S)) → (M → List ℕ → Option (Held S)) → (M → Option (List (List ℕ × Bool))) → M → Sight S D
-sight shows clock files sheets stands left wanted sums door limits made fresh new_stores machine = record {
+    → (M → Option (Held S)) → (M → List ℕ → Option (Held S)) → (M → Option (List (List ℕ × Bool))) → (M → Option (List Made)) → M → Sight S D
+sight shows clock files sheets stands left wanted sums door limits made fresh new_stores written machine = record {
   shows = shows machine;
   clock = clock machine;
   files = files machine;
@@ -73,6 +76,7 @@ sight shows clock files sheets stands left wanted sums door limits made fresh ne
   made = made machine;
   fresh = fresh machine;
   new_stores = new_stores machine;
+  written = written machine;
 }
 
 -- ---- by what is asked for
@@ -102,9 +106,9 @@ ListensBy out written (Serve ask) (Ok done) = Appends out written (serve_text (p
 ListensBy out written (Serve ask) (Err refusal) = RefusesServe refusal (place_of ask.place) ask.count out written
 ListensBy out written ask result = ⊤
 
--- What a command does, by what the machine shows before it and after it, and by what it wrote.
+-- What a command does, by what the machine shows before it and after it, by the input, and by what it wrote.
 pub record Performs {S D : Type 0} (g : Ghosts S) (told : D → Option VisitsSoFar) (coming : D → Option (List Coming)) (before after : Sight S D)
-    (out written : Option (List ℕ)) (ask : Ask) (result : Result Done Refusal) : Type 0 where
+    (input out written : Option (List ℕ)) (ask : Ask) (result : Result Done Refusal) : Type 0 where
   pub gives : GivesFile before.files out written ask result
   pub makes : MakesBy g before.left before.stands after.left out written ask result
   pub puts : PutsBy g before.left before.stands after.left out written ask result
@@ -112,6 +116,8 @@ pub record Performs {S D : Type 0} (g : Ghosts S) (told : D → Option VisitsSoF
   pub serves : OnOk result (ServesBy g told coming before.door after.door before.stands after.left ask)
   pub limits : OnOk result (LimitsVisitors before.shows after.limits ask)
   pub imports : ImportsBy g before.files before.sheets before.clock before.stands after.left out written ask result
+  pub sifts : SiftsBy g before.files before.sheets before.clock before.stands after.left out written ask result
+  pub extracts : ExtractsBy before.files input before.written after.written out written ask result
   pub answers : AnswersBy g before.clock before.stands after.left out written ask result
   pub unasked : IsUnaskedBy before.clock ask result
   pub on_time : IsOnTimeBy g before.clock before.stands after.left ask result
@@ -133,7 +139,7 @@ pub record CompletesSo {S D : Type 0} (g : Ghosts S) (told_of : D → Option Vis
     (input out written : Option (List ℕ)) (told : Told) (result : Result Done Refusal) : Type 0 where
   pub ask : Ask
   pub whole : Completes before.files input told ask
-  pub performs : Performs g told_of coming before after out written ask result
+  pub performs : Performs g told_of coming before after input out written ask result
 
 -- why a command ends before it asks the machine for a connection: a file was not read, a day has no moment, or memory ran
 -- out
@@ -165,7 +171,7 @@ pub record RunsSo {S D : Type 0} (g : Ghosts S) (told_of : D → Option VisitsSo
 -- What a command does of which nothing stands in a file: as `Performs`, and more of each command.
 pub record DoesPlainly {S D M : Type 0} (g : Ghosts S) (told_of : D → Option VisitsSoFar) (coming : D → Option (List Coming)) (before after : Sight S D) (old new : M)
     (input rest out written : Option (List ℕ)) (ask : Ask) (result : Result Done Refusal) : Type 0 where
-  pub performs : Performs g told_of coming before after out written ask result
+  pub performs : Performs g told_of coming before after input out written ask result
   pub done : (kind : Kind) (slot : ℕ) → IsFileAsk kind (codes "-") slot ask
       → OnOk result (IfSome input (λ image. Serves kind slot image out written))
   pub refused : (kind : Kind) (slot : ℕ) → IsFileAsk kind (codes "-") slot ask
@@ -188,8 +194,8 @@ pub record DoesPlainly {S D M : Type 0} (g : Ghosts S) (told_of : D → Option V
       → OnOk result (Appends out written (serve_text place count))
   pub not_served : (store : List ℕ) (place : Place) (count : ℕ) (rule : List ℕ) → IsServeAsk store place count rule ask
       → IfErr result (λ refusal. RefusesServe refusal place count out written)
-  pub imported : TellsInRows ask → IfOk result (TellsRows out written)
-  pub not_imported : TellsInRows ask → IfErr result (RefusesImport out written)
+  pub imported : TakesRows ask → IfOk result (TellsRows out written)
+  pub not_imported : TakesRows ask → IfErr result (RefusesImport out written)
   pub checked : (acc : ℕ) → AsksCheckOf acc ask → IfOk result (TellsCheck acc out written)
   pub not_answered : AsksADesk ask → IfErr result (RefusesOneQuestion out written)
   pub untouched : IsOfImage ask → new ≡ old

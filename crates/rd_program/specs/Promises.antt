@@ -18,7 +18,7 @@ use Rattle.rd_protocol.specs.declared.request.What.{What}
 use Rattle.rd_protocol.specs.declared.request.What.TheVariants as request
 use Rattle.rd_commands.specs.Beside.{IsTakenApart}
 use Rattle.rd_commands.specs.Cat.{HasNoSoundFile, IsCut, Refuses, Serves}
-use Rattle.rd_commands.specs.CommandLine.{AsksForHelp, AsksForVersion, IsTaken, IsTakenTelling}
+use Rattle.rd_commands.specs.CommandLine.{AsksForHelp, AsksForVersion, IsTaken, IsTakenAs, IsTakenTelling}
 use Rattle.rd_commands.specs.Commands.{AsksCopy, AsksOfStore, IsCommand, IsTakenServingNowhere, IsTakenShowingNothing, NamesAPlace, NamesWhatItShows, TellsARule, Trusts}
 use Rattle.rd_commands.specs.Input.{ReadsUpTo}
 use Rattle.rd_commands.specs.Helps.{RefusesHelp, help_for}
@@ -85,15 +85,15 @@ pub record EndsByWords (words : List (List ℕ)) (result : ℕ) (out written err
   pub usage : result ≡ 2 → ¬ IsCommand words
 
 -- At 0 the errors get nothing. At 1 and 3 they get at most the line of a refusal with this status, and nothing at 1 if
--- the output says which rows an `import` refused, or that a `check` found an image changed. At 1 only such a command has
--- written anything, and at 2 the output gets nothing. At 0, and where the errors get nothing at 1, all that was written
--- was flushed by the machine.
+-- the output says which rows an `import` refused, or that a `check` found an image changed. At 1 only such a command, or
+-- `files`, has written anything, and at 2 the output gets nothing. At 0, and where the errors get nothing at 1, all that
+-- was written was flushed by the machine.
 pub record WritesByStatus (words : List (List ℕ)) (result : ℕ) (flushed : Option (List ℕ) → Bool) (out written errors told : Option (List ℕ)) : Type 0 where
   pub silent : result ≡ 0 → Keeps errors told
   pub names_failure : result ≡ 3 → Tells (λ _. ⊤) result errors told
   pub names_refusal : result ≡ 1 → Tells (λ _. ⊤) result errors told ⊎ (Keeps errors told × IsTakenTelling words × IsFlushed flushed out written)
   pub is_flushed : result ≡ 0 → IsFlushed flushed out written
-  pub refused : result ≡ 1 → Keeps out written ⊎ IsTakenTelling words
+  pub refused : result ≡ 1 → Keeps out written ⊎ (IsTakenTelling words ⊎ IsTakenAs (codes "files") words)
   pub usage_keeps : result ≡ 2 → Keeps out written
 
 -- No more than one byte past an image is read, of the largest kind, and of the kind that the words name; and nothing by

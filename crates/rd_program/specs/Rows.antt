@@ -23,7 +23,7 @@ use Rattle.rd_commands.specs.declared.refusal.Refusal.{Refusal}
 use Rattle.rd_commands.specs.declared.refusal.Refusal.TheVariants.{BadSheet}
 use Rattle.rd_commands.specs.declared.sheet.SheetRow.{SheetRow}
 use Rattle.rd_commands.specs.declared.words.Ask.{Ask}
-use Rattle.rd_commands.specs.declared.words.Ask.TheVariants.{Import}
+use Rattle.rd_commands.specs.declared.words.Ask.TheVariants.{Import, Sift}
 use Rattle.rd_program.specs.Importing.{accession_line, bad_row_line, done_by, word_of}
 use Rattle.rd_program.specs.Leaves.{IsDayAt, moment_of}
 use Rattle.rd_program.specs.Showing.{EndsWith}
@@ -105,6 +105,11 @@ TakesSheetIn g files badge Days sheet out written done before last =
 
 -- ---- inside
 
+-- it asks to take images in, row by row, and neither to try that alone nor to go on past a lost file
+abbrev pub TakesRows : Ask → Type 0
+TakesRows (Import ask) = ⊤
+TakesRows ask = ⊥
+
 -- what `import` does, by what the machine shows
 abbrev pub ImportsBy : {S : Type 0} → Ghosts S → (List ℕ → Option (List ℕ)) → (List ℕ → Option (List ℕ)) → Option ℤ → (List ℕ → Option (Held S)) → Option (Held S)
     → Option (List ℕ) → Option (List ℕ) → Ask → Result Done Refusal → Type 0
@@ -115,6 +120,7 @@ ImportsBy g files sheets clock stands left out written ask result = ⊤
 -- why `import` fails: if the machine shows the sheet, `bad-sheet` is named only where it is due
 abbrev pub RefusesSheetBy : (List ℕ → Option (List ℕ)) → Ask → Refusal → Type 0
 RefusesSheetBy sheets (Import ask) refusal = IfSome (sheets ask.sheet.now) (λ bytes. IsBadSheetDue bytes refusal)
+RefusesSheetBy sheets (Sift ask) refusal = IfSome (sheets ask.import.sheet.now) (λ bytes. IsBadSheetDue bytes refusal)
 RefusesSheetBy sheets ask refusal = ⊤
 
 -- the machine shows the same files and sheets

@@ -9,7 +9,8 @@ ghost use Rattle.rd_program.specs.Performing.{IsEarlyRefusal};
 
 use crate::operands::{key_from, moment_of_day, zone_from};
 use rd_commands::{
-    Ask, Files, ImportAsk, InitAsk, OneQuestionAsk, Refusal, ServeAsk, StaffKeyAsk, Told, WhenAsk,
+    Ask, Files, ImportAsk, InitAsk, OneQuestionAsk, Refusal, ServeAsk, SiftAsk, StaffKeyAsk, Told,
+    WhenAsk,
 };
 use rd_policy::Zone;
 use std::alloc::Global;
@@ -24,13 +25,24 @@ pub(crate) struct Operands {
     zone: Option<Zone>,
 }
 
+/// The images of an `import`, asked for with a key.
+fn import_with_key<'a>(ask: ImportAsk<'a>, key: &'a [u8]) -> ImportAsk<'a>
+    ensures { result ≡ record ask.entry { key = key.entry } }
+{
+    ImportAsk { key, ..ask }
+}
+
 /// What is asked for, with a key.
 fn with_key<'a>(ask: Ask<'a>, key: &'a [u8]) -> Ask<'a>
     ensures { result ≡ spec.with_key key.entry ask.entry }
 {
     match ask {
         Ask::Init(ask) => Ask::Init(InitAsk { key, ..ask }),
-        Ask::Import(ask) => Ask::Import(ImportAsk { key, ..ask }),
+        Ask::Import(ask) => Ask::Import(import_with_key(ask, key)),
+        Ask::Sift(ask) => Ask::Sift(SiftAsk {
+            import: import_with_key(ask.import, key),
+            ..ask
+        }),
         Ask::OneQuestion(ask) => Ask::OneQuestion(OneQuestionAsk {
             key: Some(key),
             ..ask
@@ -55,6 +67,13 @@ fn with_zone<'a>(ask: Ask<'a>, zone: Zone) -> Ask<'a>
         Ask::Serve(ask) => Ask::Serve(ServeAsk { zone, ..ask }),
         Ask::Import(ask) => Ask::Import(ImportAsk {
             when: in_zone(ask.when, zone),
+            ..ask
+        }),
+        Ask::Sift(ask) => Ask::Sift(SiftAsk {
+            import: ImportAsk {
+                when: in_zone(ask.import.when, zone),
+                ..ask.import
+            },
             ..ask
         }),
         Ask::OneQuestion(ask) => Ask::OneQuestion(OneQuestionAsk {
@@ -89,6 +108,13 @@ fn at_day<'a>(ask: Ask<'a>, day: i32) -> Result<Ask<'a>, Refusal>
     match ask {
         Ask::Import(ask) => Ok(Ask::Import(ImportAsk {
             when: on_day(ask.when, day)?,
+            ..ask
+        })),
+        Ask::Sift(ask) => Ok(Ask::Sift(SiftAsk {
+            import: ImportAsk {
+                when: on_day(ask.import.when, day)?,
+                ..ask.import
+            },
             ..ask
         })),
         Ask::OneQuestion(ask) => Ok(Ask::OneQuestion(OneQuestionAsk {

@@ -6,7 +6,7 @@ ghost use Rattle.rd_geometry.specs.Kinds.{size_of};
 ghost use Rattle.rd_geometry.specs.declared.kind.Kind.{Kind};
 ghost use Rattle.rd_geometry.specs.declared.kind.Kind.TheVariants as kinds;
 ghost use Rattle.rd_program.specs.Asking.{RefusesOneQuestion, TellsCheck};
-ghost use Rattle.rd_commands.specs.Asks.{AsksADesk, AsksCheckOf, IsWithinLimits, IsFileAsk, IsFilesAsk, IsInitAsk, IsServeAsk, IsStaffKeyAsk, TellsInRows, TellsOnOutput, most_read};
+ghost use Rattle.rd_commands.specs.Asks.{AsksADesk, AsksCheckOf, IsWithinLimits, IsFileAsk, IsFilesAsk, IsInitAsk, IsServeAsk, IsExtraction, IsStaffKeyAsk, TellsInRows, TellsOnOutput, most_read};
 ghost use Rattle.rd_commands.specs.Cat.{Refuses, Serves};
 ghost use Rattle.rd_commands.specs.CommandLine.{AsksForHelp, AsksForVersion};
 ghost use Rattle.rd_commands.specs.Commands.{AsksCheck, AsksCopy, AsksExport, AsksImport, AsksInit, AsksServe, AsksShow, AsksStaffKey, Sums};
@@ -22,7 +22,7 @@ ghost use Rattle.rd_commands.specs.Refusals.{status_of};
 ghost use Rattle.rd_commands.specs.Told.{TellsAll};
 ghost use Rattle.rd_program.specs.Performing.{CompletesSo, DoesPlainly, EndsEarly, ListensBy, MakesBy, PutsBy, RunsSo, sight};
 ghost use Rattle.rd_commands.specs.Beside.{IsPlain};
-ghost use Rattle.rd_program.specs.Rows.{ImportsBy, RefusesSheetBy};
+ghost use Rattle.rd_program.specs.Rows.{ImportsBy, RefusesSheetBy, TakesRows};
 ghost use Rattle.rd_program.specs.Asked.{AsksBy, IsClockDueBy, IsUnaskedBy, SumsBy};
 ghost use Rattle.rd_program.specs.OnTime.{IsBehindBy, IsOnTimeBy};
 ghost use Rattle.rd_program.specs.Serving.{LimitsVisitors, RefusesServe, WritesOnceLentBy, serve_text};
@@ -30,6 +30,8 @@ ghost use Rattle.rd_commands.specs.Serving.{GivesTimeouts, Place};
 ghost use Rattle.rd_program.specs.Doors.{AsksNoOtherSums};
 ghost use Rattle.rd_program.specs.Visiting.{ServesBy};
 ghost use Rattle.rd_program.specs.DiskFiles.{GivesFile, IsOfImage};
+ghost use Rattle.rd_program.specs.Extracting.{ExtractsBy};
+ghost use Rattle.rd_program.specs.Sifting.{SiftsBy};
 ghost use Rattle.rd_program.specs.Showing.{AnswersBy, EndsWith, what_of};
 ghost use Rattle.rd_program.specs.StaffKeys.{LeavesStaffKey, PutsStaff, RefusesStaffKey};
 ghost use Rattle.rd_commands.specs.declared.words.Shown.{Shown};
@@ -38,10 +40,12 @@ ghost use Rattle.rd_program.specs.Promises.{DoesCat, DoesCheck, DoesCopy, DoesEx
 use crate::completing::{completed, read_operands};
 use crate::copy::copy;
 use crate::export_check::ask_once;
+use crate::extract::extract;
 use crate::import::import;
 use crate::init::init;
 use crate::machine::Machine;
 use crate::serve::serve;
+use crate::sift::sift;
 use crate::staff_key::staff_key;
 use rd_commands::cat::cat;
 use rd_commands::list::list;
@@ -51,7 +55,7 @@ use std::io::{Read, Write};
 
 /// Does what a command asks for.
 ///
-/// It fails as `cat`, `list`, `init`, `serve`, `import`, `ask_once`, `staff_key` and `copy` do.
+/// It fails as `cat`, `list`, `init`, `serve`, `import`, `sift`, `extract`, `ask_once`, `staff_key` and `copy` do.
 fn perform<R: Read, W: Write, M: Machine>(
     alloc: Global,
     ask: Ask,
@@ -62,7 +66,7 @@ fn perform<R: Read, W: Write, M: Machine>(
     requires accession { IsWithinLimits ask }
     ensures never { IfErr result (λ refusal. status_of refusal ≢ 2) }
     ensures kept { IfErr result (λ refusal. status_of refusal ≡ 1
-        → Keeps (W.contents output.old) (W.contents output.new) ⊎ TellsInRows ask.entry) }
+        → Keeps (W.contents output.old) (W.contents output.new) ⊎ (TellsInRows ask.entry ⊎ IsExtraction ask.entry)) }
     ensures in_part { IfOk result (λ done. done ≡ Done.InPart → TellsOnOutput ask.entry) }
     ensures flushed { OnOk result (IsFlushed M.flushed (W.contents output.old) (W.contents output.new)) }
     ensures done { (kind : Kind) (slot : ℕ) → IsFileAsk kind (codes "-") slot ask.entry
@@ -99,9 +103,9 @@ fn perform<R: Read, W: Write, M: Machine>(
         → OnOk result (Appends (W.contents output.old) (W.contents output.new) (serve_text place count)) }
     ensures not_served { (store : List ℕ) (place : Place) (count : ℕ) (rule : List ℕ) → IsServeAsk store place count rule ask.entry
         → IfErr result (λ refusal. RefusesServe refusal place count (W.contents output.old) (W.contents output.new)) }
-    ensures imported { TellsInRows ask.entry
+    ensures imported { TakesRows ask.entry
         → IfOk result (TellsRows (W.contents output.old) (W.contents output.new)) }
-    ensures not_imported { TellsInRows ask.entry
+    ensures not_imported { TakesRows ask.entry
         → IfErr result (RefusesImport (W.contents output.old) (W.contents output.new)) }
     ensures checked { (acc : ℕ) → AsksCheckOf acc ask.entry
         → IfOk result (TellsCheck acc (W.contents output.old) (W.contents output.new)) }
@@ -115,6 +119,10 @@ fn perform<R: Read, W: Write, M: Machine>(
     ensures lent { WritesOnceLentBy (M.shows machine.old) (M.door_limits machine.new) (W.contents output.old) (W.contents output.new) ask.entry }
     ensures imports { ImportsBy M.Disk.Store (M.file_bytes machine.old) (M.sheet_bytes machine.old) (M.clock machine.old) (M.stands machine.old)
         (M.left machine.new) (W.contents output.old) (W.contents output.new) ask.entry result }
+    ensures sifts { SiftsBy M.Disk.Store (M.file_bytes machine.old) (M.sheet_bytes machine.old) (M.clock machine.old) (M.stands machine.old)
+        (M.left machine.new) (W.contents output.old) (W.contents output.new) ask.entry result }
+    ensures extracts { ExtractsBy (M.file_bytes machine.old) (R.remaining input.old) (M.written machine.old) (M.written machine.new)
+        (W.contents output.old) (W.contents output.new) ask.entry result }
     ensures unasked { IsUnaskedBy (M.clock machine.old) ask.entry result }
     ensures on_time { IsOnTimeBy M.Disk.Store (M.clock machine.old) (M.stands machine.old) (M.left machine.new) ask.entry result }
     ensures of_file { GivesFile (M.file_bytes machine.old) (W.contents output.old) (W.contents output.new) ask.entry result }
@@ -139,6 +147,8 @@ fn perform<R: Read, W: Write, M: Machine>(
         Ask::Init(ask) => whole(init(ask, output, machine)),
         Ask::Serve(ask) => whole(serve(alloc, ask, output, machine)),
         Ask::Import(ask) => import(alloc, ask, output, machine),
+        Ask::Sift(ask) => sift(alloc, ask, output, machine),
+        Ask::Extract(ask) => whole(extract(alloc, ask, input, output, machine)),
         Ask::OneQuestion(ask) => ask_once(alloc, ask, output, machine),
         Ask::StaffKey(ask) => whole(staff_key(alloc, ask, output, machine)),
         Ask::Copy(ask) => whole(copy(alloc, ask, output, machine)),
@@ -160,18 +170,18 @@ fn perform_completed<R: Read, W: Write, M: Machine>(
     requires of_store { most_read told.ask ≡ 0 }
     ensures never { IfErr result (λ refusal. status_of refusal ≢ 2) }
     ensures kept { IfErr result (λ refusal. status_of refusal ≡ 1
-        → Keeps (W.contents output.old) (W.contents output.new) ⊎ TellsInRows told.entry.ask) }
+        → Keeps (W.contents output.old) (W.contents output.new) ⊎ (TellsInRows told.entry.ask ⊎ IsExtraction told.entry.ask)) }
     ensures in_part { IfOk result (λ done. done ≡ Done.InPart → TellsOnOutput told.entry.ask) }
     ensures flushed { OnOk result (IsFlushed M.flushed (W.contents output.old) (W.contents output.new)) }
     ensures back { GivesBack (M.shows machine.old) (M.left machine.old) (M.left machine.new) }
     ensures limit { ReadsUpTo (size_of kinds.Cpm8 + 1) (R.remaining input.old) (R.remaining input.new) }
     ensures completed { CompletesSo M.Disk.Store M.Door.told M.Door.coming
-        (sight M.shows M.clock M.file_bytes M.sheet_bytes M.stands M.left M.wanted M.sums M.door M.door_limits M.made M.fresh M.new_stores machine.old)
-        (sight M.shows M.clock M.file_bytes M.sheet_bytes M.stands M.left M.wanted M.sums M.door M.door_limits M.made M.fresh M.new_stores machine.new)
+        (sight M.shows M.clock M.file_bytes M.sheet_bytes M.stands M.left M.wanted M.sums M.door M.door_limits M.made M.fresh M.new_stores M.written machine.old)
+        (sight M.shows M.clock M.file_bytes M.sheet_bytes M.stands M.left M.wanted M.sums M.door M.door_limits M.made M.fresh M.new_stores M.written machine.new)
         (R.remaining input.old) (W.contents output.old) (W.contents output.new) told.entry result
         ⊎ EndsEarly
-        (sight M.shows M.clock M.file_bytes M.sheet_bytes M.stands M.left M.wanted M.sums M.door M.door_limits M.made M.fresh M.new_stores machine.old)
-        (sight M.shows M.clock M.file_bytes M.sheet_bytes M.stands M.left M.wanted M.sums M.door M.door_limits M.made M.fresh M.new_stores machine.new)
+        (sight M.shows M.clock M.file_bytes M.sheet_bytes M.stands M.left M.wanted M.sums M.door M.door_limits M.made M.fresh M.new_stores M.written machine.old)
+        (sight M.shows M.clock M.file_bytes M.sheet_bytes M.stands M.left M.wanted M.sums M.door M.door_limits M.made M.fresh M.new_stores M.written machine.new)
         (W.contents output.old) (W.contents output.new) result }
 {
     match read_operands(alloc, &told, input, machine) {
@@ -198,22 +208,22 @@ fn perform_told<R: Read, W: Write, M: Machine>(
     requires of_store { ¬ IsPlain told.beside → most_read told.ask ≡ 0 }
     ensures never { IfErr result (λ refusal. status_of refusal ≢ 2) }
     ensures kept { IfErr result (λ refusal. status_of refusal ≡ 1
-        → Keeps (W.contents output.old) (W.contents output.new) ⊎ TellsInRows told.entry.ask) }
+        → Keeps (W.contents output.old) (W.contents output.new) ⊎ (TellsInRows told.entry.ask ⊎ IsExtraction told.entry.ask)) }
     ensures in_part { IfOk result (λ done. done ≡ Done.InPart → TellsOnOutput told.entry.ask) }
     ensures flushed { OnOk result (IsFlushed M.flushed (W.contents output.old) (W.contents output.new)) }
     ensures back { GivesBack (M.shows machine.old) (M.left machine.old) (M.left machine.new) }
     ensures limit { ReadsUpTo (size_of kinds.Cpm8 + 1) (R.remaining input.old) (R.remaining input.new) }
     ensures so { CompletesSo M.Disk.Store M.Door.told M.Door.coming
-        (sight M.shows M.clock M.file_bytes M.sheet_bytes M.stands M.left M.wanted M.sums M.door M.door_limits M.made M.fresh M.new_stores machine.old)
-        (sight M.shows M.clock M.file_bytes M.sheet_bytes M.stands M.left M.wanted M.sums M.door M.door_limits M.made M.fresh M.new_stores machine.new)
+        (sight M.shows M.clock M.file_bytes M.sheet_bytes M.stands M.left M.wanted M.sums M.door M.door_limits M.made M.fresh M.new_stores M.written machine.old)
+        (sight M.shows M.clock M.file_bytes M.sheet_bytes M.stands M.left M.wanted M.sums M.door M.door_limits M.made M.fresh M.new_stores M.written machine.new)
         (R.remaining input.old) (W.contents output.old) (W.contents output.new) told.entry result
         ⊎ EndsEarly
-        (sight M.shows M.clock M.file_bytes M.sheet_bytes M.stands M.left M.wanted M.sums M.door M.door_limits M.made M.fresh M.new_stores machine.old)
-        (sight M.shows M.clock M.file_bytes M.sheet_bytes M.stands M.left M.wanted M.sums M.door M.door_limits M.made M.fresh M.new_stores machine.new)
+        (sight M.shows M.clock M.file_bytes M.sheet_bytes M.stands M.left M.wanted M.sums M.door M.door_limits M.made M.fresh M.new_stores M.written machine.old)
+        (sight M.shows M.clock M.file_bytes M.sheet_bytes M.stands M.left M.wanted M.sums M.door M.door_limits M.made M.fresh M.new_stores M.written machine.new)
         (W.contents output.old) (W.contents output.new) result }
     ensures plain { IsPlain told.entry.beside → DoesPlainly M.Disk.Store M.Door.told M.Door.coming
-        (sight M.shows M.clock M.file_bytes M.sheet_bytes M.stands M.left M.wanted M.sums M.door M.door_limits M.made M.fresh M.new_stores machine.old)
-        (sight M.shows M.clock M.file_bytes M.sheet_bytes M.stands M.left M.wanted M.sums M.door M.door_limits M.made M.fresh M.new_stores machine.new)
+        (sight M.shows M.clock M.file_bytes M.sheet_bytes M.stands M.left M.wanted M.sums M.door M.door_limits M.made M.fresh M.new_stores M.written machine.old)
+        (sight M.shows M.clock M.file_bytes M.sheet_bytes M.stands M.left M.wanted M.sums M.door M.door_limits M.made M.fresh M.new_stores M.written machine.new)
         machine.old machine.new (R.remaining input.old) (R.remaining input.new)
         (W.contents output.old) (W.contents output.new) told.entry.ask result }
 {
@@ -290,8 +300,8 @@ pub fn run<'a, R: Read, W: Write, E: Write, M: Machine>(
     // for help or the version.
     ensures told { why.old.told ≡ None → IfSome why.new.told (TellsAll (texts words.entry.now)) }
     ensures so { why.old.told ≡ None → IfSome why.new.told (λ told. RunsSo M.Disk.Store M.Door.told M.Door.coming
-        (sight M.shows M.clock M.file_bytes M.sheet_bytes M.stands M.left M.wanted M.sums M.door M.door_limits M.made M.fresh M.new_stores machine.old)
-        (sight M.shows M.clock M.file_bytes M.sheet_bytes M.stands M.left M.wanted M.sums M.door M.door_limits M.made M.fresh M.new_stores machine.new)
+        (sight M.shows M.clock M.file_bytes M.sheet_bytes M.stands M.left M.wanted M.sums M.door M.door_limits M.made M.fresh M.new_stores M.written machine.old)
+        (sight M.shows M.clock M.file_bytes M.sheet_bytes M.stands M.left M.wanted M.sums M.door M.door_limits M.made M.fresh M.new_stores M.written machine.new)
         (R.remaining input.old) (W.contents output.old) (W.contents output.new) (E.contents errors.old) (E.contents errors.new) told result) }
     ensures untold { result ≡ 0 → why.new.told ≡ None → AsksForHelp (texts words.entry.now) ⊎ AsksForVersion (texts words.entry.now) }
 

@@ -19,9 +19,18 @@ use rd_zone_files::{ZoneFileFault, zone_in_file};
 use std::alloc::Global;
 use std::io::Write;
 
+/// Whether a command writes files into a folder, and the path is of one of these.
+fn is_new_file(ask: &Ask, path: &str) -> bool {
+    match ask {
+        Ask::Extract(ask) => path.starts_with(ask.folder),
+        _ => false,
+    }
+}
+
 /// What to do after what the system said of a path or a place.
-fn advice_on(path: &str, said: Said) -> Option<Advice> {
+fn advice_on(ask: &Ask, path: &str, said: Said) -> Option<Advice> {
     match said {
+        Said::Missing | Said::NoFolder if is_new_file(ask, path) => Some(Advice::MakeFolder),
         Said::Denied if path.starts_with("port ") => Some(Advice::OtherPlace),
         Said::Missing | Said::Denied | Said::Folder | Said::NoFolder => Some(Advice::CheckPath),
         Said::Taken => Some(Advice::OtherPlace),
@@ -30,13 +39,13 @@ fn advice_on(path: &str, said: Said) -> Option<Advice> {
 }
 
 /// Notes what the system said last, if the machine remembers it.
-fn note_system<M: Files>(machine: &M, notes: &mut Notes)
+fn note_system<M: Files>(ask: &Ask, machine: &M, notes: &mut Notes)
     ensures quiet { IsQuiet notes.old notes.new }
 {
     let Some(SystemFault { path, said }) = machine.last_fault() else {
         return;
     };
-    let advised = advice_on(path.as_str(), said);
+    let advised = advice_on(ask, path.as_str(), said);
     notes.add(Line::Path { path, said });
     if let Some(advice) = advised {
         notes.add(Line::Next(advice));
@@ -165,7 +174,9 @@ fn note_files<M: Machine>(
             note_size(alloc, &ImageAsk { kind, image }, machine, notes);
         }
         (Ask::Files(ask), Refusal::WrongSize) => note_size(alloc, ask, machine, notes),
+        (Ask::Extract(ask), Refusal::WrongSize) => note_size(alloc, &ask.image, machine, notes),
         (Ask::Import(ask), Refusal::BadSheet) => note_sheet(alloc, ask, machine, notes),
+        (Ask::Sift(ask), Refusal::BadSheet) => note_sheet(alloc, &ask.import, machine, notes),
         (Ask::Copy(_), Refusal::Store | Refusal::NoMemory | Refusal::Device) => {
             notes.add(Line::Next(Advice::CopyAnew));
         }
@@ -182,6 +193,14 @@ fn note_rows<M: Files>(alloc: Global, machine: &M, notes: &mut Notes)
     }
 }
 
+/// Whether an import ended at a row whose file could not be read.
+fn is_cut_short(ask: &Ask, notes: &Notes) -> bool {
+    match (ask, notes.lines.as_slice().last()) {
+        (Ask::Import(_), Some(Line::Unread { .. })) => true,
+        _ => false,
+    }
+}
+
 /// Notes why a command was refused, and what to do next.
 fn note_refusal<M: Machine>(
     alloc: Global,
@@ -193,10 +212,13 @@ fn note_refusal<M: Machine>(
     ensures quiet { IsQuiet notes.old notes.new }
     ensures same { machine.new ≡ machine.old }
 {
-    note_system(machine, notes);
+    note_system(&told.ask, machine, notes);
     note_files(alloc, &told.ask, refused, machine, notes);
     if refused == Refusal::Device {
         note_operands(alloc, &told.beside, machine, notes);
+        if is_cut_short(&told.ask, notes) {
+            notes.add(Line::Next(Advice::KeepGoing));
+        }
     }
     if let Some(advice) = advice_of(refused) {
         notes.add(Line::Next(advice));

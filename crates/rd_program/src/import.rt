@@ -36,17 +36,17 @@ use std::io::Write;
 
 /// Who gives images, and when.
 #[derive(Clone, Copy)]
-struct Giver {
+pub(crate) struct Giver {
     /// The SHA-256 of the desk key.
-    badge: [u8; 32],
+    pub(crate) badge: [u8; 32],
     /// The day, counted from 1970-01-01.
-    day: i32,
+    pub(crate) day: i32,
 }
 
 /// Asks a desk to take in the image of a row, and gives its answer.
 ///
 /// It fails with `Unavailable` when the store fails or memory runs out.
-fn put_image<S: Alter + Drop>(
+pub(crate) fn put_image<S: Alter + Drop>(
     alloc: Global,
     row: SheetRow,
     bytes: Vec<u8>,
@@ -73,7 +73,7 @@ fn put_image<S: Alter + Drop>(
 /// Writes the line of an accession, which says in a word what became of its row, and flushes the output.
 ///
 /// It fails with `NoMemory`, and with `Device` when a write or the flush fails.
-fn tell_accession<M: Machine, W: Write>(
+pub(crate) fn tell_accession<M: Machine, W: Write>(
     alloc: Global,
     acc: u32,
     word: &str,
@@ -92,7 +92,7 @@ fn tell_accession<M: Machine, W: Write>(
 /// Writes a line that says that a row is bad, and flushes the output. Rows are counted from 1.
 ///
 /// It fails with `NoMemory`, and with `Device` when a write or the flush fails.
-fn tell_bad_row<M: Machine, W: Write>(
+pub(crate) fn tell_bad_row<M: Machine, W: Write>(
     alloc: Global,
     number: u64,
     output: &mut W,

@@ -8,6 +8,7 @@ mod copy;
 mod dispatch;
 mod explaining;
 mod export_check;
+mod extract;
 mod faults;
 mod import;
 mod init;
@@ -17,11 +18,12 @@ mod open_desk;
 mod operands;
 mod serve;
 mod show;
+mod sift;
 mod staff_key;
 
 pub use dispatch::{Why, run};
 pub use explaining::explain;
-pub use machine::{Machine, connect_fault};
+pub use machine::{Machine, WriteFault, connect_fault};
 pub use rd_commands::{
     Files, MachineFault, Place, Refusal, Remembered, RowNote, SystemFault, exit_code, read_front,
 };

@@ -1,4 +1,4 @@
-ghost use Rattle.std.specs.Prelude.{◌↔◌, ◌≡◌, Bool, IfErr, IfNone, IfOk, IfSome, IsTrue, List, None, Ok, Option, Some, false, ℕ, ℤ};
+ghost use Rattle.std.specs.Prelude.{◌↔◌, ◌≡◌, Bool, Err, IfErr, IfNone, IfOk, IfSome, IsTrue, List, None, Ok, OnErr, OnOk, Option, Some, false, ℕ, ℤ};
 ghost use Rattle.sqlite.specs.Held.{Held};
 ghost use Rattle.sqlite.specs.declared.error.Error.TheVariants.{SqliteFailure};
 ghost use Rattle.sqlite.specs.declared.error.ErrorCode.TheVariants as code;
@@ -8,12 +8,14 @@ ghost use Rattle.rd_commands.specs.Serving as places;
 ghost use Rattle.rd_commands.specs.Serving.{place_of};
 ghost use Rattle.rd_program.specs.Copying.{AsksNew};
 ghost use Rattle.rd_program.specs.Doors.{Asks, AsksPath, AsksSums, LendsDoor, NewAt, Wanted};
+ghost use Rattle.rd_program.specs.Extracting.{Made, MakesNext};
 ghost use Rattle.rd_program.specs.Leaves.{LeavesNone};
 ghost use Rattle.rd_program.specs.Rows.{KeepsFiles};
 
 use rd_commands::{Files, MachineFault, Place};
 use rd_http::{Door, TimeLimits};
 use sqlite::{Alter, Connection, Error, ErrorCode};
+use std::alloc::Global;
 
 /// Why a connection was not made, from the fault of the database.
 pub fn connect_fault(error: Error) -> MachineFault
@@ -23,6 +25,17 @@ pub fn connect_fault(error: Error) -> MachineFault
         Error::SqliteFailure(ErrorCode::OutOfMemory) => MachineFault::NoMemory,
         _ => MachineFault::Failed,
     }
+}
+
+/// Why a machine does not make a file.
+#[derive(Clone, Copy, PartialEq, Eq, Debug)]
+pub enum WriteFault {
+    /// There is something of that name.
+    Exists,
+    /// The file cannot be made, or not whole.
+    Failed,
+    /// Memory ran out.
+    NoMemory,
 }
 
 /// What the program asks of the machine that it runs on.
@@ -55,6 +68,9 @@ pub trait Machine: Files {
 
     /// For each call of `connect`, whether a file that is new was to have sums, the latest first, if the machine shows it.
     ghost sums: { Self → Option (List Bool) } = { λ _. None };
+
+    /// The files that it wrote anew, the earliest first, if it shows them.
+    ghost written: { Self → Option (List Made) } = { λ _. None };
 
     /// The connection that it took back last, if the machine shows it.
     ghost left: { Self → Option (Held Self.Disk) };
@@ -147,6 +163,28 @@ pub trait Machine: Files {
         ensures asked { wanted self.new ≡ wanted self.old }
         ensures sums { sums self.new ≡ sums self.old }
         ensures shows { shows self.new ≡ shows self.old };
+
+    /// Makes a file with these bytes under a name in a folder that is there. It writes over nothing.
+    ///
+    /// It fails with `Exists` when there is something of that name, and then makes nothing; with `Failed` when the file
+    /// cannot be made, or not whole, and a front part of it may stay then; and with `NoMemory`.
+    fn write_new(
+        &mut self,
+        alloc: Global,
+        folder: &str,
+        name: &str,
+        bytes: &[u8],
+    ) -> Result<(), WriteFault>
+        ensures made { OnOk result (MakesNext (written self.old) (written self.new) (record { folder = folder.now; name = name.now; bytes = bytes.now })) }
+        ensures none { OnErr result (written self.new ≡ written self.old) }
+        ensures over_nothing { result ≡ Err WriteFault.Exists → self.new ≡ self.old }
+        ensures left { left self.new ≡ left self.old }
+        ensures shows { shows self.new ≡ shows self.old }
+        ensures stands { stands self.new ≡ stands self.old }
+        ensures asked { wanted self.new ≡ wanted self.old }
+        ensures clock { clock self.new ≡ clock self.old }
+        ensures door { door self.new ≡ door self.old }
+        ensures files { KeepsFiles Self.file_bytes Self.sheet_bytes self.old self.new };
 
     /// The seconds since 1970-01-01T00:00:00 UTC.
     ///

@@ -8,7 +8,7 @@ use rd_fakes::wire::new_door;
 use rd_geometry::{Kind, NoMemory};
 use rd_http::TimeLimits;
 use rd_machines::Supply;
-use rd_program::{MachineFault, Place, Remembered};
+use rd_program::{MachineFault, Place, Remembered, WriteFault};
 use std::alloc::{AllocError, Global};
 
 /// A file of the machine: its path and its bytes.
@@ -41,6 +41,10 @@ pub(crate) struct Given {
     alloc: Global,
     /// If there are several at a path, the last one counts.
     pub(crate) files: Vec<File>,
+    /// The folders that files can be made in.
+    folders: Vec<String>,
+    /// How many files were made in the last run.
+    pub(crate) made: usize,
     pub(crate) lacks: Vec<Lack>,
     /// What the clock shows, or why it shows nothing.
     clock: Result<i64, MachineFault>,
@@ -85,6 +89,8 @@ pub(crate) fn new_museum(alloc: Global) -> Result<Museum, NoMemory> {
     let supply = Given {
         alloc,
         files: Vec::new(alloc),
+        folders: Vec::new(alloc),
+        made: 0,
         lacks: Vec::new(alloc),
         clock: Err(MachineFault::Failed),
         place: None,
@@ -106,6 +112,18 @@ fn front_of(bytes: &[u8]) -> &[u8] {
 }
 
 impl Given {
+    /// Has a folder from now on.
+    pub(crate) fn add_folder(&mut self, path: &str) -> Result<()> {
+        let path = String::from_str(self.alloc, path)?;
+        Ok(self.folders.push(path)?)
+    }
+
+    /// The bytes of the file at a path; `None` if there is none.
+    pub(crate) fn made_at(&self, path: &str) -> Option<&[u8]> {
+        let file = self.files.iter().find(|file| file.path.as_str() == path)?;
+        Some(file.bytes.as_slice())
+    }
+
     /// Sets what the clock shows from now on; `None` if it shows nothing. It shows nothing either if the machine does not give
     /// it.
     pub(crate) fn set_clock(&mut self, shown: Option<i64>) {
@@ -134,6 +152,14 @@ impl Given {
         }
         found
     }
+}
+
+/// A file of a folder, with these bytes.
+fn new_file(alloc: Global, folder: &str, name: &str, bytes: &[u8]) -> Result<File, AllocError> {
+    Ok(File {
+        path: format!(in alloc; "{folder}/{name}")?,
+        bytes: Vec::from_slice(alloc, bytes)?,
+    })
 }
 
 fn copied(alloc: Global, bytes: &[u8]) -> Result<Vec<u8>, MachineFault> {
@@ -174,6 +200,33 @@ impl Supply for Given {
         let told = told_door(self.alloc, place, limits).map_err(|_| MachineFault::NoMemory)?;
         self.place = Some(told);
         self.given("door")
+    }
+
+    /// It also fails where there is no such folder, and where the trial says so of the path.
+    fn take(
+        &mut self,
+        alloc: Global,
+        folder: &str,
+        name: &str,
+        bytes: &[u8],
+    ) -> Result<(), WriteFault> {
+        let file = new_file(alloc, folder, name, bytes).map_err(|_| WriteFault::NoMemory)?;
+        if self.made_at(file.path.as_str()).is_some() {
+            return Err(WriteFault::Exists);
+        }
+        match self.given(file.path.as_str()) {
+            Ok(()) => {}
+            Err(MachineFault::NoMemory) => return Err(WriteFault::NoMemory),
+            Err(MachineFault::Failed) => return Err(WriteFault::Failed),
+        }
+        if !self.folders.iter().any(|there| there.as_str() == folder) {
+            return Err(WriteFault::Failed);
+        }
+        if self.files.push(file).is_err() {
+            return Err(WriteFault::NoMemory);
+        }
+        self.made = self.made.saturating_add(1);
+        Ok(())
     }
 
     fn now(&mut self) -> Result<i64, MachineFault> {

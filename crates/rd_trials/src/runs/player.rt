@@ -41,6 +41,7 @@ fn is_first(word: &str) -> bool {
         "run"
             | "no-command"
             | "file"
+            | "folder"
             | "sql"
             | "sql-idle"
             | "sql-refused"
@@ -122,6 +123,7 @@ impl<'a> Player<'a> {
                 self.begin_run(rt.alloc(), (place, text), words, true)
             }
             "file" => self.item = Item::File(File::new(rt.alloc(), text)?),
+            "folder" => self.museum.supply.add_folder(text)?,
             "query" => self.item = Item::Question(Question::new(rt.alloc(), place, text)),
             "anew" => self.museum = new_museum(rt.alloc())?,
             "swap" => mem::swap(&mut self.museum.conn, &mut self.museum.fresh),

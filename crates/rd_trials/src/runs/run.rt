@@ -13,6 +13,13 @@ use rd_program::{MachineFault, Why, explain, run};
 use std::alloc::{AllocError, Global};
 use std::mem;
 
+/// A file that a run must make: its path and its bytes.
+#[derive(Drop)]
+struct Making<'a> {
+    path: &'a str,
+    bytes: Vec<u8>,
+}
+
 /// A run: its name and its place, the words, the standard input, how much the output takes, what
 /// the machine does not give, the visits, and what the run must leave.
 #[derive(Drop)]
@@ -28,6 +35,8 @@ pub(crate) struct Run<'a> {
     /// What the clock of the machine shows.
     clock: Option<i64>,
     pub(crate) visitors: Vec<Visitor<'a>>,
+    /// The files that it must make; it may make no other.
+    makings: Vec<Making<'a>>,
     wanted: Wanted<'a>,
 }
 
@@ -104,6 +113,7 @@ impl<'a> Run<'a> {
             lacks: Vec::new(alloc),
             clock,
             visitors: Vec::new(alloc),
+            makings: Vec::new(alloc),
             wanted,
         }
     }
@@ -113,6 +123,12 @@ impl<'a> Run<'a> {
     pub(crate) fn read(&mut self, rt: &HostRuntime, word: &str, text: &'a str) -> Result<()> {
         if let Some(visitor) = self.visitors.last_mut() {
             return visitor.read(rt, word, text);
+        }
+        if word == "makes" {
+            return self.add_making(rt.alloc(), text);
+        }
+        if let Some(making) = self.makings.last_mut() {
+            return build_with(rt, &mut making.bytes, word, text);
         }
         match word {
             "words" => self.words = words_of(rt.alloc(), text)?,
@@ -128,9 +144,19 @@ impl<'a> Run<'a> {
         Ok(())
     }
 
+    /// Begins one more file that the run must make; the lines after it build its bytes.
+    fn add_making(&mut self, alloc: Global, path: &'a str) -> Result<()> {
+        self.wanted.made = self.wanted.made.saturating_add(1);
+        let bytes = Vec::new(alloc);
+        Ok(self.makings.push(Making { path, bytes })?)
+    }
+
     /// Adds what the machine does not give: the store, a new one, one with sums, the clock, the door, or the file at a path.
     fn add_lack(&mut self, alloc: Global, what: &str, fault: MachineFault) -> Result<()> {
-        if !matches!(what, "store" | "new" | "sums" | "clock" | "door") && !what.contains('.') {
+        if !matches!(what, "store" | "new" | "sums" | "clock" | "door")
+            && !what.contains('.')
+            && !what.contains('/')
+        {
             bail!("the machine has no such thing");
         }
         let what = String::from_str(alloc, what)?;
@@ -143,6 +169,7 @@ impl<'a> Run<'a> {
         museum.supply.set_clock(self.clock);
         museum.door = door_of(rt, self.visitors.as_slice())?;
         museum.supply.place = None;
+        museum.supply.made = 0;
         Ok(())
     }
 
@@ -165,6 +192,7 @@ impl<'a> Run<'a> {
             output: output.taken,
             errors,
             place: museum.supply.place.take(),
+            made: museum.supply.made,
             is_released: museum.conn.is_some(),
         })
     }
@@ -184,7 +212,16 @@ impl<'a> Run<'a> {
         Ok(())
     }
 
-    /// Plays the run on a machine. The run is a case, and so is each of its visits.
+    /// Compares each file that the run must make with the one that is there.
+    fn judge_makings(&self, rt: &HostRuntime, museum: &Museum, tally: &mut Tally) -> Result<()> {
+        for making in &self.makings {
+            let came = museum.supply.made_at(making.path).unwrap_or(b"no file");
+            tally.judge(rt, (self.place, self.name), making.bytes.as_slice(), came)?;
+        }
+        Ok(())
+    }
+
+    /// Plays the run on a machine. The run is a case, and so is each of its visits and each file that it must make.
     pub(crate) fn play(
         &mut self,
         rt: &HostRuntime,
@@ -194,6 +231,7 @@ impl<'a> Run<'a> {
         self.prepare(rt, museum)?;
         let ran = self.ran(rt.alloc(), museum)?;
         self.wanted.judge(rt, (self.place, self.name), &ran, tally)?;
+        self.judge_makings(rt, museum, tally)?;
         self.judge_visits(rt, museum, tally)
     }
 }

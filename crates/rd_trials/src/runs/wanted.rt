@@ -17,6 +17,8 @@ pub(crate) struct Ran {
     pub(crate) errors: Vec<u8>,
     /// The place that the program asked the machine for, and how long a visitor may take there if that is not as usual.
     pub(crate) place: Option<String>,
+    /// How many files it made.
+    pub(crate) made: usize,
     /// Whether the machine has its store back.
     pub(crate) is_released: bool,
 }
@@ -29,6 +31,8 @@ pub(crate) struct Wanted<'a> {
     output: Vec<u8>,
     errors: Vec<u8>,
     place: Option<String>,
+    /// How many files it must make.
+    pub(crate) made: usize,
     /// Texts that the output must have. If there are any, the rest of the output is not compared.
     parts: Vec<&'a str>,
     /// Whether the run must write something to its errors, whatever it is.
@@ -41,11 +45,14 @@ fn outcome_of(
     status: u8,
     output: &[u8],
     errors: &[u8],
-    place: Option<&str>,
+    (place, made): (Option<&str>, usize),
 ) -> Result<Vec<u8>, AllocError> {
     let mut text = format!(in alloc; "[status {status}")?;
     if let Some(place) = place {
         write!(text, ", {place}")?;
+    }
+    if made != 0 {
+        write!(text, ", makes {made}")?;
     }
     text.push_str("] ")?;
     let mut told = text.into_bytes();
@@ -78,6 +85,7 @@ impl<'a> Wanted<'a> {
             output: Vec::new(alloc),
             errors: Vec::new(alloc),
             place: None,
+            made: 0,
             parts: Vec::new(alloc),
             is_mistake,
         }
@@ -117,7 +125,7 @@ impl<'a> Wanted<'a> {
             self.status,
             self.output.as_slice(),
             errors,
-            self.place.as_deref(),
+            (self.place.as_deref(), self.made),
         )
     }
 
@@ -133,7 +141,13 @@ impl<'a> Wanted<'a> {
         } else {
             ran.errors.as_slice()
         };
-        let mut told = outcome_of(alloc, ran.status, output, errors, ran.place.as_deref())?;
+        let mut told = outcome_of(
+            alloc,
+            ran.status,
+            output,
+            errors,
+            (ran.place.as_deref(), ran.made),
+        )?;
         if !ran.is_released {
             told.extend_from_slice(b" [the store is kept]")?;
         }

@@ -6,6 +6,7 @@ pub returns-in_default : goal.returns-in_default
 returns-in_default c = rw (
   differs _ _ c.in_default.not-cat,
   differs _ _ c.in_default.not-list,
+  differs _ _ c.in_default.not-files,
   differs _ _ c.in_default.not-init,
   differs _ _ c.in_default.not-serve,
   differs _ _ c.in_default.not-import,

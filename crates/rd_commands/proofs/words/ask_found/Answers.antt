@@ -1,10 +1,10 @@
 use Rattle.std.proofs.Common.{◌≡◌, ◌∙◌, Some, ap, codes, false, inl, inr, refl, subst, sym}
 use Rattle.clap.specs.Words.{one_of, subcommand_rows_of}
-use Rattle.rd_commands.specs.Asks.{AreCatRows, AreCheckRows, AreCopyRows, AreExportRows, AreImportRows, AreInitRows, AreServeRows, AreShowRows, AreStaffKeyRows, AsksOneQuestion, EntersAs}
+use Rattle.rd_commands.specs.Asks.{AreCatRows, AreCheckRows, AreCopyRows, AreExportRows, AreFilesRows, AreImportRows, AreInitRows, AreServeRows, AreShowRows, AreStaffKeyRows, AreWays, AsksOneQuestion, EntersAs}
 use Rattle.rd_commands.specs.declared.words.Question.TheVariants.{Show}
 use Rattle.rd_commands.specs.Zones.{HasZoneRule, IsFlagTold, TellsTrust}
 use Rattle.rd_commands.proofs.GetterLemmas.{clockless, entered_as, entered_named, name_met, no_init, rows_met}
-use Rattle.rd_commands.proofs.Looks.{check_name, question_from, shown_in}
+use Rattle.rd_commands.proofs.Looks.{check_name, question_from, sheet_from, sheet_timed, sheet_within, shown_in}
 use Rattle.rd_commands.specs.Told.{question_name}
 use Rattle.rd_commands.proofs.Places.{timed_met}
 use Rattle.rd_commands.proofs.words.ask_found.Goals as goal
@@ -34,15 +34,44 @@ returns-in_ok-serve_asked-in-serve-clause-serve c = λ store place count rule en
     let rows = rows_met c.args.matches.now _ enters.rows _ enters.into (sym c.in_ok-name.ensures.rows) in
     c.in_ok-serve_asked-in-serve.ensures.asked store place count rule (subst (λ r. AreServeRows r store place count rule) rows enters.found)
 
-pub returns-in_err-import_asked-in-import-clause-import : goal.returns-in_err-import_asked-in-import-clause-import
-returns-in_err-import_asked-in-import-clause-import c = λ store key sheet moment rule enters.
+pub returns-in_err-sheet_asked-in-import-clause-import : goal.returns-in_err-sheet_asked-in-import-clause-import
+returns-in_err-sheet_asked-in-import-clause-import c = λ store key sheet moment rule enters.
     let rows = rows_met c.args.matches.now _ enters.rows _ enters.into (sym c.in_ok-name.ensures.rows) in
-    absurd (c.in_err-import_asked-in-import.ensures.asked store key sheet moment rule (subst (λ r. AreImportRows r store key sheet moment rule) rows enters.found))
+    absurd (c.in_err-sheet_asked-in-import.ensures.import store key sheet moment rule (subst (λ r. AreImportRows r store key sheet moment rule) rows enters.found)
+    (subst (λ r. AreWays r false false) rows enters.ways))
 
-pub returns-in_ok-import_asked-in-import-clause-import : goal.returns-in_ok-import_asked-in-import-clause-import
-returns-in_ok-import_asked-in-import-clause-import c = λ store key sheet moment rule enters.
+pub returns-in_ok-sheet_asked-in-import-clause-import : goal.returns-in_ok-sheet_asked-in-import-clause-import
+returns-in_ok-sheet_asked-in-import-clause-import c = λ store key sheet moment rule enters.
     let rows = rows_met c.args.matches.now _ enters.rows _ enters.into (sym c.in_ok-name.ensures.rows) in
-    c.in_ok-import_asked-in-import.ensures.asked store key sheet moment rule (subst (λ r. AreImportRows r store key sheet moment rule) rows enters.found)
+    c.in_ok-sheet_asked-in-import.ensures.import store key sheet moment rule (subst (λ r. AreImportRows r store key sheet moment rule) rows enters.found)
+    (subst (λ r. AreWays r false false) rows enters.ways)
+
+pub returns-in_err-sheet_asked-in-import-clause-sift : goal.returns-in_err-sheet_asked-in-import-clause-sift
+returns-in_err-sheet_asked-in-import-clause-sift c = λ store key sheet moment rule dry_run keep_going enters.
+    let rows = rows_met c.args.matches.now _ enters.rows _ enters.into (sym c.in_ok-name.ensures.rows) in
+    absurd (c.in_err-sheet_asked-in-import.ensures.sift store key sheet moment rule dry_run keep_going (subst (λ r. AreImportRows r store key sheet moment rule) rows enters.found)
+    (subst (λ r. AreWays r dry_run keep_going) rows enters.ways) enters.one)
+
+pub returns-in_ok-sheet_asked-in-import-clause-sift : goal.returns-in_ok-sheet_asked-in-import-clause-sift
+returns-in_ok-sheet_asked-in-import-clause-sift c = λ store key sheet moment rule dry_run keep_going enters.
+    let rows = rows_met c.args.matches.now _ enters.rows _ enters.into (sym c.in_ok-name.ensures.rows) in
+    c.in_ok-sheet_asked-in-import.ensures.sift store key sheet moment rule dry_run keep_going (subst (λ r. AreImportRows r store key sheet moment rule) rows enters.found)
+    (subst (λ r. AreWays r dry_run keep_going) rows enters.ways) enters.one
+
+pub returns-in_err-extract_asked-in-files-clause-extract : goal.returns-in_err-extract_asked-in-files-clause-extract
+returns-in_err-extract_asked-in-files-clause-extract c = λ kind image folder enters.
+    let rows = rows_met c.args.matches.now _ enters.rows _ enters.into (sym c.in_ok-name.ensures.rows) in
+    absurd (c.in_err-extract_asked-in-files.ensures kind image folder (subst (λ r. AreFilesRows r kind image folder) rows enters.found))
+
+pub returns-in_ok-extract_asked-in-files-clause-extract : goal.returns-in_ok-extract_asked-in-files-clause-extract
+returns-in_ok-extract_asked-in-files-clause-extract c = λ kind image folder enters.
+    let rows = rows_met c.args.matches.now _ enters.rows _ enters.into (sym c.in_ok-name.ensures.rows) in
+    c.in_ok-extract_asked-in-files.ensures kind image folder (subst (λ r. AreFilesRows r kind image folder) rows enters.found)
+
+pub returns-in_ok-extract_asked-in-files-clause-zone : goal.returns-in_ok-extract_asked-in-files-clause-zone
+returns-in_ok-extract_asked-in-files-clause-zone c = λ name rows into clocks.
+    let met = name_met c.args.matches.now name _ rows _ into c.in_ok-name.ensures.name c.in_ok-name.ensures.rows in
+    absurd (clockless name (inr (inr (inl (met ∙ c.in-files.is)))) clocks)
 
 pub returns-in_err-export_asked-in-export-clause-export : goal.returns-in_err-export_asked-in-export-clause-export
 returns-in_err-export_asked-in-export-clause-export c = λ store key moment rule enters.
@@ -64,8 +93,8 @@ returns-in_ok-check_asked-in-check-clause-check c = λ store key acc moment rule
     let rows = rows_met c.args.matches.now _ enters.rows _ enters.into (sym c.in_ok-name.ensures.rows) in
     c.in_ok-check_asked-in-check.ensures.asked store key acc moment rule (subst (λ r. AreCheckRows r store key acc moment rule) rows enters.found)
 
-pub returns-in_ok-import_asked-in-import-clause-written_on_output : goal.returns-in_ok-import_asked-in-import-clause-written_on_output
-returns-in_ok-import_asked-in-import-clause-written_on_output c = λ tells.
+pub returns-in_ok-sheet_asked-in-import-clause-written_on_output : goal.returns-in_ok-sheet_asked-in-import-clause-written_on_output
+returns-in_ok-sheet_asked-in-import-clause-written_on_output c = λ tells.
     inl (subst (λ name. EntersAs name (subcommand_rows_of c.args.matches.now)) c.in-import.is
     (entered_as c.args.matches.now _ _ c.in_ok-name.ensures.name c.in_ok-name.ensures.rows))
 
@@ -87,7 +116,7 @@ returns-in_ok-files_asked-in-list-clause-zone c = λ name rows into clocks.
 pub returns-in_ok-init_asked-in-init-clause-zone : goal.returns-in_ok-init_asked-in-init-clause-zone
 returns-in_ok-init_asked-in-init-clause-zone c = λ name rows into clocks.
     let met = name_met c.args.matches.now name _ rows _ into c.in_ok-name.ensures.name c.in_ok-name.ensures.rows in
-    absurd (clockless name (inr (inr (inl (met ∙ c.in-init.is)))) clocks)
+    absurd (clockless name (inr (inr (inr (inl (met ∙ c.in-init.is))))) clocks)
 
 pub returns-in_ok-staff_key_asked-in-text-clause-staff_key : goal.returns-in_ok-staff_key_asked-in-text-clause-staff_key
 returns-in_ok-staff_key_asked-in-text-clause-staff_key c = λ store key enters.
@@ -97,7 +126,7 @@ returns-in_ok-staff_key_asked-in-text-clause-staff_key c = λ store key enters.
 pub returns-in_ok-staff_key_asked-in-text-clause-zone : goal.returns-in_ok-staff_key_asked-in-text-clause-zone
 returns-in_ok-staff_key_asked-in-text-clause-zone c = λ name rows into clocks.
     let met = name_met c.args.matches.now name _ rows _ into c.in_ok-name.ensures.name c.in_ok-name.ensures.rows in
-    absurd (clockless name (inr (inr (inr (inl (met ∙ c.in-text.is))))) clocks)
+    absurd (clockless name (inr (inr (inr (inr (inl (met ∙ c.in-text.is)))))) clocks)
 
 pub returns-in_ok-serve_asked-in-serve-clause-zone : goal.returns-in_ok-serve_asked-in-serve-clause-zone
 returns-in_ok-serve_asked-in-serve-clause-zone c = λ name rows into clocks.
@@ -107,9 +136,9 @@ pub returns-in_ok-serve_asked-in-serve-clause-timeouts : goal.returns-in_ok-serv
 returns-in_ok-serve_asked-in-serve-clause-timeouts c = λ rows into.
     timed_met _ rows _ (rows_met c.args.matches.now _ rows _ into (sym c.in_ok-name.ensures.rows)) c.in_ok-serve_asked-in-serve.ensures.timeouts
 
-pub returns-in_ok-import_asked-in-import-clause-zone : goal.returns-in_ok-import_asked-in-import-clause-zone
-returns-in_ok-import_asked-in-import-clause-zone c = λ name rows into clocks.
-    subst HasZoneRule (sym (rows_met c.args.matches.now name rows _ into (sym c.in_ok-name.ensures.rows))) (c.in_ok-import_asked-in-import.ensures.zone)
+pub returns-in_ok-sheet_asked-in-import-clause-zone : goal.returns-in_ok-sheet_asked-in-import-clause-zone
+returns-in_ok-sheet_asked-in-import-clause-zone c = λ name rows into clocks.
+    subst HasZoneRule (sym (rows_met c.args.matches.now name rows _ into (sym c.in_ok-name.ensures.rows))) (c.in_ok-sheet_asked-in-import.ensures.zone)
 
 pub returns-in_ok-export_asked-in-export-clause-zone : goal.returns-in_ok-export_asked-in-export-clause-zone
 returns-in_ok-export_asked-in-export-clause-zone c = λ name rows into clocks.
@@ -132,6 +161,12 @@ returns-in_ok-show_asked-in-show-clause-show c = λ store key what moment rule i
     subst (λ w. AsksOneQuestion c.in_ok-show_asked-in-show.field-0 store (Some key) (Show w) moment rule) same
     (c.in_ok-show_asked-in-show.ensures.asked store key moment rule (subst (λ r. AreShowRows r store key moment rule) rows enters.found))
 
+pub returns-in_ok-sheet_asked-in-import-clause-accession : goal.returns-in_ok-sheet_asked-in-import-clause-accession
+returns-in_ok-sheet_asked-in-import-clause-accession c = sheet_within c.in_ok-sheet_asked-in-import.field-0 c.in_ok-sheet_asked-in-import.ensures.rows
+
+pub returns-in_ok-sheet_asked-in-import-clause-timeouts : goal.returns-in_ok-sheet_asked-in-import-clause-timeouts
+returns-in_ok-sheet_asked-in-import-clause-timeouts c = sheet_timed c.in_ok-sheet_asked-in-import.field-0 _ c.in_ok-sheet_asked-in-import.ensures.rows
+
 -- ---- in all forms
 
 pub returns-in_ok-file_asked-in-cat-clause-from : goal.returns-in_ok-file_asked-in-cat-clause-from
@@ -140,14 +175,18 @@ returns-in_ok-file_asked-in-cat-clause-from c = λ naming. (_, entered_named c.a
 pub returns-in_ok-files_asked-in-list-clause-from : goal.returns-in_ok-files_asked-in-list-clause-from
 returns-in_ok-files_asked-in-list-clause-from c = λ naming. (_, entered_named c.args.matches.now _ (codes "list") _ c.in_ok-name.ensures.name c.in_ok-name.ensures.rows c.in-list.is, tt)
 
+pub returns-in_ok-extract_asked-in-files-clause-from : goal.returns-in_ok-extract_asked-in-files-clause-from
+returns-in_ok-extract_asked-in-files-clause-from c = λ naming. (_, entered_named c.args.matches.now _ (codes "files") _ c.in_ok-name.ensures.name c.in_ok-name.ensures.rows c.in-files.is, tt)
+
 pub returns-in_ok-init_asked-in-init-clause-from : goal.returns-in_ok-init_asked-in-init-clause-from
 returns-in_ok-init_asked-in-init-clause-from c = λ naming. (_, entered_named c.args.matches.now _ (codes "init") _ c.in_ok-name.ensures.name c.in_ok-name.ensures.rows c.in-init.is, c.in_ok-init_asked-in-init.ensures.from)
 
 pub returns-in_ok-serve_asked-in-serve-clause-from : goal.returns-in_ok-serve_asked-in-serve-clause-from
 returns-in_ok-serve_asked-in-serve-clause-from c = λ naming. (_, entered_named c.args.matches.now _ (codes "serve") _ c.in_ok-name.ensures.name c.in_ok-name.ensures.rows c.in-serve.is, c.in_ok-serve_asked-in-serve.ensures.from)
 
-pub returns-in_ok-import_asked-in-import-clause-from : goal.returns-in_ok-import_asked-in-import-clause-from
-returns-in_ok-import_asked-in-import-clause-from c = λ naming. (_, entered_named c.args.matches.now _ (codes "import") _ c.in_ok-name.ensures.name c.in_ok-name.ensures.rows c.in-import.is, c.in_ok-import_asked-in-import.ensures.from)
+pub returns-in_ok-sheet_asked-in-import-clause-from : goal.returns-in_ok-sheet_asked-in-import-clause-from
+returns-in_ok-sheet_asked-in-import-clause-from c = λ naming.
+    sheet_from _ _ c.in_ok-sheet_asked-in-import.field-0 (entered_named c.args.matches.now _ (codes "import") _ c.in_ok-name.ensures.name c.in_ok-name.ensures.rows c.in-import.is) c.in_ok-sheet_asked-in-import.ensures.named c.in_ok-sheet_asked-in-import.ensures.from
 
 pub returns-in_ok-export_asked-in-export-clause-from : goal.returns-in_ok-export_asked-in-export-clause-from
 returns-in_ok-export_asked-in-export-clause-from c = λ naming.
@@ -177,23 +216,28 @@ returns-in_ok-files_asked-in-list-clause-trust c = λ trusted told.
     let met = name_met c.args.matches.now told.0 _ told.1 _ told.2 c.in_ok-name.ensures.name c.in_ok-name.ensures.rows in
     absurd (clockless told.0 (inr (inl (met ∙ c.in-list.is))) told.3)
 
+pub returns-in_ok-extract_asked-in-files-clause-trust : goal.returns-in_ok-extract_asked-in-files-clause-trust
+returns-in_ok-extract_asked-in-files-clause-trust c = λ trusted told.
+    let met = name_met c.args.matches.now told.0 _ told.1 _ told.2 c.in_ok-name.ensures.name c.in_ok-name.ensures.rows in
+    absurd (clockless told.0 (inr (inr (inl (met ∙ c.in-files.is)))) told.3)
+
 pub returns-in_ok-init_asked-in-init-clause-trust : goal.returns-in_ok-init_asked-in-init-clause-trust
 returns-in_ok-init_asked-in-init-clause-trust c = λ trusted told.
     let met = name_met c.args.matches.now told.0 _ told.1 _ told.2 c.in_ok-name.ensures.name c.in_ok-name.ensures.rows in
-    absurd (clockless told.0 (inr (inr (inl (met ∙ c.in-init.is)))) told.3)
+    absurd (clockless told.0 (inr (inr (inr (inl (met ∙ c.in-init.is))))) told.3)
 
 pub returns-in_ok-staff_key_asked-in-text-clause-trust : goal.returns-in_ok-staff_key_asked-in-text-clause-trust
 returns-in_ok-staff_key_asked-in-text-clause-trust c = λ trusted told.
     let met = name_met c.args.matches.now told.0 _ told.1 _ told.2 c.in_ok-name.ensures.name c.in_ok-name.ensures.rows in
-    absurd (clockless told.0 (inr (inr (inr (inl (met ∙ c.in-text.is))))) told.3)
+    absurd (clockless told.0 (inr (inr (inr (inr (inl (met ∙ c.in-text.is)))))) told.3)
 
 pub returns-in_ok-serve_asked-in-serve-clause-trust : goal.returns-in_ok-serve_asked-in-serve-clause-trust
 returns-in_ok-serve_asked-in-serve-clause-trust c = λ trusted told.
     c.in_ok-serve_asked-in-serve.ensures.trust trusted (subst (λ rows. TellsTrust rows trusted) (rows_met c.args.matches.now told.0 told.1 _ told.2 (sym c.in_ok-name.ensures.rows)) told.4)
 
-pub returns-in_ok-import_asked-in-import-clause-trust : goal.returns-in_ok-import_asked-in-import-clause-trust
-returns-in_ok-import_asked-in-import-clause-trust c = λ trusted told.
-    c.in_ok-import_asked-in-import.ensures.trust trusted (subst (λ rows. TellsTrust rows trusted) (rows_met c.args.matches.now told.0 told.1 _ told.2 (sym c.in_ok-name.ensures.rows)) told.4)
+pub returns-in_ok-sheet_asked-in-import-clause-trust : goal.returns-in_ok-sheet_asked-in-import-clause-trust
+returns-in_ok-sheet_asked-in-import-clause-trust c = λ trusted told.
+    c.in_ok-sheet_asked-in-import.ensures.trust trusted (subst (λ rows. TellsTrust rows trusted) (rows_met c.args.matches.now told.0 told.1 _ told.2 (sym c.in_ok-name.ensures.rows)) told.4)
 
 pub returns-in_ok-export_asked-in-export-clause-trust : goal.returns-in_ok-export_asked-in-export-clause-trust
 returns-in_ok-export_asked-in-export-clause-trust c = λ trusted told.
@@ -229,8 +273,8 @@ returns-in_ok-serve_asked-in-serve-clause-sums c = λ summed told.
     let met = name_met c.args.matches.now (codes "init") _ told.0 _ told.1 c.in_ok-name.ensures.name c.in_ok-name.ensures.rows in
     absurd (no_init _ refl (met ∙ c.in-serve.is))
 
-pub returns-in_ok-import_asked-in-import-clause-sums : goal.returns-in_ok-import_asked-in-import-clause-sums
-returns-in_ok-import_asked-in-import-clause-sums c = λ summed told.
+pub returns-in_ok-sheet_asked-in-import-clause-sums : goal.returns-in_ok-sheet_asked-in-import-clause-sums
+returns-in_ok-sheet_asked-in-import-clause-sums c = λ summed told.
     let met = name_met c.args.matches.now (codes "init") _ told.0 _ told.1 c.in_ok-name.ensures.name c.in_ok-name.ensures.rows in
     absurd (no_init _ refl (met ∙ c.in-import.is))
 
@@ -254,6 +298,11 @@ returns-in_ok-staff_key_asked-in-text-clause-sums c = λ summed told.
     let met = name_met c.args.matches.now (codes "init") _ told.0 _ told.1 c.in_ok-name.ensures.name c.in_ok-name.ensures.rows in
     absurd (no_init _ refl (met ∙ c.in-text.is))
 
+pub returns-in_ok-extract_asked-in-files-clause-sums : goal.returns-in_ok-extract_asked-in-files-clause-sums
+returns-in_ok-extract_asked-in-files-clause-sums c = λ summed told.
+    let met = name_met c.args.matches.now (codes "init") _ told.0 _ told.1 c.in_ok-name.ensures.name c.in_ok-name.ensures.rows in
+    absurd (no_init _ refl (met ∙ c.in-files.is))
+
 pub returns-in_ok-staff_key_asked-in-text-clause-from : goal.returns-in_ok-staff_key_asked-in-text-clause-from
 returns-in_ok-staff_key_asked-in-text-clause-from c = λ naming. (_, entered_named c.args.matches.now _ (codes "staff-key") _ c.in_ok-name.ensures.name c.in_ok-name.ensures.rows c.in-text.is, c.in_ok-staff_key_asked-in-text.ensures.from)
 
@@ -267,12 +316,12 @@ returns-in_ok-copy_asked-in-copy-clause-copy c = λ store target summed enters.
 pub returns-in_ok-copy_asked-in-copy-clause-zone : goal.returns-in_ok-copy_asked-in-copy-clause-zone
 returns-in_ok-copy_asked-in-copy-clause-zone c = λ name rows into clocks.
     let met = name_met c.args.matches.now name _ rows _ into c.in_ok-name.ensures.name c.in_ok-name.ensures.rows in
-    absurd (clockless name (inr (inr (inr (inr (met ∙ c.in-copy.is))))) clocks)
+    absurd (clockless name (inr (inr (inr (inr (inr (met ∙ c.in-copy.is)))))) clocks)
 
 pub returns-in_ok-copy_asked-in-copy-clause-trust : goal.returns-in_ok-copy_asked-in-copy-clause-trust
 returns-in_ok-copy_asked-in-copy-clause-trust c = λ trusted told.
     let met = name_met c.args.matches.now told.0 _ told.1 _ told.2 c.in_ok-name.ensures.name c.in_ok-name.ensures.rows in
-    absurd (clockless told.0 (inr (inr (inr (inr (met ∙ c.in-copy.is))))) told.3)
+    absurd (clockless told.0 (inr (inr (inr (inr (inr (met ∙ c.in-copy.is)))))) told.3)
 
 pub returns-in_ok-copy_asked-in-copy-clause-sums : goal.returns-in_ok-copy_asked-in-copy-clause-sums
 returns-in_ok-copy_asked-in-copy-clause-sums c = λ summed told.

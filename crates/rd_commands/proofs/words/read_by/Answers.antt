@@ -133,7 +133,7 @@ returns-in_err-seen-in-Ok-clause-of_clap c =
 pub returns-in-Some-clause-read : goal.returns-in-Some-clause-read
 returns-in-Some-clause-read c =
     let words = map (λ word. word.now) c.args.words.now in
-    let rows : GivesRows (subcommand_rows_of c.in-Ok.matches) c.in_ok-seen-in-Ok.seen.shown (Some c.in-Some.ask) = record { file = c.in-Some.ensures.file; files = c.in-Some.ensures.files; init = c.in-Some.ensures.init; serve = c.in-Some.ensures.serve; timeouts = c.in-Some.ensures.timeouts; import = c.in-Some.ensures.import; export = c.in-Some.ensures.export; check = c.in-Some.ensures.check; show = c.in-Some.ensures.show; staff_key = c.in-Some.ensures.staff_key; copy = c.in-Some.ensures.copy } in
+    let rows : GivesRows (subcommand_rows_of c.in-Ok.matches) c.in_ok-seen-in-Ok.seen.shown (Some c.in-Some.ask) = record { file = c.in-Some.ensures.file; files = c.in-Some.ensures.files; init = c.in-Some.ensures.init; serve = c.in-Some.ensures.serve; timeouts = c.in-Some.ensures.timeouts; import = c.in-Some.ensures.import; export = c.in-Some.ensures.export; check = c.in-Some.ensures.check; show = c.in-Some.ensures.show; sift = c.in-Some.ensures.sift; extract = c.in-Some.ensures.extract; staff_key = c.in-Some.ensures.staff_key; copy = c.in-Some.ensures.copy } in
     ask_read (Some c.in-Some.ask) Usage (Ok c.in-Some.ask) words refl
     (ask_given (Some c.in-Some.ask) c.in_ok-seen-in-Ok.seen.shown (app_of c.args.desk) words c.in-Ok.matches c.requires c.in-Ok.ensures.matches c.in_ok-seen-in-Ok.ensures.named rows)
 
@@ -143,7 +143,7 @@ returns-in-Some-clause-accession c = c.in-Some.ensures.accession
 pub returns-in-None-clause-unread : goal.returns-in-None-clause-unread
 returns-in-None-clause-unread c =
     let words = map (λ word. word.now) c.args.words.now in
-    let rows : GivesRows (subcommand_rows_of c.in-Ok.matches) c.in_ok-seen-in-Ok.seen.shown None = record { file = c.in-None.ensures.file; files = c.in-None.ensures.files; init = c.in-None.ensures.init; serve = c.in-None.ensures.serve; timeouts = c.in-None.ensures.timeouts; import = c.in-None.ensures.import; export = c.in-None.ensures.export; check = c.in-None.ensures.check; show = c.in-None.ensures.show; staff_key = c.in-None.ensures.staff_key; copy = c.in-None.ensures.copy } in
+    let rows : GivesRows (subcommand_rows_of c.in-Ok.matches) c.in_ok-seen-in-Ok.seen.shown None = record { file = c.in-None.ensures.file; files = c.in-None.ensures.files; init = c.in-None.ensures.init; serve = c.in-None.ensures.serve; timeouts = c.in-None.ensures.timeouts; import = c.in-None.ensures.import; export = c.in-None.ensures.export; check = c.in-None.ensures.check; show = c.in-None.ensures.show; sift = c.in-None.ensures.sift; extract = c.in-None.ensures.extract; staff_key = c.in-None.ensures.staff_key; copy = c.in-None.ensures.copy } in
     ask_unread None Usage (Err Usage) words IsForMemory refl
     (ask_given None c.in_ok-seen-in-Ok.seen.shown (app_of c.args.desk) words c.in-Ok.matches c.requires c.in-Ok.ensures.matches c.in_ok-seen-in-Ok.ensures.named rows)
 

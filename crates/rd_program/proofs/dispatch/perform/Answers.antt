@@ -1,8 +1,8 @@
 use Rattle.std.proofs.Common.{◌≡◌, IfErr, IfOk, IfSome, OnOk, ap, codes, inl, subst, sym}
 use Rattle.std.proofs.lemmas.Result.{IfErr-weaker}
-use Rattle.rd_commands.specs.Asks.{AsksADesk, AsksCheckOf, AsksFile, AsksFiles, AsksNew, AsksStaff, AsksVisits, IsFileAsk, IsFilesAsk, IsInitAsk, IsServeAsk, IsStaffKeyAsk, TellsInRows, TellsOnOutput}
+use Rattle.rd_commands.specs.Asks.{AsksADesk, AsksCheckOf, AsksFile, AsksFiles, AsksNew, AsksStaff, AsksVisits, IsFileAsk, IsFilesAsk, IsInitAsk, IsServeAsk, IsStaffKeyAsk, TellsOnOutput}
 use Rattle.rd_commands.specs.Cat.{Refuses, Serves}
-use Rattle.std.specs.Io.KnownBytes.{Appends}
+use Rattle.std.specs.Io.KnownBytes.{Appends, Keeps}
 use Rattle.rd_program.specs.Leaves.{LeavesBy, LeavesRefused, OnEnded, StandsThere}
 use Rattle.rd_commands.specs.Listed.{Lists, RefusesList}
 use Rattle.rd_program.specs.Serving.{LimitsVisitors, RefusesServe, WritesOnceLentBy, serve_text}
@@ -21,12 +21,16 @@ use Rattle.std.specs.Prelude.{IsSome}
 use Rattle.rd_program.specs.DiskFiles.{GivesFile, IsOfImage}
 use Rattle.rd_program.specs.Showing.{AnswersBy}
 use Rattle.rd_program.specs.Asked.{AsksBy, IsClockDueBy, IsUnaskedBy, SumsBy}
-use Rattle.rd_program.specs.Rows.{ImportsBy, RefusesSheetBy}
+use Rattle.rd_program.specs.Rows.{ImportsBy, RefusesSheetBy, TakesRows}
 use Rattle.rd_program.specs.OnTime.{IsBehindBy, IsOnTimeBy}
 use Rattle.rd_program.specs.Visiting.{ServesBy}
 use Rattle.rd_commands.specs.declared.done.Done.TheVariants.{InPart}
 use Rattle.rd_program.specs.Performing.{ListensBy, MakesBy, PutsBy}
 use Rattle.rd_program.proofs.PerformLemmas.{listened_by, made_by, put_by}
+use Rattle.rd_commands.specs.Asks.{IsExtraction}
+use Rattle.rd_program.specs.Extracting.{ExtractsBy}
+use Rattle.rd_program.specs.Sifting.{SiftsBy}
+use Rattle.rd_program.proofs.ExtractLemmas.{extracted_by, files_kept, files_never}
 use Rattle.rd_program.proofs.dispatch.perform.Goals as goal
 
 pub returns-in-File-clause-done : goal.returns-in-File-clause-done
@@ -177,28 +181,28 @@ pub returns-in-Import-clause-not_served : goal.returns-in-Import-clause-not_serv
 returns-in-Import-clause-not_served g c = λ store place count rule asked. absurd (subst (IsServeAsk store place count rule) c.in-Import.is asked)
 
 pub returns-in-File-clause-imported : goal.returns-in-File-clause-imported
-returns-in-File-clause-imported g c = λ tells. absurd (subst TellsInRows c.in-File.is tells)
+returns-in-File-clause-imported g c = λ tells. absurd (subst TakesRows c.in-File.is tells)
 
 pub returns-in-File-clause-not_imported : goal.returns-in-File-clause-not_imported
-returns-in-File-clause-not_imported g c = λ tells. absurd (subst TellsInRows c.in-File.is tells)
+returns-in-File-clause-not_imported g c = λ tells. absurd (subst TakesRows c.in-File.is tells)
 
 pub returns-in-Files-clause-imported : goal.returns-in-Files-clause-imported
-returns-in-Files-clause-imported g c = λ tells. absurd (subst TellsInRows c.in-Files.is tells)
+returns-in-Files-clause-imported g c = λ tells. absurd (subst TakesRows c.in-Files.is tells)
 
 pub returns-in-Files-clause-not_imported : goal.returns-in-Files-clause-not_imported
-returns-in-Files-clause-not_imported g c = λ tells. absurd (subst TellsInRows c.in-Files.is tells)
+returns-in-Files-clause-not_imported g c = λ tells. absurd (subst TakesRows c.in-Files.is tells)
 
 pub returns-in-Init-clause-imported : goal.returns-in-Init-clause-imported
-returns-in-Init-clause-imported g c = λ tells. absurd (subst TellsInRows c.in-Init.is tells)
+returns-in-Init-clause-imported g c = λ tells. absurd (subst TakesRows c.in-Init.is tells)
 
 pub returns-in-Init-clause-not_imported : goal.returns-in-Init-clause-not_imported
-returns-in-Init-clause-not_imported g c = λ tells. absurd (subst TellsInRows c.in-Init.is tells)
+returns-in-Init-clause-not_imported g c = λ tells. absurd (subst TakesRows c.in-Init.is tells)
 
 pub returns-in-Serve-clause-imported : goal.returns-in-Serve-clause-imported
-returns-in-Serve-clause-imported g c = λ tells. absurd (subst TellsInRows c.in-Serve.is tells)
+returns-in-Serve-clause-imported g c = λ tells. absurd (subst TakesRows c.in-Serve.is tells)
 
 pub returns-in-Serve-clause-not_imported : goal.returns-in-Serve-clause-not_imported
-returns-in-Serve-clause-not_imported g c = λ tells. absurd (subst TellsInRows c.in-Serve.is tells)
+returns-in-Serve-clause-not_imported g c = λ tells. absurd (subst TakesRows c.in-Serve.is tells)
 
 pub returns-in-File-clause-in_part : goal.returns-in-File-clause-in_part
 returns-in-File-clause-in_part g c = whole_is _ c.cat.result c.whole.result c.whole.ensures
@@ -237,10 +241,10 @@ pub returns-in-OneQuestion-clause-not_served : goal.returns-in-OneQuestion-claus
 returns-in-OneQuestion-clause-not_served g c = λ store place count rule asked. absurd (subst (IsServeAsk store place count rule) c.in-OneQuestion.is asked)
 
 pub returns-in-OneQuestion-clause-imported : goal.returns-in-OneQuestion-clause-imported
-returns-in-OneQuestion-clause-imported g c = λ asked. absurd (subst TellsInRows c.in-OneQuestion.is asked)
+returns-in-OneQuestion-clause-imported g c = λ asked. absurd (subst TakesRows c.in-OneQuestion.is asked)
 
 pub returns-in-OneQuestion-clause-not_imported : goal.returns-in-OneQuestion-clause-not_imported
-returns-in-OneQuestion-clause-not_imported g c = λ asked. absurd (subst TellsInRows c.in-OneQuestion.is asked)
+returns-in-OneQuestion-clause-not_imported g c = λ asked. absurd (subst TakesRows c.in-OneQuestion.is asked)
 
 pub returns-in-File-clause-checked : goal.returns-in-File-clause-checked
 returns-in-File-clause-checked g c = λ acc asked. absurd (subst (AsksCheckOf acc) c.in-File.is asked)
@@ -627,10 +631,10 @@ pub returns-in-StaffKey-clause-not_served : goal.returns-in-StaffKey-clause-not_
 returns-in-StaffKey-clause-not_served g c = λ store port count rule asked. absurd (subst (IsServeAsk store port count rule) c.in-StaffKey.is asked)
 
 pub returns-in-StaffKey-clause-imported : goal.returns-in-StaffKey-clause-imported
-returns-in-StaffKey-clause-imported g c = λ tells. absurd (subst TellsInRows c.in-StaffKey.is tells)
+returns-in-StaffKey-clause-imported g c = λ tells. absurd (subst TakesRows c.in-StaffKey.is tells)
 
 pub returns-in-StaffKey-clause-not_imported : goal.returns-in-StaffKey-clause-not_imported
-returns-in-StaffKey-clause-not_imported g c = λ tells. absurd (subst TellsInRows c.in-StaffKey.is tells)
+returns-in-StaffKey-clause-not_imported g c = λ tells. absurd (subst TakesRows c.in-StaffKey.is tells)
 
 pub returns-in-StaffKey-clause-in_part : goal.returns-in-StaffKey-clause-in_part
 returns-in-StaffKey-clause-in_part g c = whole_is _ c.staff_key.result c.whole-in-StaffKey.result c.whole-in-StaffKey.ensures
@@ -819,10 +823,10 @@ pub returns-in-Copy-clause-not_served : goal.returns-in-Copy-clause-not_served
 returns-in-Copy-clause-not_served g c = λ store port count rule asked. absurd (subst (IsServeAsk store port count rule) c.in-Copy.is asked)
 
 pub returns-in-Copy-clause-imported : goal.returns-in-Copy-clause-imported
-returns-in-Copy-clause-imported g c = λ tells. absurd (subst TellsInRows c.in-Copy.is tells)
+returns-in-Copy-clause-imported g c = λ tells. absurd (subst TakesRows c.in-Copy.is tells)
 
 pub returns-in-Copy-clause-not_imported : goal.returns-in-Copy-clause-not_imported
-returns-in-Copy-clause-not_imported g c = λ tells. absurd (subst TellsInRows c.in-Copy.is tells)
+returns-in-Copy-clause-not_imported g c = λ tells. absurd (subst TakesRows c.in-Copy.is tells)
 
 pub returns-in-Copy-clause-in_part : goal.returns-in-Copy-clause-in_part
 returns-in-Copy-clause-in_part g c = whole_is _ c.copy.result c.whole-in-Copy.result c.whole-in-Copy.ensures
@@ -1204,3 +1208,296 @@ returns-in-StaffKey-clause-listens g c =
 pub returns-in-Copy-clause-listens : goal.returns-in-Copy-clause-listens
 returns-in-Copy-clause-listens g c =
     subst (λ ask. ListensBy (g.W.Write.contents c.args.output.now) (g.W.Write.contents c.copy.new.output) ask c.whole-in-Copy.result) (sym c.in-Copy.is) tt
+
+-- ---- the files of an image in a folder, and the rows of a sheet in another way
+
+pub returns-in-Extract-clause-done : goal.returns-in-Extract-clause-done
+returns-in-Extract-clause-done g c = λ kind slot asked. absurd (subst (IsFileAsk kind (codes "-") slot) c.in-Extract.is asked)
+
+pub returns-in-Extract-clause-refused : goal.returns-in-Extract-clause-refused
+returns-in-Extract-clause-refused g c = λ kind slot asked. absurd (subst (IsFileAsk kind (codes "-") slot) c.in-Extract.is asked)
+
+pub returns-in-Extract-clause-listed : goal.returns-in-Extract-clause-listed
+returns-in-Extract-clause-listed g c = λ kind asked. absurd (subst (IsFilesAsk kind (codes "-")) c.in-Extract.is asked)
+
+pub returns-in-Extract-clause-list_refused : goal.returns-in-Extract-clause-list_refused
+returns-in-Extract-clause-list_refused g c = λ kind asked. absurd (subst (IsFilesAsk kind (codes "-")) c.in-Extract.is asked)
+
+pub returns-in-Extract-clause-made : goal.returns-in-Extract-clause-made
+returns-in-Extract-clause-made g c = λ store key asked. absurd (subst (IsInitAsk store key) c.in-Extract.is asked)
+
+pub returns-in-Extract-clause-not_made : goal.returns-in-Extract-clause-not_made
+returns-in-Extract-clause-not_made g c = λ store key asked. absurd (subst (IsInitAsk store key) c.in-Extract.is asked)
+
+pub returns-in-Extract-clause-served : goal.returns-in-Extract-clause-served
+returns-in-Extract-clause-served g c = λ store port count rule asked. absurd (subst (IsServeAsk store port count rule) c.in-Extract.is asked)
+
+pub returns-in-Extract-clause-not_served : goal.returns-in-Extract-clause-not_served
+returns-in-Extract-clause-not_served g c = λ store port count rule asked. absurd (subst (IsServeAsk store port count rule) c.in-Extract.is asked)
+
+pub returns-in-Extract-clause-imported : goal.returns-in-Extract-clause-imported
+returns-in-Extract-clause-imported g c = λ tells. absurd (subst TakesRows c.in-Extract.is tells)
+
+pub returns-in-Extract-clause-not_imported : goal.returns-in-Extract-clause-not_imported
+returns-in-Extract-clause-not_imported g c = λ tells. absurd (subst TakesRows c.in-Extract.is tells)
+
+pub returns-in-Extract-clause-in_part : goal.returns-in-Extract-clause-in_part
+returns-in-Extract-clause-in_part g c = whole_is _ c.extract.result c.whole-in-Extract.result c.whole-in-Extract.ensures
+
+pub returns-in-Extract-clause-checked : goal.returns-in-Extract-clause-checked
+returns-in-Extract-clause-checked g c = λ acc asked. absurd (subst (AsksCheckOf acc) c.in-Extract.is asked)
+
+pub returns-in-Extract-clause-not_answered : goal.returns-in-Extract-clause-not_answered
+returns-in-Extract-clause-not_answered g c = λ asked. absurd (subst AsksADesk c.in-Extract.is asked)
+
+pub returns-in-Extract-clause-never : goal.returns-in-Extract-clause-never
+returns-in-Extract-clause-never g c =
+    err_whole _ c.extract.result c.whole-in-Extract.result c.whole-in-Extract.ensures
+    (IfErr-weaker c.extract.result _ _ (λ refusal refused. files_never refusal refused) c.extract.ensures.named)
+
+pub returns-in-Extract-clause-kept : goal.returns-in-Extract-clause-kept
+returns-in-Extract-clause-kept g c = err_whole _ c.extract.result c.whole-in-Extract.result c.whole-in-Extract.ensures
+    (files_kept c.extract.result (Keeps (g.W.Write.contents c.args.output.now) (g.W.Write.contents c.extract.new.output)) c.args.ask (subst IsExtraction (sym c.in-Extract.is) tt))
+
+pub returns-in-Extract-clause-leaves : goal.returns-in-Extract-clause-leaves
+returns-in-Extract-clause-leaves g c =
+    subst (LeavesBy g.M.Disk.Store (g.M.Machine.clock c.args.machine.now) (g.M.Machine.left c.args.machine.now) (g.M.Machine.stands c.args.machine.now) (g.M.Machine.left c.extract.new.machine)) (sym c.in-Extract.is) tt
+
+pub returns-in-Extract-clause-leaves_refused : goal.returns-in-Extract-clause-leaves_refused
+returns-in-Extract-clause-leaves_refused g c =
+    subst (λ ask. IfErr c.whole-in-Extract.result (LeavesRefused g.M.Disk.Store (g.M.Machine.left c.args.machine.now) (g.M.Machine.stands c.args.machine.now) (g.M.Machine.left c.extract.new.machine)
+    (g.W.Write.contents c.args.output.now) (g.W.Write.contents c.extract.new.output) ask)) (sym c.in-Extract.is) (no_refusal c.whole-in-Extract.result)
+
+pub returns-in-Extract-clause-answers : goal.returns-in-Extract-clause-answers
+returns-in-Extract-clause-answers g c =
+    subst (λ ask. AnswersBy g.M.Disk.Store (g.M.Machine.clock c.args.machine.now) (g.M.Machine.stands c.args.machine.now) (g.M.Machine.left c.extract.new.machine)
+    (g.W.Write.contents c.args.output.now) (g.W.Write.contents c.extract.new.output) ask c.whole-in-Extract.result) (sym c.in-Extract.is) tt
+
+pub returns-in-Extract-clause-of_file : goal.returns-in-Extract-clause-of_file
+returns-in-Extract-clause-of_file g c =
+    subst (λ ask. GivesFile (g.M.Files.file_bytes c.args.machine.now) (g.W.Write.contents c.args.output.now) (g.W.Write.contents c.extract.new.output) ask c.whole-in-Extract.result) (sym c.in-Extract.is) tt
+
+pub returns-in-Extract-clause-untouched : goal.returns-in-Extract-clause-untouched
+returns-in-Extract-clause-untouched g c = λ of. absurd (subst IsOfImage c.in-Extract.is of)
+
+pub returns-in-Extract-clause-serves : goal.returns-in-Extract-clause-serves
+returns-in-Extract-clause-serves g c =
+    subst (λ ask. OnOk c.whole-in-Extract.result (ServesBy g.M.Disk.Store g.M.Door.Door.told g.M.Door.Door.coming (g.M.Machine.door c.args.machine.now) (g.M.Machine.door c.extract.new.machine)
+    (g.M.Machine.stands c.args.machine.now) (g.M.Machine.left c.extract.new.machine) ask)) (sym c.in-Extract.is)
+    (stands_nowhere c.whole-in-Extract.result)
+
+pub returns-in-Extract-clause-limits : goal.returns-in-Extract-clause-limits
+returns-in-Extract-clause-limits g c =
+    subst (λ ask. OnOk c.whole-in-Extract.result (LimitsVisitors (g.M.Machine.shows c.args.machine.now) (g.M.Machine.door_limits c.extract.new.machine) ask)) (sym c.in-Extract.is) (no_limits c.whole-in-Extract.result)
+
+pub returns-in-Extract-clause-there : goal.returns-in-Extract-clause-there
+returns-in-Extract-clause-there g c =
+    subst (λ ask. OnEnded c.whole-in-Extract.result (StandsThere (g.M.Machine.shows c.args.machine.now) (g.M.Machine.stands c.args.machine.now) (g.M.Machine.left c.extract.new.machine) ask)) (sym c.in-Extract.is)
+    (on_ended_always c.whole-in-Extract.result _ tt)
+
+pub returns-in-Extract-clause-clock : goal.returns-in-Extract-clause-clock
+returns-in-Extract-clause-clock g c =
+    subst (λ ask. IfErr c.whole-in-Extract.result (IsClockDueBy g.M.Disk.Store (g.M.Machine.stands c.args.machine.now) (g.M.Machine.left c.extract.new.machine) ask)) (sym c.in-Extract.is) (no_refusal c.whole-in-Extract.result)
+
+pub returns-in-Extract-clause-bad_sheet : goal.returns-in-Extract-clause-bad_sheet
+returns-in-Extract-clause-bad_sheet g c =
+    subst (λ ask. IfErr c.whole-in-Extract.result (RefusesSheetBy (g.M.Files.sheet_bytes c.args.machine.now) ask)) (sym c.in-Extract.is) (no_refusal c.whole-in-Extract.result)
+
+pub returns-in-Extract-clause-asked : goal.returns-in-Extract-clause-asked
+returns-in-Extract-clause-asked g c =
+    subst (λ ask. AsksBy (g.M.Machine.wanted c.args.machine.now) ask (g.M.Machine.wanted c.extract.new.machine)) (sym c.in-Extract.is) c.extract.ensures.asked
+
+pub returns-in-Extract-clause-put : goal.returns-in-Extract-clause-put
+returns-in-Extract-clause-put g c = λ store key asked. absurd (subst (IsStaffKeyAsk store key) c.in-Extract.is asked)
+
+pub returns-in-Extract-clause-not_put : goal.returns-in-Extract-clause-not_put
+returns-in-Extract-clause-not_put g c = λ store key asked. absurd (subst (IsStaffKeyAsk store key) c.in-Extract.is asked)
+
+pub returns-in-Extract-clause-sums : goal.returns-in-Extract-clause-sums
+returns-in-Extract-clause-sums g c =
+    subst (λ ask. SumsBy (g.M.Machine.sums c.args.machine.now) ask (g.M.Machine.sums c.extract.new.machine)) (sym c.in-Extract.is) tt
+
+pub returns-in-Extract-clause-copies : goal.returns-in-Extract-clause-copies
+returns-in-Extract-clause-copies g c =
+    subst (λ ask. CopiesBy g.M.Disk.Store (g.M.Machine.shows c.args.machine.now) (g.M.Machine.stands c.args.machine.now) (g.M.Machine.left c.extract.new.machine) (g.M.Machine.made c.args.machine.now)
+    (g.M.Machine.fresh c.args.machine.now) (g.M.Machine.made c.extract.new.machine) (g.M.Machine.new_stores c.args.machine.now) (g.M.Machine.new_stores c.extract.new.machine)
+    (g.W.Write.contents c.args.output.now) (g.W.Write.contents c.extract.new.output) ask c.whole-in-Extract.result) (sym c.in-Extract.is) tt
+
+pub returns-in-Extract-clause-lent : goal.returns-in-Extract-clause-lent
+returns-in-Extract-clause-lent g c =
+    subst (λ ask. WritesOnceLentBy (g.M.Machine.shows c.args.machine.now) (g.M.Machine.door_limits c.extract.new.machine)
+    (g.W.Write.contents c.args.output.now) (g.W.Write.contents c.extract.new.output) ask) (sym c.in-Extract.is) tt
+
+pub returns-in-Extract-clause-late : goal.returns-in-Extract-clause-late
+returns-in-Extract-clause-late g c =
+    subst (λ ask. IfErr c.whole-in-Extract.result (IsBehindBy g.M.Disk.Store (g.M.Machine.clock c.args.machine.now) (g.M.Machine.stands c.args.machine.now) (g.M.Machine.left c.extract.new.machine) ask))
+    (sym c.in-Extract.is) (no_refusal c.whole-in-Extract.result)
+
+pub returns-in-Extract-clause-flushed : goal.returns-in-Extract-clause-flushed
+returns-in-Extract-clause-flushed g c = ok_whole _ c.extract.result c.whole-in-Extract.result c.whole-in-Extract.ensures c.extract.ensures.flushed
+
+pub returns-in-Extract-clause-makes : goal.returns-in-Extract-clause-makes
+returns-in-Extract-clause-makes g c =
+    subst (λ ask. MakesBy g.M.Disk.Store (g.M.Machine.left c.args.machine.now) (g.M.Machine.stands c.args.machine.now) (g.M.Machine.left c.extract.new.machine)
+    (g.W.Write.contents c.args.output.now) (g.W.Write.contents c.extract.new.output) ask c.whole-in-Extract.result) (sym c.in-Extract.is) tt
+
+pub returns-in-Extract-clause-puts : goal.returns-in-Extract-clause-puts
+returns-in-Extract-clause-puts g c =
+    subst (λ ask. PutsBy g.M.Disk.Store (g.M.Machine.left c.args.machine.now) (g.M.Machine.stands c.args.machine.now) (g.M.Machine.left c.extract.new.machine)
+    (g.W.Write.contents c.args.output.now) (g.W.Write.contents c.extract.new.output) ask c.whole-in-Extract.result) (sym c.in-Extract.is) tt
+
+pub returns-in-Extract-clause-listens : goal.returns-in-Extract-clause-listens
+returns-in-Extract-clause-listens g c =
+    subst (λ ask. ListensBy (g.W.Write.contents c.args.output.now) (g.W.Write.contents c.extract.new.output) ask c.whole-in-Extract.result) (sym c.in-Extract.is) tt
+
+pub returns-in-Extract-clause-extracts : goal.returns-in-Extract-clause-extracts
+returns-in-Extract-clause-extracts g c =
+    subst (λ ask. ExtractsBy (g.M.Files.file_bytes c.args.machine.now) (g.R.Read.remaining c.args.input.now) (g.M.Machine.written c.args.machine.now) (g.M.Machine.written c.extract.new.machine)
+    (g.W.Write.contents c.args.output.now) (g.W.Write.contents c.extract.new.output) ask c.whole-in-Extract.result) (sym c.in-Extract.is)
+    (extracted_by _ _ _ _ _ _ c.in-Extract.ask c.extract.result c.whole-in-Extract.result c.whole-in-Extract.ensures c.extract.ensures.extracted c.extract.ensures.refused)
+
+pub returns-in-Sift-clause-done : goal.returns-in-Sift-clause-done
+returns-in-Sift-clause-done g c = λ kind slot asked. absurd (subst (IsFileAsk kind (codes "-") slot) c.in-Sift.is asked)
+
+pub returns-in-Sift-clause-refused : goal.returns-in-Sift-clause-refused
+returns-in-Sift-clause-refused g c = λ kind slot asked. absurd (subst (IsFileAsk kind (codes "-") slot) c.in-Sift.is asked)
+
+pub returns-in-Sift-clause-listed : goal.returns-in-Sift-clause-listed
+returns-in-Sift-clause-listed g c = λ kind asked. absurd (subst (IsFilesAsk kind (codes "-")) c.in-Sift.is asked)
+
+pub returns-in-Sift-clause-list_refused : goal.returns-in-Sift-clause-list_refused
+returns-in-Sift-clause-list_refused g c = λ kind asked. absurd (subst (IsFilesAsk kind (codes "-")) c.in-Sift.is asked)
+
+pub returns-in-Sift-clause-made : goal.returns-in-Sift-clause-made
+returns-in-Sift-clause-made g c = λ store key asked. absurd (subst (IsInitAsk store key) c.in-Sift.is asked)
+
+pub returns-in-Sift-clause-not_made : goal.returns-in-Sift-clause-not_made
+returns-in-Sift-clause-not_made g c = λ store key asked. absurd (subst (IsInitAsk store key) c.in-Sift.is asked)
+
+pub returns-in-Sift-clause-served : goal.returns-in-Sift-clause-served
+returns-in-Sift-clause-served g c = λ store place count rule asked. absurd (subst (IsServeAsk store place count rule) c.in-Sift.is asked)
+
+pub returns-in-Sift-clause-not_served : goal.returns-in-Sift-clause-not_served
+returns-in-Sift-clause-not_served g c = λ store place count rule asked. absurd (subst (IsServeAsk store place count rule) c.in-Sift.is asked)
+
+pub returns-in-Sift-clause-checked : goal.returns-in-Sift-clause-checked
+returns-in-Sift-clause-checked g c = λ acc asked. absurd (subst (AsksCheckOf acc) c.in-Sift.is asked)
+
+pub returns-in-Sift-clause-not_answered : goal.returns-in-Sift-clause-not_answered
+returns-in-Sift-clause-not_answered g c = λ asked. absurd (subst AsksADesk c.in-Sift.is asked)
+
+pub returns-in-Sift-clause-leaves : goal.returns-in-Sift-clause-leaves
+returns-in-Sift-clause-leaves g c =
+    subst (LeavesBy g.M.Disk.Store (g.M.Machine.clock c.args.machine.now) (g.M.Machine.left c.args.machine.now) (g.M.Machine.stands c.args.machine.now) (g.M.Machine.left c.sift.new.machine)) (sym c.in-Sift.is) c.sift.ensures.takes
+
+pub returns-in-Sift-clause-leaves_refused : goal.returns-in-Sift-clause-leaves_refused
+returns-in-Sift-clause-leaves_refused g c =
+    subst (λ ask. IfErr c.sift.result (LeavesRefused g.M.Disk.Store (g.M.Machine.left c.args.machine.now) (g.M.Machine.stands c.args.machine.now) (g.M.Machine.left c.sift.new.machine)
+    (g.W.Write.contents c.args.output.now) (g.W.Write.contents c.sift.new.output) ask)) (sym c.in-Sift.is) c.sift.ensures.opens
+
+pub returns-in-Sift-clause-answers : goal.returns-in-Sift-clause-answers
+returns-in-Sift-clause-answers g c =
+    subst (λ ask. AnswersBy g.M.Disk.Store (g.M.Machine.clock c.args.machine.now) (g.M.Machine.stands c.args.machine.now) (g.M.Machine.left c.sift.new.machine)
+    (g.W.Write.contents c.args.output.now) (g.W.Write.contents c.sift.new.output) ask c.sift.result) (sym c.in-Sift.is) tt
+
+pub returns-in-Sift-clause-of_file : goal.returns-in-Sift-clause-of_file
+returns-in-Sift-clause-of_file g c =
+    subst (λ ask. GivesFile (g.M.Files.file_bytes c.args.machine.now) (g.W.Write.contents c.args.output.now) (g.W.Write.contents c.sift.new.output) ask c.sift.result) (sym c.in-Sift.is) tt
+
+pub returns-in-Sift-clause-untouched : goal.returns-in-Sift-clause-untouched
+returns-in-Sift-clause-untouched g c = λ of. absurd (subst IsOfImage c.in-Sift.is of)
+
+pub returns-in-Sift-clause-unasked : goal.returns-in-Sift-clause-unasked
+returns-in-Sift-clause-unasked g c = subst (λ ask. IsUnaskedBy (g.M.Machine.clock c.args.machine.now) ask c.sift.result) (sym c.in-Sift.is) c.sift.ensures.unasked
+
+pub returns-in-Sift-clause-imports : goal.returns-in-Sift-clause-imports
+returns-in-Sift-clause-imports g c =
+    subst (λ ask. ImportsBy g.M.Disk.Store (g.M.Files.file_bytes c.args.machine.now) (g.M.Files.sheet_bytes c.args.machine.now) (g.M.Machine.clock c.args.machine.now) (g.M.Machine.stands c.args.machine.now)
+    (g.M.Machine.left c.sift.new.machine) (g.W.Write.contents c.args.output.now) (g.W.Write.contents c.sift.new.output) ask c.sift.result) (sym c.in-Sift.is) tt
+
+pub returns-in-Sift-clause-serves : goal.returns-in-Sift-clause-serves
+returns-in-Sift-clause-serves g c =
+    subst (λ ask. OnOk c.sift.result (ServesBy g.M.Disk.Store g.M.Door.Door.told g.M.Door.Door.coming (g.M.Machine.door c.args.machine.now) (g.M.Machine.door c.sift.new.machine)
+    (g.M.Machine.stands c.args.machine.now) (g.M.Machine.left c.sift.new.machine) ask)) (sym c.in-Sift.is)
+    (stands_nowhere c.sift.result)
+
+pub returns-in-Sift-clause-limits : goal.returns-in-Sift-clause-limits
+returns-in-Sift-clause-limits g c =
+    subst (λ ask. OnOk c.sift.result (LimitsVisitors (g.M.Machine.shows c.args.machine.now) (g.M.Machine.door_limits c.sift.new.machine) ask)) (sym c.in-Sift.is) (no_limits c.sift.result)
+
+pub returns-in-Sift-clause-there : goal.returns-in-Sift-clause-there
+returns-in-Sift-clause-there g c =
+    subst (λ ask. OnEnded c.sift.result (StandsThere (g.M.Machine.shows c.args.machine.now) (g.M.Machine.stands c.args.machine.now) (g.M.Machine.left c.sift.new.machine) ask)) (sym c.in-Sift.is)
+    c.sift.ensures.there
+
+pub returns-in-Sift-clause-clock : goal.returns-in-Sift-clause-clock
+returns-in-Sift-clause-clock g c =
+    subst (λ ask. IfErr c.sift.result (IsClockDueBy g.M.Disk.Store (g.M.Machine.stands c.args.machine.now) (g.M.Machine.left c.sift.new.machine) ask)) (sym c.in-Sift.is) c.sift.ensures.clock
+
+pub returns-in-Sift-clause-bad_sheet : goal.returns-in-Sift-clause-bad_sheet
+returns-in-Sift-clause-bad_sheet g c =
+    subst (λ ask. IfErr c.sift.result (RefusesSheetBy (g.M.Files.sheet_bytes c.args.machine.now) ask)) (sym c.in-Sift.is) c.sift.ensures.bad_sheet
+
+pub returns-in-Sift-clause-asked : goal.returns-in-Sift-clause-asked
+returns-in-Sift-clause-asked g c =
+    subst (λ ask. AsksBy (g.M.Machine.wanted c.args.machine.now) ask (g.M.Machine.wanted c.sift.new.machine)) (sym c.in-Sift.is) c.sift.ensures.asked
+
+pub returns-in-Sift-clause-put : goal.returns-in-Sift-clause-put
+returns-in-Sift-clause-put g c = λ store key asked. absurd (subst (IsStaffKeyAsk store key) c.in-Sift.is asked)
+
+pub returns-in-Sift-clause-not_put : goal.returns-in-Sift-clause-not_put
+returns-in-Sift-clause-not_put g c = λ store key asked. absurd (subst (IsStaffKeyAsk store key) c.in-Sift.is asked)
+
+pub returns-in-Sift-clause-on_time : goal.returns-in-Sift-clause-on_time
+returns-in-Sift-clause-on_time g c =
+    subst (λ ask. IsOnTimeBy g.M.Disk.Store (g.M.Machine.clock c.args.machine.now) (g.M.Machine.stands c.args.machine.now) (g.M.Machine.left c.sift.new.machine) ask c.sift.result)
+    (sym c.in-Sift.is) c.sift.ensures.on_time
+
+pub returns-in-Sift-clause-sums : goal.returns-in-Sift-clause-sums
+returns-in-Sift-clause-sums g c =
+    subst (λ ask. SumsBy (g.M.Machine.sums c.args.machine.now) ask (g.M.Machine.sums c.sift.new.machine)) (sym c.in-Sift.is) tt
+
+pub returns-in-Sift-clause-copies : goal.returns-in-Sift-clause-copies
+returns-in-Sift-clause-copies g c =
+    subst (λ ask. CopiesBy g.M.Disk.Store (g.M.Machine.shows c.args.machine.now) (g.M.Machine.stands c.args.machine.now) (g.M.Machine.left c.sift.new.machine) (g.M.Machine.made c.args.machine.now)
+    (g.M.Machine.fresh c.args.machine.now) (g.M.Machine.made c.sift.new.machine) (g.M.Machine.new_stores c.args.machine.now) (g.M.Machine.new_stores c.sift.new.machine)
+    (g.W.Write.contents c.args.output.now) (g.W.Write.contents c.sift.new.output) ask c.sift.result) (sym c.in-Sift.is) tt
+
+pub returns-in-Sift-clause-lent : goal.returns-in-Sift-clause-lent
+returns-in-Sift-clause-lent g c =
+    subst (λ ask. WritesOnceLentBy (g.M.Machine.shows c.args.machine.now) (g.M.Machine.door_limits c.sift.new.machine)
+    (g.W.Write.contents c.args.output.now) (g.W.Write.contents c.sift.new.output) ask) (sym c.in-Sift.is) tt
+
+pub returns-in-Sift-clause-late : goal.returns-in-Sift-clause-late
+returns-in-Sift-clause-late g c =
+    subst (λ ask. IfErr c.sift.result (IsBehindBy g.M.Disk.Store (g.M.Machine.clock c.args.machine.now) (g.M.Machine.stands c.args.machine.now) (g.M.Machine.left c.sift.new.machine) ask))
+    (sym c.in-Sift.is) c.sift.ensures.late
+
+pub returns-in-Sift-clause-flushed : goal.returns-in-Sift-clause-flushed
+returns-in-Sift-clause-flushed g c =
+    c.sift.ensures.flushed
+
+pub returns-in-Sift-clause-makes : goal.returns-in-Sift-clause-makes
+returns-in-Sift-clause-makes g c =
+    subst (λ ask. MakesBy g.M.Disk.Store (g.M.Machine.left c.args.machine.now) (g.M.Machine.stands c.args.machine.now) (g.M.Machine.left c.sift.new.machine)
+    (g.W.Write.contents c.args.output.now) (g.W.Write.contents c.sift.new.output) ask c.sift.result) (sym c.in-Sift.is) tt
+
+pub returns-in-Sift-clause-puts : goal.returns-in-Sift-clause-puts
+returns-in-Sift-clause-puts g c =
+    subst (λ ask. PutsBy g.M.Disk.Store (g.M.Machine.left c.args.machine.now) (g.M.Machine.stands c.args.machine.now) (g.M.Machine.left c.sift.new.machine)
+    (g.W.Write.contents c.args.output.now) (g.W.Write.contents c.sift.new.output) ask c.sift.result) (sym c.in-Sift.is) tt
+
+pub returns-in-Sift-clause-listens : goal.returns-in-Sift-clause-listens
+returns-in-Sift-clause-listens g c =
+    subst (λ ask. ListensBy (g.W.Write.contents c.args.output.now) (g.W.Write.contents c.sift.new.output) ask c.sift.result) (sym c.in-Sift.is) tt
+
+pub returns-in-Sift-clause-sifts : goal.returns-in-Sift-clause-sifts
+returns-in-Sift-clause-sifts g c =
+    subst (λ ask. SiftsBy g.M.Disk.Store (g.M.Files.file_bytes c.args.machine.now) (g.M.Files.sheet_bytes c.args.machine.now) (g.M.Machine.clock c.args.machine.now) (g.M.Machine.stands c.args.machine.now)
+    (g.M.Machine.left c.sift.new.machine) (g.W.Write.contents c.args.output.now) (g.W.Write.contents c.sift.new.output) ask c.sift.result) (sym c.in-Sift.is) c.sift.ensures.sifted
+
+pub returns-in-Sift-clause-imported : goal.returns-in-Sift-clause-imported
+returns-in-Sift-clause-imported g c = λ tells. absurd (subst TakesRows c.in-Sift.is tells)
+
+pub returns-in-Sift-clause-not_imported : goal.returns-in-Sift-clause-not_imported
+returns-in-Sift-clause-not_imported g c = λ tells. absurd (subst TakesRows c.in-Sift.is tells)

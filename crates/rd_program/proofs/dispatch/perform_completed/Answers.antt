@@ -1,11 +1,11 @@
-use Rattle.std.proofs.Common.{◌≡◌, ◌≤◌, ap, arith, inl, inr, subst, sym}
+use Rattle.std.proofs.Common.{◌≡◌, ◌∙◌, ◌≤◌, ap, arith, inl, inr, subst, sym}
 use Rattle.std.proofs.KnownBytes.{Keeps-refl}
 use Rattle.std.proofs.lemmas.Result.{IfErr-weaker, IfOk-weaker}
 use Rattle.rd_commands.proofs.ReadLimits.{reads_after, reads_within}
 use Rattle.rd_program.specs.Completing.{Completes}
 use Rattle.rd_program.specs.Leaves.{GivesBack}
 use Rattle.rd_program.specs.Performing.{CompletesSo, Performs, sight}
-use Rattle.rd_program.proofs.CompletingLemmas.{early_never, kept_alike, reads_nothing_more, whole_alike}
+use Rattle.rd_program.proofs.CompletingLemmas.{early_never, extracts_none, kept_alike, reads_nothing_more, whole_alike}
 use Rattle.rd_program.proofs.dispatch.perform_completed.Goals as goal
 
 -- ---- what is whole
@@ -16,7 +16,7 @@ perform-requires g c = (whole_alike _ _ c.args.told c.in-Ok-completed.ask (c.in-
 pub returns-in-Ok-completed-clause-kept : goal.returns-in-Ok-completed-clause-kept
 returns-in-Ok-completed-clause-kept g c =
     let alike = whole_alike _ _ c.args.told c.in-Ok-completed.ask (c.in-Ok-completed.ensures.completes _ _ c.in-Ok.ensures.read) in
-    kept_alike c.perform.result c.in-Ok-completed.ask c.args.told.ask alike.rows c.perform.ensures.kept
+    kept_alike c.perform.result c.in-Ok-completed.ask c.args.told.ask alike.rows alike.files c.perform.ensures.kept
 
 pub returns-in-Ok-completed-clause-in_part : goal.returns-in-Ok-completed-clause-in_part
 returns-in-Ok-completed-clause-in_part g c =
@@ -36,10 +36,12 @@ returns-in-Ok-completed-clause-limit g c =
     reads_nothing_more _ _ _ _ c.read_operands.ensures.limit c.perform.ensures.limit alike.read c.requires.of_store
 
 pub returns-in-Ok-completed-clause-completed : goal.returns-in-Ok-completed-clause-completed
-returns-in-Ok-completed-clause-completed g c = inl (subst
+returns-in-Ok-completed-clause-completed g c =
+    let alike = whole_alike _ _ c.args.told c.in-Ok-completed.ask (c.in-Ok-completed.ensures.completes _ _ c.in-Ok.ensures.read) in
+    inl (subst
     (λ machine. CompletesSo g.M.Disk.Store g.M.Door.Door.told g.M.Door.Door.coming
-    (sight g.M.Machine.shows g.M.Machine.clock g.M.Files.file_bytes g.M.Files.sheet_bytes g.M.Machine.stands g.M.Machine.left g.M.Machine.wanted g.M.Machine.sums g.M.Machine.door g.M.Machine.door_limits g.M.Machine.made g.M.Machine.fresh g.M.Machine.new_stores machine)
-    (sight g.M.Machine.shows g.M.Machine.clock g.M.Files.file_bytes g.M.Files.sheet_bytes g.M.Machine.stands g.M.Machine.left g.M.Machine.wanted g.M.Machine.sums g.M.Machine.door g.M.Machine.door_limits g.M.Machine.made g.M.Machine.fresh g.M.Machine.new_stores c.perform.new.machine)
+    (sight g.M.Machine.shows g.M.Machine.clock g.M.Files.file_bytes g.M.Files.sheet_bytes g.M.Machine.stands g.M.Machine.left g.M.Machine.wanted g.M.Machine.sums g.M.Machine.door g.M.Machine.door_limits g.M.Machine.made g.M.Machine.fresh g.M.Machine.new_stores g.M.Machine.written machine)
+    (sight g.M.Machine.shows g.M.Machine.clock g.M.Files.file_bytes g.M.Files.sheet_bytes g.M.Machine.stands g.M.Machine.left g.M.Machine.wanted g.M.Machine.sums g.M.Machine.door g.M.Machine.door_limits g.M.Machine.made g.M.Machine.fresh g.M.Machine.new_stores g.M.Machine.written c.perform.new.machine)
     (g.R.Read.remaining c.args.input.now) (g.W.Write.contents c.args.output.now) (g.W.Write.contents c.perform.new.output) c.args.told c.perform.result)
     c.read_operands.ensures.same (record {
       ask = c.in-Ok-completed.ask;
@@ -53,6 +55,8 @@ returns-in-Ok-completed-clause-completed g c = inl (subst
         serves = c.perform.ensures.serves;
         limits = c.perform.ensures.limits;
         imports = c.perform.ensures.imports;
+        sifts = c.perform.ensures.sifts;
+        extracts = extracts_none _ _ _ _ _ _ c.in-Ok-completed.ask c.perform.result (alike.read ∙ c.requires.of_store);
         answers = c.perform.ensures.answers;
         unasked = c.perform.ensures.unasked;
         on_time = c.perform.ensures.on_time;
@@ -88,7 +92,7 @@ pub returns-in-Err-completed-clause-completed : goal.returns-in-Err-completed-cl
 returns-in-Err-completed-clause-completed g c = inr (record {
   refused = tt;
   why = c.in-Err-completed.ensures.early;
-  same = ap (sight g.M.Machine.shows g.M.Machine.clock g.M.Files.file_bytes g.M.Files.sheet_bytes g.M.Machine.stands g.M.Machine.left g.M.Machine.wanted g.M.Machine.sums g.M.Machine.door g.M.Machine.door_limits g.M.Machine.made g.M.Machine.fresh g.M.Machine.new_stores) c.read_operands.ensures.same;
+  same = ap (sight g.M.Machine.shows g.M.Machine.clock g.M.Files.file_bytes g.M.Files.sheet_bytes g.M.Machine.stands g.M.Machine.left g.M.Machine.wanted g.M.Machine.sums g.M.Machine.door g.M.Machine.door_limits g.M.Machine.made g.M.Machine.fresh g.M.Machine.new_stores g.M.Machine.written) c.read_operands.ensures.same;
   kept = Keeps-refl _;
 })
 
@@ -111,6 +115,6 @@ pub returns-in-Err-clause-completed : goal.returns-in-Err-clause-completed
 returns-in-Err-clause-completed g c = inr (record {
   refused = tt;
   why = c.in-Err.ensures.early;
-  same = ap (sight g.M.Machine.shows g.M.Machine.clock g.M.Files.file_bytes g.M.Files.sheet_bytes g.M.Machine.stands g.M.Machine.left g.M.Machine.wanted g.M.Machine.sums g.M.Machine.door g.M.Machine.door_limits g.M.Machine.made g.M.Machine.fresh g.M.Machine.new_stores) c.read_operands.ensures.same;
+  same = ap (sight g.M.Machine.shows g.M.Machine.clock g.M.Files.file_bytes g.M.Files.sheet_bytes g.M.Machine.stands g.M.Machine.left g.M.Machine.wanted g.M.Machine.sums g.M.Machine.door g.M.Machine.door_limits g.M.Machine.made g.M.Machine.fresh g.M.Machine.new_stores g.M.Machine.written) c.read_operands.ensures.same;
   kept = Keeps-refl _;
 })

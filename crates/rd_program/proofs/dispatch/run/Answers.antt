@@ -39,7 +39,7 @@ use Rattle.rd_commands.proofs.RunLemmas.{is_cut, kept_is_cut, no_sound_file, not
 use Rattle.rd_commands.proofs.ReadLimits.{reads_none, reads_within}
 use Rattle.rd_commands.proofs.VersionLine.{version_asked, version_no_help, version_not_taken}
 use Rattle.rd_commands.proofs.WriterLemmas.{none_written}
-use Rattle.rd_program.proofs.Plain.{at_plain, check_plain, copy_plain, export_plain, file_plain, files_plain, import_plain, init_plain, kind_plain, named_plain, serve_plain, show_plain, staff_key_plain, store_plain}
+use Rattle.rd_program.proofs.Plain.{at_plain, check_plain, copy_plain, export_plain, extraction_taken, file_plain, files_plain, import_plain, init_plain, kind_plain, named_plain, serve_plain, show_plain, staff_key_plain, store_plain}
 use Rattle.rd_commands.specs.Told.{TellsAll}
 use Rattle.rd_program.proofs.CompletingLemmas.{reads_no_more}
 use Rattle.rd_program.proofs.WhyLemmas.{ends_by, is_told, none_so, some_so}
@@ -150,7 +150,7 @@ returns-in-Ok-perform_told-clause-by_status g c = record {
       inr (Keeps-refl _, c.in-Ok.ensures.written_on_output (c.in-Ok-perform_told.ensures.in_part (c.status.ensures.in_part (one_is_some one))), c.in-Ok-perform_told.ensures.flushed);
   is_flushed = λ zero. c.in-Ok-perform_told.ensures.flushed;
   refused = λ one.
-      inr (c.in-Ok.ensures.written_on_output (c.in-Ok-perform_told.ensures.in_part (c.status.ensures.in_part (one_is_some one))));
+      inr (inl (c.in-Ok.ensures.written_on_output (c.in-Ok-perform_told.ensures.in_part (c.status.ensures.in_part (one_is_some one)))));
   usage_keeps = λ two. absurd (omega (arith, c.status.ensures.most, two));
 }
 
@@ -164,7 +164,8 @@ returns-in-Err-perform_told-clause-by_status g c = record {
   refused = λ one.
       elim (c.in-Err-perform_told.ensures.kept (sym c.tell_and_keep.ensures.status ∙ one)) [
         | inl kept ↦ inl kept
-        | inr rows ↦ inr (c.in-Ok.ensures.written_on_output (rows_tell c.in-Ok.told.ask rows))
+        | inr (inl rows) ↦ inr (inl (c.in-Ok.ensures.written_on_output (rows_tell c.in-Ok.told.ask rows)))
+        | inr (inr files) ↦ inr (inr (extraction_taken _ c.in-Ok.told files c.in-Ok.ensures.all))
       ];
   usage_keeps = λ two. absurd (c.in-Err-perform_told.ensures.never (sym c.tell_and_keep.ensures.status ∙ two));
 }

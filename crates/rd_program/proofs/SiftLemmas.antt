@@ -1,0 +1,370 @@
+-- The rows of a sheet that are taken past files that cannot be read, or only tried.
+use Rattle.std.proofs.Common.{◌≡◌, ◌⊎◌, ◌+◌, ◌∙◌, ◌++◌, ◌∷◌, [], ℕ, ℤ, Bool, Err, IfNone, IfOk, IfSome, List, None, Ok, Option, Result, Some, ap, arith, codes, false, inl, inr, length, length-append, refl, subst, sym, true}
+use Rattle.std.specs.Borrow.{Bor}
+use Rattle.std.specs.Io.KnownBytes.{Appends}
+use Rattle.std.specs.List.{concat}
+use Rattle.std.specs.Prelude.{All}
+use Rattle.std.proofs.KnownBytes.{Appends-nil}
+use Rattle.std.proofs.lemmas.List.Elements.{All-nil, All-push}
+use Rattle.csv.specs.Machine.{next_record}
+use Rattle.csv.specs.Reading.{NextIs, ReadRecord, ReadsOn, default_config, has_failed, is_flexible, strip_bom, took_first}
+use Rattle.csv.specs.declared.parser.State.{State}
+use Rattle.csv.specs.declared.parser.State.TheVariants.{StartRecord}
+use Rattle.csv.specs.declared.reader.Reader.{Reader}
+use Rattle.sqlite.specs.Held.{Held}
+use Rattle.sqlite.specs.Store.{Ghosts}
+use Rattle.rd_store.specs.Held.{IsOpen, Lasts, desk}
+use Rattle.rd_store.specs.Migrated.{IsMigrated}
+use Rattle.rd_holdings.specs.State.{Desk}
+use Rattle.rd_protocol.specs.declared.refusal.Refusal.{Refusal as DeskRefusal}
+use Rattle.rd_protocol.specs.declared.response.Response.{Response}
+use Rattle.rd_protocol.specs.declared.response.Response.TheVariants.{Refused}
+use Rattle.rd_commands.specs.Refusals.{IsDeviceOrMemory}
+use Rattle.rd_commands.specs.Sheets.{HasOtherLength, IsBad, IsReadRefusal, Says, header}
+use Rattle.rd_commands.specs.declared.done.Done.{Done as Ending}
+use Rattle.rd_commands.specs.declared.refusal.Refusal.{Refusal}
+use Rattle.rd_commands.specs.declared.refusal.Refusal.TheVariants.{BadSheet, Device, NoMemory}
+use Rattle.rd_commands.specs.declared.sheet.SheetRow.{SheetRow}
+use Rattle.rd_commands.proofs.WriterLemmas.{piece_more}
+use Rattle.rd_desk.specs.Calls.{IsResponse}
+use Rattle.rd_desk.specs.Shelving.{StandsBeside, WouldAnswer}
+use Rattle.rd_desk.specs.declared.would_take.Shelved.{Shelved}
+use Rattle.rd_program.specs.Importing.{IsRowRefusal, accession_line, bad_row_line}
+use Rattle.rd_program.specs.Leaves.{IsSame, LeavesDesk, TakesFields, TakesUnlessDry}
+use Rattle.rd_program.specs.Rows.{HasRows, IsSheetOf}
+use Rattle.rd_program.specs.Showing.{EndsWith}
+use Rattle.rd_program.specs.Sifting.{AreRowsSifted, IsRowSifted, SiftsOn, SiftsOne, SiftsRows, SiftsSheet, SiftsSheetIn, StandsAfter, TellsFate, done_word, fate_by, fate_of, lost_row_line, put_of, shelved_row, word_by, worse}
+use Rattle.rd_program.specs.declared.sift.Fate.{Fate}
+use Rattle.rd_program.specs.declared.sift.Fate.TheVariants.{Denied, Done, Lost}
+use Rattle.rd_program.specs.declared.sift.Way.{Way}
+use Rattle.rd_program.proofs.DeskSteps.{row_more}
+use Rattle.rd_program.proofs.LeftStores.{desk_then}
+use Rattle.rd_program.proofs.OnTimeLemmas.{takes_from}
+use Rattle.rd_program.proofs.RowLemmas.{HasRead, IsAt, IsStrict, longer_no_sheet, next_none, next_some, reads_on, records_more, slice_rest, strict_first, strict_next}
+use Rattle.rd_program.proofs.ShowLemmas.{ends_with}
+
+-- ---- the fate of rows together
+
+worse_assoc : (a b c : Fate) → worse (worse a b) c ≡ worse a (worse b c)
+worse_assoc Done b c = refl
+worse_assoc Denied Done c = refl
+worse_assoc Denied Denied Done = refl
+worse_assoc Denied Denied Denied = refl
+worse_assoc Denied Denied Lost = refl
+worse_assoc Denied Lost c = refl
+worse_assoc Lost b c = refl
+
+worse_done : (a : Fate) → worse a Done ≡ a
+worse_done Done = refl
+worse_done Denied = refl
+worse_done Lost = refl
+
+-- one row more
+rows_then : (files : List ℕ → Option (List ℕ)) (way : Way) (badge : List ℕ) (day : ℤ) (number : ℕ) (rows : List (List (List ℕ))) (lines : List (List ℕ)) (fate one : Fate)
+    (fields : List (List ℕ)) (line : List ℕ) (old mid new : Desk)
+    → AreRowsSifted files way badge day number rows lines fate old mid → IsRowSifted files way badge day (number + length rows) fields line one mid new
+    → AreRowsSifted files way badge day number (rows ++ fields ∷ []) (lines ++ line ∷ []) (worse fate one) old new
+rows_then files way badge day number [] [] fate one fields line old mid new (done, same) row = (
+  new,
+  one,
+  Done,
+  subst (λ d. IsRowSifted files way badge day number fields line one d new) same (subst (λ n. IsRowSifted files way badge day n fields line one mid new) (omega arith) row),
+  (refl, refl),
+  ap (λ f. worse f one) done ∙ sym (worse_done one),
+)
+rows_then files way badge day number [] (other ∷ lines) fate one fields line old mid new taken row = absurd taken
+rows_then files way badge day number (first ∷ rows) [] fate one fields line old mid new taken row = absurd taken
+rows_then files way badge day number (first ∷ rows) (head ∷ lines) fate one fields line old mid new (after, its, others, is, more, whole) row = (
+  after,
+  its,
+  worse others one,
+  is,
+  rows_then files way badge day (number + 1) rows lines others one fields line after mid new more
+      (subst (λ n. IsRowSifted files way badge day n fields line one mid new) (omega arith) row),
+  ap (λ f. worse f one) whole ∙ worse_assoc its others one,
+)
+
+-- The rows that were read of a sheet, the lines that were written of them, and the desk after them; in a dry run, one that
+-- stands beside the shelf.
+pub record SiftedSoFar {S : Type 0} (g : Ghosts S) (files : List ℕ → Option (List ℕ)) (way : Way) (badge : List ℕ) (day : ℤ) (sheet : List ℕ) (out written : Option (List ℕ))
+    (opened now : Held S) (reader : Reader (Bor (List ℕ))) (number : ℕ) (fate : Fate) (shelf : List Shelved) : Type 0 where
+  pub rows : List (List (List ℕ))
+  pub lines : List (List ℕ)
+  pub state : State
+  pub rest : List ℕ
+  pub at : IsAt reader state rest
+  pub has : HasRows sheet rows state rest
+  pub count : 1 + length rows ≡ number
+  pub strict : IsStrict reader
+  pub fit : All (λ fields. length fields ≡ length header) rows
+  pub gained : Appends out written (concat lines)
+  pub taken : IsOpen g now → way.dry_run ≡ false → AreRowsSifted files way badge day 1 rows lines fate (desk g opened) (desk g now)
+  pub tried : IsOpen g now → way.dry_run ≡ true → (desk g now ≡ desk g opened)
+      × ((mid : Desk) × StandsBeside shelf (desk g opened) mid × AreRowsSifted files way badge day 1 rows lines fate (desk g opened) mid)
+
+-- the desk that stands stands beside a shelf without an image
+beside_none : (stood : Desk) → StandsBeside [] stood stood
+beside_none stood = record { rest = refl; images = λ acc. refl }
+
+module _ {S : Type 0} (g : Ghosts S) (files : List ℕ → Option (List ℕ)) (way : Way) (badge : List ℕ) (day : ℤ) (sheet : List ℕ) (out : Option (List ℕ)) (opened : Held S) where
+  -- no row yet
+  pub sifted_none : (reader after : Reader (Bor (List ℕ))) (found : Bool) (fields : List (List ℕ)) (shelf : List Shelved) → is_flexible reader ≡ false → (found ≡ true → ReadsOn reader after)
+      → IsAt reader StartRecord (strip_bom sheet) → ReadRecord slice_rest reader after found fields
+      → has_failed after ≡ has_failed reader → took_first after ≡ true → found ≡ true → fields ≡ header → shelf ≡ []
+      → SiftedSoFar g files way badge day sheet out out opened opened after 1 Done shelf
+  sifted_none reader after found fields shelf strict on at read kept took is named bare =
+      let now = reads_on reader after StartRecord (strip_bom sheet) found fields at read kept took in
+      let next = next_some (next_record default_config StartRecord [] [] (strip_bom sheet)) fields now.last now.rest
+      (subst (λ b. NextIs (next_record default_config StartRecord [] [] (strip_bom sheet)) b fields now.last now.rest) is now.next) in
+      record {
+        rows = [];
+        lines = [];
+        state = now.last;
+        rest = now.rest;
+        at = now.at;
+        has = (now.last, now.rest, subst (λ f. next_record default_config StartRecord [] [] (strip_bom sheet) ≡ Some (f, now.last, now.rest)) named next, (refl, refl));
+        count = refl;
+        strict = strict_first reader after found fields read on is named strict;
+        fit = All-nil (λ row. length row ≡ length header);
+        gained = Appends-nil out;
+        taken = λ is_open wet. (refl, refl);
+        tried = λ is_open dry. (refl, (desk g opened, subst (λ s. StandsBeside s (desk g opened) (desk g opened)) (sym bare) (beside_none (desk g opened)), (refl, refl)));
+      }
+
+  module _ (mid new : Held S) (written more : Option (List ℕ)) (reader after : Reader (Bor (List ℕ))) (number : ℕ) (fate one : Fate) (shelf next : List Shelved) where
+    -- one row more
+    pub sifted_more : (found : Bool) (fields : List (List ℕ)) → (found ≡ true → ReadsOn reader after) → SiftedSoFar g files way badge day sheet out written opened mid reader number fate shelf
+        → ReadRecord slice_rest reader after found fields → has_failed after ≡ has_failed reader → took_first after ≡ true → found ≡ true → (IsOpen g new → IsOpen g mid)
+        → SiftsOne g files way badge day number fields one shelf next written more mid new
+        → SiftedSoFar g files way badge day sheet out more opened new after (number + 1) (worse fate one) next
+    sifted_more found fields on so_far read kept took is was_open row =
+        let strict = strict_next reader after found fields read on is so_far.strict in
+        let now = reads_on reader after so_far.state so_far.rest found fields so_far.at read kept took in
+        let then_next = next_some (next_record default_config so_far.state [] [] so_far.rest) fields now.last now.rest
+        (subst (λ b. NextIs (next_record default_config so_far.state [] [] so_far.rest) b fields now.last now.rest) is now.next) in
+        let count = so_far.count in
+        record {
+          rows = so_far.rows ++ fields ∷ [];
+          lines = so_far.lines ++ row.line ∷ [];
+          state = now.last;
+          rest = now.rest;
+          at = now.at;
+          has = records_more StartRecord (strip_bom sheet) (header ∷ so_far.rows) so_far.state now.last so_far.rest now.rest fields so_far.has then_next;
+          count = omega (arith, count, length-append so_far.rows (fields ∷ []));
+          strict = strict.0;
+          fit = All-push (λ row. length row ≡ length header) so_far.rows fields so_far.fit strict.1;
+          gained = piece_more out written more so_far.lines row.line so_far.gained row.gained;
+          taken = λ is_open wet. rows_then files way badge day 1 so_far.rows so_far.lines fate one fields row.line (desk g opened) (desk g mid) (desk g new) (so_far.taken (was_open is_open) wet)
+              (subst (λ n. IsRowSifted files way badge day n fields row.line one (desk g mid) (desk g new)) (sym count) (row.wet wet is_open));
+          tried = λ is_open dry.
+              let before = so_far.tried (was_open is_open) dry in
+              let its = row.dry dry is_open in
+              let stands : StandsBeside shelf (desk g mid) before.1.0 = subst (λ d. StandsBeside shelf d before.1.0) (sym before.0) before.1.1 in
+              let left = its.1 before.1.0 stands in (
+                its.0 ∙ before.0,
+                (
+                  left.0,
+                  subst (λ d. StandsBeside next d left.0) before.0 left.2,
+                  rows_then files way badge day 1 so_far.rows so_far.lines fate one fields row.line (desk g opened) before.1.0 left.0 before.1.2
+                      (subst (λ n. IsRowSifted files way badge day n fields row.line one before.1.0 left.0) (sym count) left.1),
+                ),
+              );
+        }
+
+  -- no row more
+  pub sifted_all : (now : Held S) (written : Option (List ℕ)) (reader after : Reader (Bor (List ℕ))) (number : ℕ) (fate : Fate) (shelf : List Shelved) (found : Bool) (fields : List (List ℕ))
+      → SiftedSoFar g files way badge day sheet out written opened now reader number fate shelf → ReadRecord slice_rest reader after found fields → has_failed after ≡ has_failed reader
+      → took_first after ≡ true → found ≡ false → SiftsRows g files way badge day sheet out written fate opened now
+  sifted_all now written reader after number fate shelf found fields so_far read kept took is is_open = go way.dry_run refl
+    where
+      ends : HasRead so_far.state so_far.rest found fields after
+      ends = reads_on reader after so_far.state so_far.rest found fields so_far.at read kept took
+
+      all : IsSheetOf sheet so_far.rows
+      all = record {
+        last = so_far.state;
+        rest = so_far.rest;
+        has = so_far.has;
+        ends = next_none (next_record default_config so_far.state [] [] so_far.rest) fields ends.last ends.rest
+            (subst (λ b. NextIs (next_record default_config so_far.state [] [] so_far.rest) b fields ends.last ends.rest) is ends.next);
+        fit = so_far.fit;
+      }
+
+      go : (dry : Bool) → way.dry_run ≡ dry → SiftsSheet files way badge day (Some sheet) out written fate (desk g opened) (desk g now)
+      go true dry =
+          let tried = so_far.tried is_open dry in record {
+            rows = so_far.rows;
+            lines = so_far.lines;
+            left = tried.1.0;
+            is = all;
+            taken = tried.1.2;
+            stands = subst (λ b. StandsAfter b (desk g opened) tried.1.0 (desk g now)) (sym dry) tried.0;
+            gained = so_far.gained;
+          }
+      go false wet = record {
+        rows = so_far.rows;
+        lines = so_far.lines;
+        left = desk g now;
+        is = all;
+        taken = so_far.taken is_open wet;
+        stands = subst (λ b. StandsAfter b (desk g opened) (desk g now) (desk g now)) (sym wet) refl;
+        gained = so_far.gained;
+      }
+
+  -- a row of another number of fields comes after some rows
+  pub sifted_no_sheet : (now : Held S) (written : Option (List ℕ)) (reader after : Reader (Bor (List ℕ))) (number : ℕ) (fate : Fate) (shelf : List Shelved)
+      → SiftedSoFar g files way badge day sheet out written opened now reader number fate shelf
+      → HasOtherLength reader after → (rows : List (List (List ℕ))) → IsSheetOf sheet rows → ⊥
+  sifted_no_sheet now written reader after number fate shelf so_far longer rows is =
+      longer_no_sheet sheet so_far.rows so_far.state so_far.rest reader after so_far.at so_far.has so_far.strict longer rows is
+
+-- ---- what is taken
+
+-- where nothing is to be taken in, the desk stays as it is, and otherwise one row more is taken
+pub sifts_then : {S : Type 0} (g : Ghosts S) (dry : Bool) (badge : List ℕ) (day : ℤ) (fields : List (List ℕ)) (old mid new : Held S)
+    → LeavesDesk g (TakesUnlessDry dry badge (λ d. d ≡ day)) old mid → (dry ≡ true → LeavesDesk g IsSame mid new) → (dry ≡ false → LeavesDesk g (TakesFields badge day fields) mid new)
+    → LeavesDesk g (TakesUnlessDry dry badge (λ d. d ≡ day)) old new
+sifts_then g true badge day fields old mid new before same row = desk_then g IsSame IsSame IsSame old mid new (λ d e f one two. two ∙ one) before (same refl)
+sifts_then g false badge day fields old mid new before same row = row_more g badge day fields old mid new before (row refl)
+
+-- nothing was done
+pub still_sifts : {S : Type 0} (g : Ghosts S) (dry : Bool) (old new : Held S) (badge : List ℕ) (Days : ℤ → Type 0) → LeavesDesk g IsSame old new
+    → LeavesDesk g (TakesUnlessDry dry badge Days) old new
+still_sifts g true old new badge Days leaves = leaves
+still_sifts g false old new badge Days leaves = record { lasts = leaves.lasts; reached = λ is_open. inl (leaves.reached is_open) }
+
+-- ---- one row
+
+-- a row whose file was read
+pub image_sifted : {S X : Type 0} (g : Ghosts S) (files : List ℕ → Option (List ℕ)) (way : Way) (badge : List ℕ) (day : ℤ) (number : ℕ) (row : SheetRow) (bytes : List ℕ)
+    (r : Result Response X) (told : Result Fate Refusal) (shelf next : List Shelved) (out written : Option (List ℕ)) (before after : Held S)
+    → IfSome (files row.file.now) (λ shown. bytes ≡ shown)
+    → (way.dry_run ≡ true → IsOpen g after → (desk g after ≡ desk g before) × IfOk r (WouldAnswer shelf next (desk g before) badge (shelved_row row) bytes))
+    → (way.dry_run ≡ false → IsOpen g after → IsResponse (desk g before) day (put_of badge row bytes) r (desk g after))
+    → IfOk told (TellsFate row.acc way.dry_run r out written)
+    → IfOk told (λ fate. (fields : List (List ℕ)) → Says fields row → SiftsOne g files way badge day number fields fate shelf next out written before after)
+image_sifted g files way badge day number row bytes r (Err refusal) shelf next out written before after read dry wet tells = tt
+image_sifted g files way badge day number row bytes (Err fault) (Ok fate) shelf next out written before after read dry wet tells = absurd tells
+image_sifted g files way badge day number row bytes (Ok answer) (Ok fate) shelf next out written before after read dry wet tells = λ fields says. record {
+  line = accession_line row.acc (word_by way.dry_run answer);
+  gained = tells.0;
+  dry = λ is_dry is_open.
+      let would = dry is_dry is_open in (
+        would.0,
+        λ mid beside. let left = would.1 day mid beside in (
+          left.0,
+          inr (inl (row, says, record { bytes = bytes; read = read; answer = answer; answered = left.1; line_is = refl; fate_is = tells.1 })),
+          left.2,
+        ),
+      );
+  wet = λ is_wet is_open.
+      inr (inl (row, says, record { bytes = bytes; read = read; answer = answer; answered = wet is_wet is_open; line_is = refl; fate_is = tells.1 }));
+}
+
+-- one whose file was not
+pub lost_sifted : {S : Type 0} (g : Ghosts S) (files : List ℕ → Option (List ℕ)) (way : Way) (badge : List ℕ) (day : ℤ) (number : ℕ) (row : SheetRow) (fields : List (List ℕ))
+    (shelf : List Shelved) (out written : Option (List ℕ)) (at : Held S) → way.keep_going ≡ true → Says fields row → Appends out written (lost_row_line number)
+    → SiftsOne g files way badge day number fields Lost shelf shelf out written at at
+lost_sifted g files way badge day number row fields shelf out written at going says gained = record {
+  line = lost_row_line number;
+  gained = gained;
+  dry = λ dry is_open. (refl, λ mid beside. (mid, inr (inr (going, ((row, says), (refl, (refl, refl))))), beside));
+  wet = λ wet is_open. inr (inr (going, ((row, says), (refl, (refl, refl)))));
+}
+
+-- one that is bad
+pub bad_sifted : {S : Type 0} (g : Ghosts S) (files : List ℕ → Option (List ℕ)) (way : Way) (badge : List ℕ) (day : ℤ) (number : ℕ) (fields : List (List ℕ))
+    (shelf : List Shelved) (out written : Option (List ℕ)) (at : Held S) → IsBad fields → Appends out written (bad_row_line number)
+    → SiftsOne g files way badge day number fields Denied shelf shelf out written at at
+bad_sifted g files way badge day number fields shelf out written at bad gained = record {
+  line = bad_row_line number;
+  gained = gained;
+  dry = λ dry is_open. (refl, λ mid beside. (mid, inl (bad, (refl, (refl, refl))), beside));
+  wet = λ wet is_open. inl (bad, (refl, (refl, refl)));
+}
+
+-- ---- refusals
+
+pub of_device : (refusal : Refusal) → IsDeviceOrMemory refusal → IsRowRefusal refusal
+of_device Device is = inl refl
+of_device NoMemory is = inr (inl refl)
+of_device other is = absurd is
+
+-- why no row is read
+pub of_reading : (refusal : Refusal) → IsReadRefusal refusal → (refusal ≡ BadSheet) ⊎ IsRowRefusal refusal
+of_reading refusal (inl bad) = inl bad
+of_reading refusal (inr (inl device)) = inr (inl device)
+of_reading refusal (inr (inr memory)) = inr (inr (inl memory))
+
+-- ---- the sheet
+
+module _ {S : Type 0} (g : Ghosts S) (files other : List ℕ → Option (List ℕ)) (way : Way) (Days : ℤ → Type 0) (shown : Option (List ℕ)) (out written : Option (List ℕ)) (r : Result Ending Refusal) where
+  -- the rows that were taken on a day, over the desk that was read before
+  pub sifted_on : (b badge bytes : List ℕ) (day : ℤ) (old mid new : Held S) (fate : Fate) → other ≡ files → LeavesDesk g IsSame old mid → (IsOpen g new → IsOpen g mid) → Days day → b ≡ badge
+      → IfSome shown (λ sheet. bytes ≡ sheet) → SiftsRows g other way b day bytes out written fate mid new → IfOk r (λ done. fate ≡ fate_of done)
+      → IfOk r (λ done. SiftsOn g files way badge Days shown out written done old new)
+  sifted_on b badge bytes day old mid new fate same_files same was at same_badge is rows ends = elim r as (λ r. IfOk r (λ done. fate ≡ fate_of done) → IfOk r (λ done. SiftsOn g files way badge Days shown out written done old new)) [
+    | Err refusal ↦ λ ends. tt
+    | Ok done ↦ λ ends is_open. (
+      day,
+      at,
+      of_shown shown badge day old new (fate_of done) bytes is
+          (subst (λ f. SiftsSheet files way badge day (Some bytes) out written f (desk g old) (desk g new)) ends
+          (subst (λ x. SiftsSheet files way x day (Some bytes) out written fate (desk g old) (desk g new)) same_badge
+          (subst (λ f. SiftsSheet f way b day (Some bytes) out written fate (desk g old) (desk g new)) same_files
+          (subst (λ d. SiftsSheet other way b day (Some bytes) out written fate d (desk g new)) (same.reached (was is_open)) (rows is_open))))),
+    )
+  ] ends
+    where
+      of_shown : (shown : Option (List ℕ)) (badge : List ℕ) (day : ℤ) (old new : Held S) (fate : Fate) (bytes : List ℕ) → IfSome shown (λ sheet. bytes ≡ sheet)
+          → SiftsSheet files way badge day (Some bytes) out written fate (desk g old) (desk g new) → SiftsSheet files way badge day shown out written fate (desk g old) (desk g new)
+      of_shown None badge day old new fate bytes is whole = record { rows = whole.rows; lines = whole.lines; left = whole.left; is = tt; taken = whole.taken; stands = whole.stands; gained = whole.gained }
+      of_shown (Some sheet) badge day old new fate bytes is whole = subst (λ b. SiftsSheet files way badge day (Some b) out written fate (desk g old) (desk g new)) is whole
+
+  -- over the desk that was opened
+  pub sift_ended : (badge : List ℕ) (Others : ℤ → Type 0) (there : Option (List ℕ)) (old new : Option (Held S)) (opened last conn : Held S) → other ≡ files → there ≡ shown
+      → ((day : ℤ) → Others day → Days day) → IfSome old (λ before. IsMigrated g before opened) → Lasts g opened last → conn ≡ last → IfSome new (λ held. Some conn ≡ Some held)
+      → IfOk r (λ done. SiftsOn g other way badge Others there out written done opened last)
+      → IfOk r (λ done. EndsWith old new (SiftsSheetIn g files way badge Days shown out written done))
+  sift_ended badge Others there old new opened last conn same here weaker is lasts back took holds = elim r as (λ r. IfOk r (λ done. SiftsOn g other way badge Others there out written done opened last)
+      → IfOk r (λ done. EndsWith old new (SiftsSheetIn g files way badge Days shown out written done))) [
+        | Err refusal ↦ λ holds. tt
+        | Ok done ↦ λ holds. ends_with g old new opened last conn (SiftsSheetIn g files way badge Days shown out written done) is
+            (λ before at o. let found = holds o in (
+              desk g opened,
+              at.is (lasts.was_open o),
+              (
+                found.0,
+                weaker found.0 found.1,
+                subst (λ f. SiftsSheet f way badge found.0 shown out written (fate_of done) (desk g opened) (desk g last)) same
+                    (subst (λ s. SiftsSheet other way badge found.0 s out written (fate_of done) (desk g opened) (desk g last)) here found.2),
+              ),
+            )) back took
+      ] holds
+
+-- no row is taken in where none is to be, and otherwise rows on the day
+pub sifts_from : {S : Type 0} (g : Ghosts S) (dry : Bool) (old mid new : Held S) (b badge : List ℕ) (day : ℤ) (Days : ℤ → Type 0) → LeavesDesk g IsSame old mid → Days day → b ≡ badge
+    → LeavesDesk g (TakesUnlessDry dry b (λ d. d ≡ day)) mid new → LeavesDesk g (TakesUnlessDry dry badge Days) old new
+sifts_from g true old mid new b badge day Days same at same_badge leaves = desk_then g IsSame IsSame IsSame old mid new (λ d e f one two. two ∙ one) same leaves
+sifts_from g false old mid new b badge day Days same at same_badge leaves = takes_from g old mid new same leaves.lasts Days day b badge at same_badge leaves
+
+-- ---- what is there
+
+pub some_is : {A : Type 0} (o : Option A) (P : A → Type 0) (it : A) → o ≡ Some it → IfSome o P → P it
+some_is (Some other) P it is holds = subst P (cc is) holds
+some_is None P it is holds = absurd (cc is)
+
+pub none_is : {A P : Type 0} (o : Option A) → o ≡ None → IfNone o P → P
+none_is (Some other) is holds = absurd (cc is)
+none_is None is holds = holds
+
+-- an answer that is no refusal
+pub fate_answer : (answer : Response) (dry_run : Bool) → ((refusal : DeskRefusal) → answer ≡ Refused refusal → ⊥) → (Done ≡ fate_by answer) × (done_word dry_run ≡ word_by dry_run answer)
+fate_answer (Refused refusal) dry_run other = absurd (other refusal refl)
+fate_answer answer dry_run other = (refl, refl)
+
+-- the connection lasts, whether a row is taken in or not
+pub sifts_lasts : {S : Type 0} (g : Ghosts S) (dry : Bool) (Other : Desk → Desk → Type 0) (old new : Held S) → (dry ≡ true → LeavesDesk g IsSame old new)
+    → (dry ≡ false → LeavesDesk g Other old new) → Lasts g old new
+sifts_lasts g true Other old new same row = (same refl).lasts
+sifts_lasts g false Other old new same row = (row refl).lasts

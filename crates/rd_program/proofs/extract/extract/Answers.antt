@@ -1,0 +1,81 @@
+use Rattle.std.proofs.Common.{◌≡◌, ◌∙◌, ◌<◌, IfErr, ap, arith, false, inl, inr, length, refl, subst, sym, true}
+use Rattle.rd_geometry.specs.Images.{bytes_of, kind_of}
+use Rattle.rd_geometry.specs.Kinds.{size_of}
+use Rattle.rd_volume.specs.Volumes.{AreFounds}
+use Rattle.rd_commands.specs.declared.refusal.Refusal.TheVariants.{NoMemory, WrongSize}
+use Rattle.rd_program.specs.Extracting.{OfImage, RefusesExtract}
+use Rattle.rd_program.proofs.FolderLemmas.{all_of_image, extracts_all, extracts_part, makes_more, makes_same, of_sized, part_of_image, refuses_early, refuses_part, size_refused}
+use Rattle.rd_program.proofs.ShowLemmas.{passed_on}
+use Rattle.rd_program.proofs.extract.extract.Goals.{then-is_given+in_ok-extract_one, else-is_given}
+use Rattle.rd_program.proofs.extract.extract.Goals as goal
+
+-- ---- before the first file
+
+pub returns-in_err-image-clause-refused : goal.returns-in_err-image-clause-refused
+returns-in_err-image-clause-refused g c =
+    let made = g.M.Machine.written c.args.machine.now in
+    let out = g.W.Write.contents c.args.output.now in
+    subst (λ machine. IfErr c.from_residual-in_err-image.result (λ refusal. OfImage (g.M.Files.file_bytes c.args.machine.now) (g.R.Read.remaining c.args.input.now) c.args.ask.image.image.now
+    (λ image. RefusesExtract c.args.ask.image.kind image c.args.ask.folder.now made (g.M.Machine.written machine) out out refusal))) (sym c.read_image.ensures.same)
+    (passed_on c.from_residual-in_err-image.result WrongSize _ c.from_residual-in_err-image.ensures.1
+    (size_refused _ _ _ c.in_ok-bytes.bytes.items c.args.ask.folder.now c.args.ask.image.kind made out c.in_ok-bytes.ensures.front c.in_ok-bytes.ensures.of_file
+    (λ sized. let none : false ≡ true = c.in_err-image.ensures.taken.1 (ap length c.as_slice.ensures.value ∙ sized) in absurd (cc none))))
+
+pub returns-in_err-files-clause-refused : goal.returns-in_err-files-clause-refused
+returns-in_err-files-clause-refused g c =
+    let made = g.M.Machine.written c.args.machine.now in
+    let out = g.W.Write.contents c.args.output.now in
+    subst (λ machine. IfErr c.from_residual-in_err-files.result (λ refusal. OfImage (g.M.Files.file_bytes c.args.machine.now) (g.R.Read.remaining c.args.input.now) c.args.ask.image.image.now
+    (λ image. RefusesExtract c.args.ask.image.kind image c.args.ask.folder.now made (g.M.Machine.written machine) out out refusal))) (sym c.read_image.ensures.same)
+    (passed_on c.from_residual-in_err-files.result NoMemory _ c.from_residual-in_err-files.ensures.1
+    (refuses_early _ _ _ c.args.ask.folder.now c.args.ask.image.kind made out NoMemory tt))
+
+-- ---- file after file
+
+pub loop-file-preserved : goal.loop-file-preserved
+loop-file-preserved g c =
+    let at = c.loop-file in
+    let files = c.as_slice-file-items.result.now in
+    let inside : at.file-index < length files = omega arith in
+    elim c.if-is_given.branch [
+      | then-is_given+in_ok-extract_one w ↦ rw (w.machine-is, w.output-is) (record {
+        makes = makes_more (kind_of c.in_ok-image.image) (bytes_of c.in_ok-image.image) c.args.ask.folder.now files at.file-index c.file-item.result _ _ _ _ _ _ inside (sym c.file-item.is)
+            (sym c.is_given.ensures ∙ w.if-is_given.true) at.invariant.makes w.in_ok-extract_one.ensures.made w.in_ok-extract_one.ensures.line;
+        flushed = inr w.in_ok-extract_one.ensures.flushed;
+        left = w.extract_one.ensures.left ∙ at.invariant.left;
+        asked = w.extract_one.ensures.asked ∙ at.invariant.asked;
+      })
+      | else-is_given w ↦ rw (w.machine-is, w.output-is) (record {
+        makes = makes_same (kind_of c.in_ok-image.image) (bytes_of c.in_ok-image.image) c.args.ask.folder.now files at.file-index c.file-item.result _ _ _ _ inside (sym c.file-item.is)
+            (sym c.is_given.ensures ∙ w.if-is_given.false) at.invariant.makes;
+        flushed = at.invariant.flushed;
+        left = at.invariant.left;
+        asked = at.invariant.asked;
+      })
+    ]
+
+pub returns-in_err-extract_one-clause-refused : goal.returns-in_err-extract_one-clause-refused
+returns-in_err-extract_one-clause-refused g c =
+    let at = c.loop-file in
+    let files = c.as_slice-file-items.result.now in
+    let inside : at.file-index < length files = omega arith in
+    let are : AreFounds (kind_of c.in_ok-image.image) (bytes_of c.in_ok-image.image) files = subst (AreFounds _ _) (sym c.as_slice-file-items.ensures) c.in_ok-files.ensures.files in
+    let part = extracts_part (kind_of c.in_ok-image.image) (bytes_of c.in_ok-image.image) c.args.ask.folder.now files at.file-index c.file-item.result _ _ _ _ _ _ are inside (sym c.file-item.is)
+        (sym c.is_given.ensures ∙ c.if-is_given.true) at.invariant.makes c.in_err-extract_one.ensures.failed in
+    passed_on c.from_residual-in_err-extract_one.result c.in_err-extract_one.field-0.0 _ c.from_residual-in_err-extract_one.ensures.1
+    (of_sized _ _ _ c.in_ok-bytes.bytes.items (size_of c.args.ask.image.kind) _ c.in_ok-bytes.ensures.front c.in_ok-bytes.ensures.of_file
+    (ap length (sym c.as_slice.ensures.value) ∙ c.in_ok-image.ensures.taken.0 (refl {a = true}))
+    (refuses_part c.args.ask.image.kind c.in_ok-bytes.bytes.items c.args.ask.folder.now _ _ _ _ c.in_err-extract_one.field-0.0 c.in_err-extract_one.ensures.refused
+    (part_of_image c.args.ask.image.kind _ c.in_ok-bytes.bytes.items _ c.args.ask.folder.now _ _ _ _ c.in_ok-image.ensures.kind
+    (c.in_ok-image.ensures.bytes ∙ c.as_slice.ensures.value) part)))
+
+pub returns-clause-extracted : goal.returns-clause-extracted
+returns-clause-extracted g c =
+    let at = c.loop-file in
+    let files = c.as_slice-file-items.result.now in
+    let are : AreFounds (kind_of c.in_ok-image.image) (bytes_of c.in_ok-image.image) files = subst (AreFounds _ _) (sym c.as_slice-file-items.ensures) c.in_ok-files.ensures.files in
+    let all = extracts_all (kind_of c.in_ok-image.image) (bytes_of c.in_ok-image.image) c.args.ask.folder.now files at.file-index _ _ _ _ are (omega arith) at.invariant.makes in
+    of_sized _ _ _ c.in_ok-bytes.bytes.items (size_of c.args.ask.image.kind) _ c.in_ok-bytes.ensures.front c.in_ok-bytes.ensures.of_file
+    (ap length (sym c.as_slice.ensures.value) ∙ c.in_ok-image.ensures.taken.0 (refl {a = true}))
+    (all_of_image c.args.ask.image.kind _ c.in_ok-bytes.bytes.items _ c.args.ask.folder.now _ _ _ _ c.in_ok-image.ensures.kind
+    (c.in_ok-image.ensures.bytes ∙ c.as_slice.ensures.value) all)

@@ -1,0 +1,16 @@
+use Rattle.std.proofs.Common.{◌≡◌, take}
+use Rattle.std.specs.List.{filter}
+use Rattle.rd_geometry.specs.Images.{bytes_of, kind_of}
+use Rattle.rd_commands.specs.Output.{IsFlushed}
+use Rattle.rd_program.specs.Extracting.{MakesFiles, is_given}
+use Rattle.rd_program.proofs.extract.extract.Given as goal
+
+-- the sound files passed were made, and their lines written
+abbrev pub invariant-loop-file : goal.invariant-loop-file
+invariant-loop-file g l = record {
+  makes : MakesFiles (kind_of l.image) (bytes_of l.image) l.ask.folder.now (filter is_given (take l.file-index l.file-items)) (g.M.Machine.written l.fn.machine)
+      (g.M.Machine.written l.machine) (g.W.Write.contents l.fn.output) (g.W.Write.contents l.output);
+  flushed : IsFlushed g.M.Files.flushed (g.W.Write.contents l.fn.output) (g.W.Write.contents l.output);
+  left : g.M.Machine.left l.machine ≡ g.M.Machine.left l.fn.machine;
+  asked : g.M.Machine.wanted l.machine ≡ g.M.Machine.wanted l.fn.machine;
+}

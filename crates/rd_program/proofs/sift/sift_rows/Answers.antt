@@ -1,0 +1,88 @@
+use Rattle.std.proofs.Common.{◌+◌, ◌∙◌, inl, inr, rules, subst, sym}
+use Rattle.std.proofs.KnownBytes.{Keeps-refl}
+use Rattle.csv.specs.Records.{fields_of}
+use Rattle.rd_program.proofs.RowLemmas.{due_if, none_expected, row_no_sheet}
+use Rattle.rd_program.proofs.ShowLemmas.{passed_on}
+use Rattle.rd_program.proofs.SiftLemmas.{SiftedSoFar, of_reading, sifted_all, sifted_more, sifted_no_sheet, sifted_none, sifts_lasts, sifts_then}
+use Rattle.rd_program.specs.Sifting.{SiftsOne}
+use Rattle.rd_program.proofs.sift.sift_rows.Goals as goal
+
+pub loop-number-init : goal.loop-number-init
+loop-number-init g c = record {
+  flushed = inl (Keeps-refl _);
+  same = search rules;
+  zone = search rules;
+  rows = sifted_none g.M.Disk.Store (g.M.Files.file_bytes c.args.machine.now) c.args.way c.args.giver.badge c.args.giver.day c.args.sheet.now (g.W.Write.contents c.args.output.now) c.args.desk.now.store
+      c.from_reader-reader.result c.next_row.new.reader c.in_ok-next_row.field-0 _ _ (search rules) c.in_ok-next_row.ensures.reads_on
+      (record { source = search rules; state_is = search rules; config = search rules; untrimmed = search rules; ready = search rules; well = search rules })
+      (c.in_ok-next_row.ensures.read (search rules) (search rules)) c.in_ok-next_row.ensures.kept (c.in_ok-next_row.ensures.ready (search rules)) (search rules) (search rules) c.new-shelf.ensures;
+  takes = search rules;
+}
+
+pub loop-number-preserved : goal.loop-number-preserved
+loop-number-preserved g c = record {
+  flushed = inr c.in_ok-row.ensures.flushed;
+  same = c.sift_fields.ensures.same ∙ c.loop-number.invariant.same;
+  zone = c.sift_fields.ensures.zone ∙ c.loop-number.invariant.zone;
+  rows = subst (λ f. SiftedSoFar g.M.Disk.Store (g.M.Files.file_bytes c.args.machine.now) c.args.way c.args.giver.badge c.args.giver.day c.args.sheet.now (g.W.Write.contents c.args.output.now)
+      (g.W.Write.contents c.sift_fields.new.output) c.args.desk.now.store c.sift_fields.new.desk.store c.next_row-in-loop-number.new.reader (c.loop-number.number + 1) f c.sift_fields.new.shelf.images.items)
+      (sym c.worse-fate.ensures)
+      (sifted_more g.M.Disk.Store (g.M.Files.file_bytes c.args.machine.now) c.args.way c.args.giver.badge c.args.giver.day c.args.sheet.now (g.W.Write.contents c.args.output.now) c.args.desk.now.store
+      c.loop-number.desk.store c.sift_fields.new.desk.store (g.W.Write.contents c.loop-number.output) (g.W.Write.contents c.sift_fields.new.output) c.loop-number.reader c.next_row-in-loop-number.new.reader
+      c.loop-number.number c.loop-number.fate c.in_ok-row.row c.loop-number.shelf.images.items c.sift_fields.new.shelf.images.items c.in_ok-next_row-2.field-0 _ c.in_ok-next_row-2.ensures.reads_on
+      c.loop-number.invariant.rows (c.in_ok-next_row-2.ensures.read c.loop-number.invariant.rows.at.untrimmed c.loop-number.invariant.rows.at.ready)
+      c.in_ok-next_row-2.ensures.kept (c.in_ok-next_row-2.ensures.ready c.loop-number.invariant.rows.at.untrimmed) (search rules)
+      (λ o. (sifts_lasts g.M.Disk.Store c.args.way.dry_run _ _ _ c.sift_fields.ensures.dry c.sift_fields.ensures.wet).was_open o)
+      (subst (λ m. SiftsOne g.M.Disk.Store (g.M.Files.file_bytes m) c.args.way c.args.giver.badge c.args.giver.day c.loop-number.number (fields_of c.next_row-in-loop-number.new.fields) c.in_ok-row.row
+      c.loop-number.shelf.images.items c.sift_fields.new.shelf.images.items (g.W.Write.contents c.loop-number.output) (g.W.Write.contents c.sift_fields.new.output) c.loop-number.desk.store c.sift_fields.new.desk.store)
+      c.loop-number.invariant.same c.in_ok-row.ensures.row));
+  takes = sifts_then g.M.Disk.Store c.args.way.dry_run c.args.giver.badge c.args.giver.day _ c.args.desk.now.store c.loop-number.desk.store c.sift_fields.new.desk.store c.loop-number.invariant.takes
+      c.sift_fields.ensures.dry c.sift_fields.ensures.wet;
+}
+
+pub returns-then-not-branch-2-clause-rows : goal.returns-then-not-branch-2-clause-rows
+returns-then-not-branch-2-clause-rows g c =
+    sifted_all g.M.Disk.Store (g.M.Files.file_bytes c.args.machine.now) c.args.way c.args.giver.badge c.args.giver.day c.args.sheet.now (g.W.Write.contents c.args.output.now) c.args.desk.now.store
+    c.loop-number.desk.store (g.W.Write.contents c.loop-number.output) c.loop-number.reader c.next_row-in-loop-number.new.reader c.loop-number.number c.loop-number.fate
+    c.loop-number.shelf.images.items c.in_ok-next_row-2.field-0 _ c.loop-number.invariant.rows
+    (c.in_ok-next_row-2.ensures.read c.loop-number.invariant.rows.at.untrimmed c.loop-number.invariant.rows.at.ready)
+    c.in_ok-next_row-2.ensures.kept (c.in_ok-next_row-2.ensures.ready c.loop-number.invariant.rows.at.untrimmed) (search rules)
+
+pub returns-in_err-row-clause-takes : goal.returns-in_err-row-clause-takes
+returns-in_err-row-clause-takes g c =
+    sifts_then g.M.Disk.Store c.args.way.dry_run c.args.giver.badge c.args.giver.day _ c.args.desk.now.store c.loop-number.desk.store c.sift_fields.new.desk.store c.loop-number.invariant.takes
+    c.sift_fields.ensures.dry c.sift_fields.ensures.wet
+
+-- ---- refusals
+
+pub returns-in_err-next_row-clause-refused : goal.returns-in_err-next_row-clause-refused
+returns-in_err-next_row-clause-refused g c =
+    passed_on c.from_residual.result c.in_err-next_row.field-0.0 _ c.from_residual.ensures.1 (of_reading c.in_err-next_row.field-0.0 c.in_err-next_row.ensures.refused)
+
+pub returns-in_err-next_row-2-clause-refused : goal.returns-in_err-next_row-2-clause-refused
+returns-in_err-next_row-2-clause-refused g c =
+    passed_on c.from_residual-in_err-next_row-2.result c.in_err-next_row-2.field-0.0 _ c.from_residual-in_err-next_row-2.ensures.1
+    (of_reading c.in_err-next_row-2.field-0.0 c.in_err-next_row-2.ensures.refused)
+
+pub returns-in_err-row-clause-refused : goal.returns-in_err-row-clause-refused
+returns-in_err-row-clause-refused g c =
+    passed_on c.from_residual-in_err-row.result c.in_err-row.field-0.0 _ c.from_residual-in_err-row.ensures.1 (inr c.in_err-row.ensures.refused)
+
+-- ---- a sheet that is none
+
+pub returns-in_err-next_row-2-clause-bad_sheet : goal.returns-in_err-next_row-2-clause-bad_sheet
+returns-in_err-next_row-2-clause-bad_sheet g c =
+    passed_on c.from_residual-in_err-next_row-2.result c.in_err-next_row-2.field-0.0 _ c.from_residual-in_err-next_row-2.ensures.1
+    (due_if c.args.sheet.now c.in_err-next_row-2.field-0.0 (λ bad. sifted_no_sheet g.M.Disk.Store (g.M.Files.file_bytes c.args.machine.now) c.args.way c.args.giver.badge c.args.giver.day c.args.sheet.now
+    (g.W.Write.contents c.args.output.now) c.args.desk.now.store c.loop-number.desk.store (g.W.Write.contents c.loop-number.output) c.loop-number.reader c.next_row-in-loop-number.new.reader
+    c.loop-number.number c.loop-number.fate c.loop-number.shelf.images.items c.loop-number.invariant.rows (c.in_err-next_row-2.ensures.length c.loop-number.invariant.rows.at.ready bad)))
+
+pub returns-in_err-next_row-clause-bad_sheet : goal.returns-in_err-next_row-clause-bad_sheet
+returns-in_err-next_row-clause-bad_sheet g c =
+    passed_on c.from_residual.result c.in_err-next_row.field-0.0 _ c.from_residual.ensures.1
+    (due_if c.args.sheet.now c.in_err-next_row.field-0.0 (λ bad rows is. none_expected c.from_reader-reader.result c.next_row.new.reader c.from_reader-reader.ensures.expected
+    (c.in_err-next_row.ensures.length (search rules) bad)))
+
+pub returns-in_err-row-clause-bad_sheet : goal.returns-in_err-row-clause-bad_sheet
+returns-in_err-row-clause-bad_sheet g c =
+    passed_on c.from_residual-in_err-row.result c.in_err-row.field-0.0 _ c.from_residual-in_err-row.ensures.1 (row_no_sheet c.args.sheet.now c.in_err-row.field-0.0 c.in_err-row.ensures.refused)

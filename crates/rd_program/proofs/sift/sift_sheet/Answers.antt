@@ -1,0 +1,61 @@
+use Rattle.std.proofs.Common.{FitsSigned, rules, subst, sym, w32}
+use Rattle.std.proofs.lemmas.Int.{to_z-of_z}
+use Rattle.sha2.specs.Sha256.{sha256}
+use Rattle.rd_program.specs.Leaves.{IsDayAt, moment_of}
+use Rattle.rd_program.proofs.LeftStores.{still_same}
+use Rattle.rd_program.proofs.OnTimeLemmas.{on_time_from}
+use Rattle.rd_program.proofs.ShowLemmas.{passed_on}
+use Rattle.rd_program.proofs.SiftLemmas.{sifted_on, sifts_from, still_sifts}
+use Rattle.rd_program.proofs.sift.sift_sheet.Goals as goal
+
+pub returns-in_err-day-clause-takes : goal.returns-in_err-day-clause-takes
+returns-in_err-day-clause-takes g c =
+    still_sifts g.M.Disk.Store c.args.ask.dry_run c.args.desk.now.store c.day_on_time.new.desk.store (sha256 c.args.ask.import.key.now)
+    (IsDayAt (moment_of c.args.ask.import.when.seconds (g.M.Machine.clock c.args.machine.now)) c.args.desk.now.zone)
+    (still_same g.M.Disk.Store c.args.desk.now.store c.day_on_time.new.desk.store c.day_on_time.ensures.reads)
+
+pub returns-in-Err-clause-takes : goal.returns-in-Err-clause-takes
+returns-in-Err-clause-takes g c =
+    still_sifts g.M.Disk.Store c.args.ask.dry_run c.args.desk.now.store c.day_on_time.new.desk.store (sha256 c.args.ask.import.key.now)
+    (IsDayAt (moment_of c.args.ask.import.when.seconds (g.M.Machine.clock c.args.machine.now)) c.args.desk.now.zone)
+    (still_same g.M.Disk.Store c.args.desk.now.store c.day_on_time.new.desk.store c.day_on_time.ensures.reads)
+
+pub returns-in_err-sift_rows-clause-takes : goal.returns-in_err-sift_rows-clause-takes
+returns-in_err-sift_rows-clause-takes g c =
+    let fits : FitsSigned w32 c.in_ok-day.day = search rules in
+    sifts_from g.M.Disk.Store c.args.ask.dry_run c.args.desk.now.store c.day_on_time.new.desk.store c.sift_rows.new.desk.store _ (sha256 c.args.ask.import.key.now) _
+    (IsDayAt (moment_of c.args.ask.import.when.seconds (g.M.Machine.clock c.args.machine.now)) c.args.desk.now.zone)
+    (still_same g.M.Disk.Store c.args.desk.now.store c.day_on_time.new.desk.store c.day_on_time.ensures.reads)
+    (subst (IsDayAt (moment_of c.args.ask.import.when.seconds (g.M.Machine.clock c.args.machine.now)) c.args.desk.now.zone) (sym (to_z-of_z w32 c.in_ok-day.day fits)) c.in_ok-day.ensures.day)
+    c.digest-badge.ensures c.sift_rows.ensures.takes
+
+pub returns-clause-takes : goal.returns-clause-takes
+returns-clause-takes g c =
+    let fits : FitsSigned w32 c.in_ok-day.day = search rules in
+    sifts_from g.M.Disk.Store c.args.ask.dry_run c.args.desk.now.store c.day_on_time.new.desk.store c.sift_rows.new.desk.store _ (sha256 c.args.ask.import.key.now) _
+    (IsDayAt (moment_of c.args.ask.import.when.seconds (g.M.Machine.clock c.args.machine.now)) c.args.desk.now.zone)
+    (still_same g.M.Disk.Store c.args.desk.now.store c.day_on_time.new.desk.store c.day_on_time.ensures.reads)
+    (subst (IsDayAt (moment_of c.args.ask.import.when.seconds (g.M.Machine.clock c.args.machine.now)) c.args.desk.now.zone) (sym (to_z-of_z w32 c.in_ok-day.day fits)) c.in_ok-day.ensures.day)
+    c.digest-badge.ensures c.sift_rows.ensures.takes
+
+pub returns-clause-sifted : goal.returns-clause-sifted
+returns-clause-sifted g c =
+    let fits : FitsSigned w32 c.in_ok-day.day = search rules in
+    sifted_on g.M.Disk.Store (g.M.Files.file_bytes c.args.machine.now) (g.M.Files.file_bytes c.day_on_time.new.machine) _
+    (IsDayAt (moment_of c.args.ask.import.when.seconds (g.M.Machine.clock c.args.machine.now)) c.args.desk.now.zone)
+    (g.M.Files.sheet_bytes c.args.machine.now c.args.ask.import.sheet.now) _ _ c.ended_by.result _ (sha256 c.args.ask.import.key.now) _ _ c.args.desk.now.store c.day_on_time.new.desk.store
+    c.sift_rows.new.desk.store c.in_ok-sift_rows.field-0 (search rules)
+    (still_same g.M.Disk.Store c.args.desk.now.store c.day_on_time.new.desk.store c.day_on_time.ensures.reads) (λ o. c.sift_rows.ensures.takes.lasts.was_open o)
+    (subst (IsDayAt (moment_of c.args.ask.import.when.seconds (g.M.Machine.clock c.args.machine.now)) c.args.desk.now.zone) (sym (to_z-of_z w32 c.in_ok-day.day fits)) c.in_ok-day.ensures.day)
+    c.digest-badge.ensures (search rules) c.in_ok-sift_rows.ensures.rows c.ended_by.ensures.ended
+
+pub returns-clause-on_time : goal.returns-clause-on_time
+returns-clause-on_time g c = λ held.
+    on_time_from g.M.Disk.Store c.args.desk.now.store c.day_on_time.new.desk.store c.sift_rows.new.desk.store c.sift_rows.ensures.takes.lasts (g.M.Machine.clock c.args.machine.now) c.args.desk.now.zone
+    c.in_ok-day.day c.ended_by.result c.args.ask.import.when.seconds c.args.ask.import.when.is_trusting held c.in_ok-day.ensures.day c.in_ok-day.ensures.on_time
+
+pub returns-in_err-day-clause-clock : goal.returns-in_err-day-clause-clock
+returns-in_err-day-clause-clock g c = passed_on c.from_residual.result c.in_err-day.field-0.0 _ c.from_residual.ensures.1 c.in_err-day.ensures.clock
+
+pub returns-in_err-day-clause-late : goal.returns-in_err-day-clause-late
+returns-in_err-day-clause-late g c = passed_on c.from_residual.result c.in_err-day.field-0.0 _ c.from_residual.ensures.1 c.in_err-day.ensures.late

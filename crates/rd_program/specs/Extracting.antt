@@ -1,0 +1,114 @@
+-- What the command `files` makes of an image: a file in a folder for each sound file of the served class.
+use Rattle.std.specs.Prelude.{◌≡◌, ◌≢◌, ◌⊎◌, ◌++◌, ◌∷◌, ◌==◌, ◌&&◌, ⊤, [], ℕ, Bool, Err, IfSome, List, Ok, Option, Result, Some, codes, length, map}
+use Rattle.std.specs.Fmt.{decimal}
+use Rattle.std.specs.Io.KnownBytes.{Appends, Keeps}
+use Rattle.std.specs.List.{concat, filter}
+use Rattle.rd_geometry.specs.Kinds.{size_of}
+use Rattle.rd_geometry.specs.declared.kind.Kind.{Kind}
+use Rattle.rd_names.specs.FileNames.{file_name}
+use Rattle.rd_volume.specs.Volumes.{AreFounds, contents_of}
+use Rattle.rd_volume.specs.declared.found.Found.{Found}
+use Rattle.rd_commands.specs.Listed.{tab}
+use Rattle.rd_commands.specs.Output.{AppendsPart}
+use Rattle.rd_commands.specs.Printed.{line_feed}
+use Rattle.rd_commands.specs.declared.done.Done.{Done}
+use Rattle.rd_commands.specs.declared.refusal.Refusal.{Refusal}
+use Rattle.rd_commands.specs.declared.refusal.Refusal.TheVariants.{Device, Exists, NoMemory, WrongSize}
+use Rattle.rd_commands.specs.declared.words.Ask.{Ask}
+use Rattle.rd_commands.specs.declared.words.Ask.TheVariants.{Extract}
+use Rattle.rd_program.specs.declared.machine.WriteFault.{WriteFault}
+use Rattle.rd_program.specs.declared.machine.WriteFault.TheVariants as write_fault
+
+-- A file that a machine made: in this folder, under this name, with these bytes.
+pub record Made : Type 0 where
+  pub folder : List ℕ
+  pub name : List ℕ
+  pub bytes : List ℕ
+
+-- a machine that shows what it made made this after that, and nothing else
+abbrev pub MakesNext : Option (List Made) → Option (List Made) → Made → Type 0
+MakesNext old new made = IfSome old (λ before. new ≡ Some (before ++ made ∷ []))
+
+-- the file is sound, and of a class that desk serves
+abbrev pub is_given : Found → Bool
+is_given file = file.served_class && (file.faults == 0)
+
+-- the file of a folder for a file of an image
+abbrev pub made_of : Kind → List ℕ → List ℕ → Found → Made
+made_of kind image folder file = record { folder = folder; name = file_name file.slot file.name; bytes = contents_of kind image file }
+
+-- its line: the slot, the name in the folder, and how many bytes it has, with a tab between each
+abbrev pub line_text : ℕ → List ℕ → ℕ → List ℕ
+line_text slot name count = decimal slot ++ (tab ++ (name ++ (tab ++ (decimal count ++ line_feed))))
+
+abbrev pub made_line : Found → Made → List ℕ
+made_line file made = line_text file.slot made.name (length made.bytes)
+
+abbrev pub line_of : Kind → List ℕ → List ℕ → Found → List ℕ
+line_of kind image folder file = made_line file (made_of kind image folder file)
+
+-- These files of an image were made in a folder, in turn, and the lines of all were written.
+pub record MakesFiles (kind : Kind) (image folder : List ℕ) (files : List Found) (old new : Option (List Made)) (out written : Option (List ℕ)) : Type 0 where
+  pub made : IfSome old (λ before. new ≡ Some (before ++ map (made_of kind image folder) files))
+  pub lines : Appends out written (concat (map (line_of kind image folder) files))
+
+-- All sound files of the served class of the image were made, and no other.
+pub record Extracts (kind : Kind) (image folder : List ℕ) (old new : Option (List Made)) (out written : Option (List ℕ)) : Type 0 where
+  pub files : List Found
+  pub are : AreFounds kind image files
+  pub makes : MakesFiles kind image folder (filter is_given files) old new out written
+
+-- A front part of them was made: the next one was not, or its line was not written whole.
+pub record ExtractsPart (kind : Kind) (image folder : List ℕ) (old new : Option (List Made)) (out written : Option (List ℕ)) : Type 0 where
+  pub files : List Found
+  pub are : AreFounds kind image files
+  pub done : List Found
+  pub rest : List Found
+  pub front : filter is_given files ≡ done ++ rest
+  pub made : IfSome old (λ before. new ≡ Some (before ++ map (made_of kind image folder) done))
+  pub lines : AppendsPart out written (concat (map (line_of kind image folder) done))
+
+-- why a file is not made
+abbrev pub refusal_to_write : WriteFault → Refusal
+refusal_to_write write_fault.Exists = Exists
+refusal_to_write write_fault.Failed = Device
+refusal_to_write write_fault.NoMemory = NoMemory
+
+-- ---- the command
+
+-- this is so of the bytes of the image at a path, if they are shown: those of the input for `-`, and otherwise those of the file
+pub record OfImage (files : List ℕ → Option (List ℕ)) (input : Option (List ℕ)) (path : List ℕ) (P : List ℕ → Type 0) : Type 0 where
+  pub on_input : path ≡ codes "-" → IfSome input P
+  pub in_file : path ≢ codes "-" → IfSome (files path) P
+
+-- why the command fails: the image has another size, and nothing was made; or a front part was made
+abbrev pub RefusesExtract : Kind → List ℕ → List ℕ → Option (List Made) → Option (List Made) → Option (List ℕ) → Option (List ℕ) → Refusal → Type 0
+RefusesExtract kind image folder old new out written WrongSize = (length image ≢ size_of kind) × (new ≡ old) × Keeps out written
+RefusesExtract kind image folder old new out written Exists = ExtractsPart kind image folder old new out written
+RefusesExtract kind image folder old new out written Device = (new ≡ old) × Keeps out written ⊎ ExtractsPart kind image folder old new out written
+RefusesExtract kind image folder old new out written NoMemory = (new ≡ old) × Keeps out written ⊎ ExtractsPart kind image folder old new out written
+RefusesExtract kind image folder old new out written other = ⊥
+
+-- what `files` does, by what the machine shows
+abbrev pub ExtractsBy : (List ℕ → Option (List ℕ)) → Option (List ℕ) → Option (List Made) → Option (List Made) → Option (List ℕ) → Option (List ℕ) → Ask
+    → Result Done Refusal → Type 0
+ExtractsBy files input old new out written (Extract ask) (Ok done) =
+    OfImage files input ask.image.image.now (λ image. Extracts ask.image.kind image ask.folder.now old new out written)
+ExtractsBy files input old new out written (Extract ask) (Err refusal) =
+    OfImage files input ask.image.image.now (λ image. RefusesExtract ask.image.kind image ask.folder.now old new out written refusal)
+ExtractsBy files input old new out written ask result = ⊤
+
+-- ---- inside
+
+-- Why one file was not made, or its line not written: nothing was made or written; or it was made, and a front part of its line
+-- was written.
+abbrev pub FailsOne : Made → List ℕ → Option (List Made) → Option (List Made) → Option (List ℕ) → Option (List ℕ) → Type 0
+FailsOne made line old new out written = ((new ≡ old) × Keeps out written) ⊎ (MakesNext old new made × AppendsPart out written line)
+
+-- why the file of a folder is refused
+abbrev pub IsExtractRefusal : Refusal → Type 0
+IsExtractRefusal refusal = (refusal ≡ Exists) ⊎ ((refusal ≡ Device) ⊎ (refusal ≡ NoMemory))
+
+-- why the command is: the image has another size, or one of these
+abbrev pub IsFilesRefusal : Refusal → Type 0
+IsFilesRefusal refusal = (refusal ≡ WrongSize) ⊎ IsExtractRefusal refusal

@@ -1,0 +1,175 @@
+-- What becomes of the rows of a sheet where files that cannot be read are passed, and where nothing is taken in: the line
+-- that is written of each, and the desk after it. Where nothing is taken in, the desks after the first are what the desk
+-- would be, and nobody keeps them.
+use Rattle.std.specs.Prelude.{◌≡◌, ◌⊎◌, ◌+◌, ⊤, ℕ, ℤ, Bool, Err, IfOk, IfSome, List, [], ◌∷◌, ◌++◌, Ok, Option, Result, Some, codes, false, true}
+use Rattle.std.specs.Fmt.{decimal}
+use Rattle.std.specs.Io.KnownBytes.{Appends}
+use Rattle.std.specs.List.{concat}
+use Rattle.sqlite.specs.Held.{Held, state}
+use Rattle.sqlite.specs.Store.{Ghosts}
+use Rattle.rd_store.specs.Held.{IsOpen, desk}
+use Rattle.rd_store.specs.Migrated.{SpellsDesk}
+use Rattle.rd_holdings.specs.State.{Desk}
+use Rattle.rd_protocol.specs.Refusals.{name_of}
+use Rattle.rd_protocol.specs.Replies.{IsAnswered}
+use Rattle.rd_protocol.specs.declared.request.Request.{Request}
+use Rattle.rd_protocol.specs.declared.request.What.TheVariants.{PutImage}
+use Rattle.rd_protocol.specs.declared.response.Response.{Response}
+use Rattle.rd_protocol.specs.declared.response.Response.TheVariants.{Refused}
+use Rattle.rd_commands.specs.Printed.{line_feed}
+use Rattle.rd_commands.specs.Sheets.{IsBad, Says}
+use Rattle.rd_commands.specs.declared.refusal.Refusal.{Refusal}
+use Rattle.rd_commands.specs.declared.refusal.Refusal.TheVariants.{BadSheet}
+use Rattle.rd_commands.specs.declared.sheet.SheetRow.{SheetRow}
+use Rattle.rd_desk.specs.Shelving.{StandsBeside}
+use Rattle.rd_desk.specs.declared.would_take.Shelved.{Shelved}
+use Rattle.rd_program.specs.Importing.{IsImportRefusal, IsRowRefusal, accession_line, bad_row_line}
+use Rattle.rd_commands.specs.declared.done.Done.{Done as Ending}
+use Rattle.rd_commands.specs.declared.done.Done.TheVariants.{InPart, Whole}
+use Rattle.rd_commands.specs.declared.words.Ask.{Ask}
+use Rattle.rd_commands.specs.declared.words.Ask.TheVariants.{Sift}
+use Rattle.rd_commands.specs.declared.words.SiftAsk.{SiftAsk}
+use Rattle.rd_program.specs.Leaves.{IsDayAt, moment_of}
+use Rattle.rd_program.specs.Rows.{IsSheetOf}
+use Rattle.rd_program.specs.declared.sift.Fate.{Fate}
+use Rattle.rd_program.specs.declared.sift.Fate.TheVariants.{Denied, Done, Lost}
+use Rattle.rd_program.specs.declared.sift.Way.{Way}
+use Rattle.rd_program.specs.Showing.{EndsWith}
+use Rattle.sha2.specs.Sha256.{sha256}
+
+-- of rows together: a lost one counts more than a refused one, and that more than one that is done
+abbrev pub worse : Fate → Fate → Fate
+worse Done other = other
+worse Denied Done = Denied
+worse Denied other = other
+worse Lost other = Lost
+
+-- the line of a row whose file cannot be read
+abbrev pub lost_row_line : ℕ → List ℕ
+lost_row_line number = codes "row " ++ (decimal number ++ (codes " device" ++ line_feed))
+
+-- what the line of an accession says of an image that is taken in, or would be
+abbrev pub done_word : Bool → List ℕ
+done_word false = codes "done"
+done_word true = codes "would-be-done"
+
+-- what it says of an answer: that, or the name of the refusal
+abbrev pub word_by : Bool → Response → List ℕ
+word_by dry_run (Refused refusal) = name_of refusal
+word_by dry_run answer = done_word dry_run
+
+abbrev pub fate_by : Response → Fate
+fate_by (Refused refusal) = Denied
+fate_by answer = Done
+
+-- The desk answers the request to take in the image that a row names, with the bytes that the machine gives of its file.
+pub record SiftsImage (files : List ℕ → Option (List ℕ)) (dry_run : Bool) (badge : List ℕ) (day : ℤ) (row : SheetRow) (line : List ℕ) (fate : Fate) (old new : Desk) : Type 0 where
+  pub bytes : List ℕ
+  pub read : IfSome (files row.file.now) (λ shown. bytes ≡ shown)
+  pub answer : Response
+  pub answered : IsAnswered old day (record { badge = Some badge; what = PutImage row.acc row.kind row.deed row.digest bytes }) answer new
+  pub line_is : line ≡ accession_line row.acc (word_by dry_run answer)
+  pub fate_is : fate ≡ fate_by answer
+
+-- A row with this number, from 1, is bad; or the image that it names is taken in or refused; or its file is not read,
+-- which ends the run unless it goes on.
+abbrev pub IsRowSifted : (List ℕ → Option (List ℕ)) → Way → List ℕ → ℤ → ℕ → List (List ℕ) → List ℕ → Fate → Desk → Desk → Type 0
+IsRowSifted files way badge day number fields line fate old new =
+    (IsBad fields × ((line ≡ bad_row_line number) × ((fate ≡ Denied) × (new ≡ old))))
+    ⊎ (((row : SheetRow) × Says fields row × SiftsImage files way.dry_run badge day row line fate old new)
+    ⊎ ((way.keep_going ≡ true) × (((row : SheetRow) × Says fields row) × ((line ≡ lost_row_line number) × ((fate ≡ Lost) × (new ≡ old))))))
+
+-- These rows are taken in turn: each has its line, and finds the desk that the one before it left.
+abbrev pub AreRowsSifted : (List ℕ → Option (List ℕ)) → Way → List ℕ → ℤ → ℕ → List (List (List ℕ)) → List (List ℕ) → Fate → Desk → Desk → Type 0
+AreRowsSifted files way badge day number [] [] fate old new = (fate ≡ Done) × (new ≡ old)
+AreRowsSifted files way badge day number (fields ∷ more) (line ∷ lines) fate old new =
+    (mid : Desk) × (one : Fate) × (others : Fate) × IsRowSifted files way badge day number fields line one old mid
+    × AreRowsSifted files way badge day (number + 1) more lines others mid new × (fate ≡ worse one others)
+AreRowsSifted files way badge day number rows lines fate old new = ⊥
+
+-- the desk that stands after all rows: the one that they leave, or, where nothing is taken in, the one that stood
+abbrev pub StandsAfter : Bool → Desk → Desk → Desk → Type 0
+StandsAfter false stood left after = after ≡ left
+StandsAfter true stood left after = after ≡ stood
+
+-- The rows of a sheet are taken so, for a caller with this badge on a day, their lines are written, in order, and the desk
+-- is as it should be.
+pub record SiftsSheet (files : List ℕ → Option (List ℕ)) (way : Way) (badge : List ℕ) (day : ℤ) (sheet : Option (List ℕ)) (out written : Option (List ℕ)) (fate : Fate)
+    (stood after : Desk) : Type 0 where
+  pub rows : List (List (List ℕ))
+  pub lines : List (List ℕ)
+  pub left : Desk
+  pub is : IfSome sheet (λ bytes. IsSheetOf bytes rows)
+  pub taken : AreRowsSifted files way badge day 1 rows lines fate stood left
+  pub stands : StandsAfter way.dry_run stood left after
+  pub gained : Appends out written (concat lines)
+
+-- the fate of all rows where the command ends well
+abbrev pub fate_of : Ending → Fate
+fate_of Whole = Done
+fate_of InPart = Denied
+
+-- While the connection is open, the rows of a sheet are taken so on one of these days by the desk that stood in the store,
+-- and this one stands after them.
+abbrev pub SiftsSheetIn : {S : Type 0} → Ghosts S → (List ℕ → Option (List ℕ)) → Way → List ℕ → (ℤ → Type 0) → Option (List ℕ) → Option (List ℕ) → Option (List ℕ) → Ending
+    → Held S → Held S → Type 0
+SiftsSheetIn g files way badge Days sheet out written done before last =
+    IsOpen g last → (stood : Desk) × SpellsDesk (state g before).now stood
+    × ((day : ℤ) × Days day × SiftsSheet files way badge day sheet out written (fate_of done) stood (desk g last))
+
+-- ---- refusals
+
+-- why the command fails
+abbrev pub IsSiftRefusal : Refusal → Type 0
+IsSiftRefusal refusal = (refusal ≡ BadSheet) ⊎ (IsRowRefusal refusal ⊎ IsImportRefusal refusal)
+
+-- ---- one row, over a connection
+
+-- there was an answer, and the line that says it was written
+abbrev pub TellsFate : {X : Type 0} → ℕ → Bool → Result Response X → Option (List ℕ) → Option (List ℕ) → Fate → Type 0
+TellsFate acc dry_run (Ok answer) out written fate = Appends out written (accession_line acc (word_by dry_run answer)) × (fate ≡ fate_by answer)
+TellsFate acc dry_run (Err fault) out written fate = ⊥
+
+-- A line was written of a row, and says what became of it. In a dry run that is so of each desk that stands beside the shelf, and
+-- what it leaves stands beside the new shelf, while the desk that stands is as it was; else it is so of the desk that stands.
+pub record SiftsOne {S : Type 0} (g : Ghosts S) (files : List ℕ → Option (List ℕ)) (way : Way) (badge : List ℕ) (day : ℤ) (number : ℕ) (fields : List (List ℕ)) (fate : Fate)
+    (shelf next : List Shelved) (out written : Option (List ℕ)) (before after : Held S) : Type 0 where
+  pub line : List ℕ
+  pub gained : Appends out written line
+  pub dry : way.dry_run ≡ true → IsOpen g after → (desk g after ≡ desk g before) × ((mid : Desk) → StandsBeside shelf (desk g before) mid
+      → (last : Desk) × IsRowSifted files way badge day number fields line fate mid last × StandsBeside next (desk g before) last)
+  pub wet : way.dry_run ≡ false → IsOpen g after → IsRowSifted files way badge day number fields line fate (desk g before) (desk g after)
+
+-- the image of a row, without its bytes
+abbrev pub shelved_row : SheetRow → Shelved
+shelved_row row = record { acc = row.acc; kind = row.kind; deed = row.deed; digest = row.digest }
+
+-- the request to take in the image of a row
+abbrev pub put_of : List ℕ → SheetRow → List ℕ → Request
+put_of badge row bytes = record { badge = Some badge; what = PutImage row.acc row.kind row.deed row.digest bytes }
+
+-- ---- all rows, over a connection
+
+-- The rows of a sheet are taken so by the desk that stands, and their lines are written.
+abbrev pub SiftsRows : {S : Type 0} → Ghosts S → (List ℕ → Option (List ℕ)) → Way → List ℕ → ℤ → List ℕ → Option (List ℕ) → Option (List ℕ) → Fate → Held S → Held S → Type 0
+SiftsRows g files way badge day sheet out written fate before after =
+    IsOpen g after → SiftsSheet files way badge day (Some sheet) out written fate (desk g before) (desk g after)
+
+-- So are those of a sheet that a machine may show, on one of these days.
+abbrev pub SiftsOn : {S : Type 0} → Ghosts S → (List ℕ → Option (List ℕ)) → Way → List ℕ → (ℤ → Type 0) → Option (List ℕ) → Option (List ℕ) → Option (List ℕ) → Ending
+    → Held S → Held S → Type 0
+SiftsOn g files way badge Days sheet out written done before after =
+    IsOpen g after → (day : ℤ) × Days day × SiftsSheet files way badge day sheet out written (fate_of done) (desk g before) (desk g after)
+
+-- how the words of a command say that the rows are taken
+abbrev pub way_asked : SiftAsk → Way
+way_asked ask = record { dry_run = ask.dry_run; keep_going = ask.keep_going }
+
+-- what an `import` in another way does, by what the machine shows
+abbrev pub SiftsBy : {S : Type 0} → Ghosts S → (List ℕ → Option (List ℕ)) → (List ℕ → Option (List ℕ)) → Option ℤ → (List ℕ → Option (Held S)) → Option (Held S)
+    → Option (List ℕ) → Option (List ℕ) → Ask → Result Ending Refusal → Type 0
+SiftsBy g files sheets clock stands left out written (Sift ask) result =
+    IfOk result (λ done. EndsWith (stands ask.import.store.now) left
+    (SiftsSheetIn g files (way_asked ask) (sha256 ask.import.key.now)
+    (IsDayAt (moment_of ask.import.when.seconds clock) ask.import.when.zone) (sheets ask.import.sheet.now) out written done))
+SiftsBy g files sheets clock stands left out written ask result = ⊤

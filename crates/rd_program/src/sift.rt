@@ -1,0 +1,408 @@
+//! Takes in images, row by row of a sheet, past files that cannot be read; or tells what would become of the rows, and
+//! takes nothing in.
+
+ghost use Rattle.std.specs.Prelude.{◌≡◌, ◌⊎◌, IfErr, IfNone, IfOk, IfSome, IsTrue, OnErr, OnOk, false, true};
+ghost use Rattle.std.specs.Io.KnownBytes.{Appends};
+ghost use Rattle.csv.specs.Records.{fields_of};
+ghost use Rattle.sha2.specs.Sha256.{sha256};
+ghost use Rattle.rd_policy.specs.Days.{IsDay};
+ghost use Rattle.rd_policy.specs.Zones.{day_number};
+ghost use Rattle.rd_store.specs.Held.{IsOpen, Reads, desk as desk_in};
+ghost use Rattle.rd_desk.specs.Served.{Responds};
+ghost use Rattle.rd_desk.specs.Shelving.{WouldAnswer};
+ghost use Rattle.rd_commands.specs.Output.{AppendsPart, IsFlushed};
+ghost use Rattle.rd_commands.specs.Refusals.{IsDeviceOrMemory};
+ghost use Rattle.rd_commands.specs.Sheets.{IsWithin, Says};
+ghost use Rattle.rd_program.specs.Asked.{IsClockDue, IsClockOn};
+ghost use Rattle.rd_program.specs.Doors.{AsksPath};
+ghost use Rattle.rd_program.specs.Importing.{IsRowRefusal};
+ghost use Rattle.rd_program.specs.Leaves.{GivesBack, HasBoth, IsDayAt, IsOfOpenDesk, IsSame, Leaves, LeavesDesk, LeavesStore, NamesOpening, OnEnded, TakesFields, TakesRow, TakesUnlessDry, moment_of};
+ghost use Rattle.rd_program.specs.OnTime.{IsBehindIn, IsBehindOn, IsOnTime, WasOnTime, must_be_on_time};
+ghost use Rattle.rd_program.specs.Rows.{IsBadSheetDue};
+ghost use Rattle.rd_program.specs.Serving.{IsDayless, IsUnasked};
+ghost use Rattle.rd_program.specs.Showing.{EndsWith};
+ghost use Rattle.rd_program.specs.Sifting as spec;
+ghost use Rattle.rd_program.specs.Sifting.{IsSiftRefusal, SiftsOn, SiftsOne, SiftsRows, SiftsSheetIn, TellsFate, lost_row_line};
+
+use crate::import::{Giver, put_image, tell_accession, tell_bad_row};
+use crate::machine::Machine;
+use crate::noted::{note_answer, note_bad_row};
+use crate::open_desk::{day_on_time, open_desk};
+use csv::{ByteRecord, ReaderBuilder};
+use rd_commands::{
+    Done, MachineFault, Refusal, RowNote, SheetRow, SiftAsk, is_header, next_row, row_of,
+    write_whole,
+};
+use rd_desk::{Desk, Response, Shelf, Shelved, Unavailable};
+use sha2::{Digest, Sha256};
+use std::alloc::Global;
+use std::io::Write;
+
+/// How the rows of a sheet are taken.
+#[derive(Clone, Copy)]
+pub(crate) struct Way {
+    /// Whether nothing is taken in.
+    pub(crate) dry_run: bool,
+    /// Whether it goes on after a file that cannot be read.
+    pub(crate) keep_going: bool,
+}
+
+/// What became of a row, or of all rows.
+#[derive(Clone, Copy, PartialEq, Eq)]
+pub(crate) enum Fate {
+    /// It is done, or would be.
+    Done,
+    /// It is refused.
+    Denied,
+    /// Its file could not be read.
+    Lost,
+}
+
+impl Fate {
+    /// The worse of two.
+    fn worse(self, other: Fate) -> Fate
+        ensures { result ≡ spec.worse self other }
+    {
+        match (self, other) {
+            (Fate::Done, other) => other,
+            (Fate::Denied, Fate::Lost) | (Fate::Lost, _) => Fate::Lost,
+            (Fate::Denied, Fate::Done | Fate::Denied) => Fate::Denied,
+        }
+    }
+}
+
+/// Writes the line of a row whose file cannot be read, and flushes the output. Rows are counted from 1.
+///
+/// It fails with `NoMemory`, and with `Device` when a write or the flush fails.
+fn tell_lost_row<M: Machine, W: Write>(
+    alloc: Global,
+    number: u64,
+    output: &mut W,
+) -> Result<(), Refusal>
+    ensures done { OnOk result (Appends (W.contents output.old) (W.contents output.new) (lost_row_line number)) }
+    ensures cut { OnErr result (AppendsPart (W.contents output.old) (W.contents output.new) (lost_row_line number)) }
+    ensures flushed { OnOk result (IsTrue (M.flushed (W.contents output.new))) }
+    ensures refused { IfErr result IsDeviceOrMemory }
+{
+    let mut line = String::new(alloc);
+    write!(line, "row {number} device\n")?;
+    write_whole::<M, W>(output, line.as_bytes())
+}
+
+/// What the line of an accession says of an image that is taken in, or would be.
+fn done_word(dry_run: bool) -> &'static str
+    ensures { result.now ≡ spec.done_word dry_run }
+{
+    if dry_run { "would-be-done" } else { "done" }
+}
+
+/// What the line of an accession says of an answer.
+fn word_by(dry_run: bool, answer: &Response) -> &'static str
+    ensures { result.now ≡ spec.word_by dry_run answer.now }
+{
+    match answer {
+        Response::Refused(reason) => reason.name(),
+        _ => done_word(dry_run),
+    }
+}
+
+/// What became of a row, by the answer of the desk.
+fn fate_by(answer: &Response) -> Fate
+    ensures { result ≡ spec.fate_by answer.now }
+{
+    match answer {
+        Response::Refused(_) => Fate::Denied,
+        _ => Fate::Done,
+    }
+}
+
+/// Asks a desk to take in the image of a row, or what it would answer after the earlier rows.
+///
+/// It fails with `Unavailable` when the store fails or memory runs out.
+fn answer_to_row<M: Machine>(
+    alloc: Global,
+    row: SheetRow,
+    bytes: Vec<u8>,
+    way: Way,
+    giver: Giver,
+    desk: &mut Desk<M::Disk>,
+    shelf: &mut Shelf,
+) -> Result<Response, Unavailable>
+    requires day { IsDay giver.day }
+    requires within { IsWithin row }
+    ensures zone { desk.new.zone ≡ desk.old.zone }
+    ensures dry { way.dry_run ≡ true → Reads M.Disk.Store desk.old.store desk.new.store result
+        (WouldAnswer shelf.old.images.items shelf.new.images.items (desk_in M.Disk.Store desk.old.store) giver.badge (spec.shelved_row row.entry) bytes.entry.items) }
+    ensures wet { way.dry_run ≡ false → Responds M.Disk.Store desk.old.store desk.new.store giver.day
+        (spec.put_of giver.badge row.entry bytes.entry.items) result }
+    ensures shelf { way.dry_run ≡ false → shelf.new.images.items ≡ shelf.old.images.items }
+{
+    if !way.dry_run {
+        return put_image(alloc, row, bytes, giver, desk);
+    }
+    let digest = row.digest;
+    let image = Shelved {
+        acc: row.acc,
+        kind: row.kind,
+        deed: row.deed,
+        digest,
+    };
+    desk.would_take(alloc, &giver.badge, image, bytes.as_slice(), shelf)
+}
+
+/// The bytes of the file of a row; `None` if it cannot be read and the run goes on after it. Rows are counted from 1.
+///
+/// It fails with `Device` when the file cannot be read and the run does not go on, and with `NoMemory`.
+fn row_bytes<M: Machine>(
+    alloc: Global,
+    file: &str,
+    number: u64,
+    way: Way,
+    machine: &mut M,
+) -> Result<Option<Vec<u8>>, Refusal>
+    ensures read { IfOk result (λ found. IfSome found (λ bytes. IfSome (M.file_bytes machine.old file.now) (λ shown. bytes.items ≡ shown))) }
+    ensures lost { IfOk result (λ found. IfNone found (way.keep_going ≡ true)) }
+    ensures same { machine.new ≡ machine.old }
+    ensures refused { IfErr result IsRowRefusal }
+{
+    let fault = match machine.read_file(alloc, file) {
+        Ok(bytes) => return Ok(Some(bytes)),
+        Err(fault) => fault,
+    };
+    machine.note_row(number, RowNote::Unread);
+    if way.keep_going && fault == MachineFault::Failed {
+        return Ok(None);
+    }
+    Err(fault.or(Refusal::Device))
+}
+
+/// Writes a line with what a desk answers about an accession, or would answer.
+///
+/// It fails with `Store` when there is no answer, with `NoMemory`, and with `Device` when a write or the flush fails.
+fn tell_fate<M: Machine, W: Write>(
+    alloc: Global,
+    acc: u32,
+    dry_run: bool,
+    answer: Result<Response, Unavailable>,
+    output: &mut W,
+) -> Result<Fate, Refusal>
+    ensures written { IfOk result (TellsFate acc dry_run answer (W.contents output.old) (W.contents output.new)) }
+    ensures flushed { OnOk result (IsTrue (M.flushed (W.contents output.new))) }
+    ensures refused { IfErr result IsRowRefusal }
+{
+    let Ok(answer) = answer else {
+        return Err(Refusal::Store);
+    };
+    tell_accession::<M, W>(alloc, acc, word_by(dry_run, &answer), output)?;
+    Ok(fate_by(&answer))
+}
+
+/// Takes a row, and writes its line. Rows are counted from 1.
+///
+/// It fails as `row_bytes` and `tell_fate` do.
+fn sift_row<W: Write, M: Machine>(
+    alloc: Global,
+    row: SheetRow,
+    number: u64,
+    way: Way,
+    giver: Giver,
+    desk: &mut Desk<M::Disk>,
+    shelf: &mut Shelf,
+    output: &mut W,
+    machine: &mut M,
+) -> Result<Fate, Refusal>
+    requires day { IsDay giver.day }
+    requires within { IsWithin row }
+    ensures zone { desk.new.zone ≡ desk.old.zone }
+    ensures same { machine.new ≡ machine.old }
+    ensures dry { way.dry_run ≡ true → LeavesDesk M.Disk.Store IsSame desk.old.store desk.new.store }
+    ensures wet { way.dry_run ≡ false → LeavesDesk M.Disk.Store (TakesRow giver.badge giver.day row.entry) desk.old.store desk.new.store }
+    ensures row { IfOk result (λ fate. (fields : _) → Says fields row.entry → SiftsOne M.Disk.Store (M.file_bytes machine.old) way giver.badge giver.day number fields
+        fate shelf.old.images.items shelf.new.images.items (W.contents output.old) (W.contents output.new) desk.old.store desk.new.store) }
+    ensures flushed { OnOk result (IsTrue (M.flushed (W.contents output.new))) }
+    ensures refused { IfErr result IsRowRefusal }
+{
+    let Some(bytes) = row_bytes(alloc, row.file, number, way, machine)? else {
+        tell_lost_row::<M, W>(alloc, number, output)?;
+        return Ok(Fate::Lost);
+    };
+    let answer = answer_to_row::<M>(alloc, row, bytes, way, giver, desk, shelf);
+    note_answer(number, row.acc, &answer, machine);
+    tell_fate::<M, W>(alloc, row.acc, way.dry_run, answer, output)
+}
+
+/// Takes the row with these fields, and writes its line. Rows are counted from 1.
+///
+/// It fails as `sift_row` does.
+fn sift_fields<W: Write, M: Machine>(
+    alloc: Global,
+    fields: &ByteRecord,
+    number: u64,
+    way: Way,
+    giver: Giver,
+    desk: &mut Desk<M::Disk>,
+    shelf: &mut Shelf,
+    output: &mut W,
+    machine: &mut M,
+) -> Result<Fate, Refusal>
+    requires day { IsDay giver.day }
+    ensures zone { desk.new.zone ≡ desk.old.zone }
+    ensures same { machine.new ≡ machine.old }
+    ensures dry { way.dry_run ≡ true → LeavesDesk M.Disk.Store IsSame desk.old.store desk.new.store }
+    ensures wet { way.dry_run ≡ false → LeavesDesk M.Disk.Store (TakesFields giver.badge giver.day (fields_of fields.now)) desk.old.store desk.new.store }
+    ensures row { IfOk result (λ fate. SiftsOne M.Disk.Store (M.file_bytes machine.old) way giver.badge giver.day number (fields_of fields.now)
+        fate shelf.old.images.items shelf.new.images.items (W.contents output.old) (W.contents output.new) desk.old.store desk.new.store) }
+    ensures flushed { OnOk result (IsTrue (M.flushed (W.contents output.new))) }
+    ensures refused { IfErr result IsRowRefusal }
+{
+    match row_of(fields) {
+        Some(row) => sift_row(alloc, row, number, way, giver, desk, shelf, output, machine),
+        None => {
+            note_bad_row(number, fields, machine);
+            tell_bad_row::<M, W>(alloc, number, output)?;
+            Ok(Fate::Denied)
+        }
+    }
+}
+
+/// Takes the rows of a sheet in turn, and writes their lines.
+///
+/// It fails with `BadSheet` when the header is another, and at a row of another length; the rows before that one are done.
+/// It also fails as `sift_row` does.
+fn sift_rows<W: Write, M: Machine>(
+    alloc: Global,
+    sheet: &[u8],
+    way: Way,
+    giver: Giver,
+    desk: &mut Desk<M::Disk>,
+    output: &mut W,
+    machine: &mut M,
+) -> Result<Fate, Refusal>
+    requires day { IsDay giver.day }
+    ensures zone { desk.new.zone ≡ desk.old.zone }
+    ensures same { machine.new ≡ machine.old }
+    ensures takes { LeavesDesk M.Disk.Store (TakesUnlessDry way.dry_run giver.badge (λ day. day ≡ giver.day)) desk.old.store desk.new.store }
+    ensures rows { IfOk result (λ fate. SiftsRows M.Disk.Store (M.file_bytes machine.old) way giver.badge giver.day sheet.now
+        (W.contents output.old) (W.contents output.new) fate desk.old.store desk.new.store) }
+    ensures flushed { OnOk result (IsFlushed M.flushed (W.contents output.old) (W.contents output.new)) }
+    ensures bad_sheet { IfErr result (IsBadSheetDue sheet.now) }
+    ensures refused { IfErr result (λ refusal. (refusal ≡ Refusal.BadSheet) ⊎ IsRowRefusal refusal) }
+{
+    let mut reader = ReaderBuilder::new()
+        .has_headers(false)
+        .from_reader(alloc, sheet);
+    let mut fields = ByteRecord::new(alloc);
+    if !next_row(&mut reader, &mut fields)? || !is_header(&fields) {
+        return Err(Refusal::BadSheet);
+    }
+    let mut shelf = Shelf::new(alloc);
+    let mut fate = Fate::Done;
+    for number in 1..u64::MAX {
+        if !next_row(&mut reader, &mut fields)? {
+            return Ok(fate);
+        }
+        let row = sift_fields(
+            alloc, &fields, number, way, giver, desk, &mut shelf, output, machine,
+        )?;
+        fate = fate.worse(row);
+    }
+    // No memory holds a sheet of so many rows.
+    Err(Refusal::NoMemory)
+}
+
+/// How the command ends, by what became of all rows.
+///
+/// It fails with `Device` when the file of a row could not be read.
+fn ended_by(fate: Fate) -> Result<Done, Refusal>
+    ensures ended { IfOk result (λ done. fate ≡ spec.fate_of done) }
+    ensures lost { IfErr result (λ refusal. refusal ≡ Refusal.Device) }
+{
+    match fate {
+        Fate::Done => Ok(Done::Whole),
+        Fate::Denied => Ok(Done::InPart),
+        Fate::Lost => Err(Refusal::Device),
+    }
+}
+
+/// Takes the rows of the sheet that the command names, at the moment that it names.
+///
+/// It fails with `Clock` when the clock fails, the moment has no day, or the clock shows a day long before that of a
+/// recorded check, with `Store`, with `Device` when it cannot read the sheet or, at its end, the file of a row, with
+/// `NoMemory`, and as `sift_rows` does.
+fn sift_sheet<W: Write, M: Machine>(
+    alloc: Global,
+    ask: SiftAsk,
+    desk: &mut Desk<M::Disk>,
+    output: &mut W,
+    machine: &mut M,
+) -> Result<Done, Refusal>
+    ensures zone { desk.new.zone ≡ desk.old.zone }
+    ensures sifted { IfOk result (λ done. SiftsOn M.Disk.Store (M.file_bytes machine.old) (spec.way_asked ask.entry) (sha256 ask.entry.import.key.now)
+        (IsDayAt (moment_of ask.entry.import.when.seconds (M.clock machine.old)) desk.old.zone) (M.sheet_bytes machine.old ask.entry.import.sheet.now)
+        (W.contents output.old) (W.contents output.new) done desk.old.store desk.new.store) }
+    ensures takes { LeavesDesk M.Disk.Store (TakesUnlessDry ask.entry.dry_run (sha256 ask.entry.import.key.now)
+        (IsDayAt (moment_of ask.entry.import.when.seconds (M.clock machine.old)) desk.old.zone)) desk.old.store desk.new.store }
+    ensures dayless { IsDayless (moment_of ask.entry.import.when.seconds (M.clock machine.old)) result }
+    ensures clock { IfErr result (IsClockOn M.Disk.Store true ask.entry.import.when.seconds desk.old.store desk.new.store) }
+    ensures bad_sheet { IfErr result (λ refusal. IfSome (M.sheet_bytes machine.old ask.entry.import.sheet.now) (λ bytes. IsBadSheetDue bytes refusal)) }
+    ensures on_time { IsTrue (must_be_on_time ask.entry.import.when.seconds ask.entry.import.when.is_trusting)
+        → OnOk result (IfSome (M.clock machine.old) (λ seconds. IsOpen M.Disk.Store desk.new.store
+        → IsOnTime (day_number seconds desk.old.zone) (desk_in M.Disk.Store desk.old.store))) }
+    ensures flushed { OnOk result (IsFlushed M.flushed (W.contents output.old) (W.contents output.new)) }
+    ensures late { IfErr result (IsBehindOn M.Disk.Store true (must_be_on_time ask.entry.import.when.seconds ask.entry.import.when.is_trusting)
+        (moment_of ask.entry.import.when.seconds (M.clock machine.old)) desk.old.zone desk.old.store desk.new.store) }
+    ensures opened { IfErr result IsOfOpenDesk }
+    ensures refused { IfErr result IsSiftRefusal }
+    ensures left { M.left machine.new ≡ M.left machine.old }
+    ensures shows { M.shows machine.new ≡ M.shows machine.old }
+    ensures asked { M.wanted machine.new ≡ M.wanted machine.old }
+{
+    let day = day_on_time(ask.import.when, desk, machine)?;
+    let sheet = match machine.read_sheet(alloc, ask.import.sheet) {
+        Ok(sheet) => sheet,
+        Err(fault) => return Err(fault.or(Refusal::Device)),
+    };
+    let badge = Sha256::digest(ask.import.key);
+    let way = Way {
+        dry_run: ask.dry_run,
+        keep_going: ask.keep_going,
+    };
+    let giver = Giver { badge, day };
+    ended_by(sift_rows(alloc, sheet.as_slice(), way, giver, desk, output, machine)?)
+}
+
+/// Takes the rows of a sheet, or tells what would become of them, over the desk in the file of a store.
+///
+/// It fails with `NotADesk`, `Version`, `Inconsistent` and `Store` when it cannot open the desk, then as `sift_sheet` does.
+pub(crate) fn sift<W: Write, M: Machine>(
+    alloc: Global,
+    ask: SiftAsk,
+    output: &mut W,
+    machine: &mut M,
+) -> Result<Done, Refusal>
+    ensures sifted { IfOk result (λ done. EndsWith (M.stands machine.old ask.entry.import.store.now) (M.left machine.new)
+        (SiftsSheetIn M.Disk.Store (M.file_bytes machine.old) (spec.way_asked ask.entry)
+        (sha256 ask.entry.import.key.now) (IsDayAt (moment_of ask.entry.import.when.seconds (M.clock machine.old)) ask.entry.import.when.zone)
+        (M.sheet_bytes machine.old ask.entry.import.sheet.now) (W.contents output.old) (W.contents output.new) done)) }
+    ensures takes { Leaves (M.left machine.old) (M.stands machine.old ask.entry.import.store.now) (M.left machine.new)
+        (LeavesStore M.Disk.Store (TakesUnlessDry ask.entry.dry_run (sha256 ask.entry.import.key.now)
+        (IsDayAt (moment_of ask.entry.import.when.seconds (M.clock machine.old)) ask.entry.import.when.zone))) }
+    ensures on_time { IsTrue (must_be_on_time ask.entry.import.when.seconds ask.entry.import.when.is_trusting)
+        → OnOk result (WasOnTime M.Disk.Store (M.clock machine.old) ask.entry.import.when.zone (M.stands machine.old ask.entry.import.store.now) (M.left machine.new)) }
+    ensures flushed { OnOk result (IsFlushed M.flushed (W.contents output.old) (W.contents output.new)) }
+    ensures late { IfErr result (IsBehindIn M.Disk.Store true (must_be_on_time ask.entry.import.when.seconds ask.entry.import.when.is_trusting)
+        (moment_of ask.entry.import.when.seconds (M.clock machine.old)) ask.entry.import.when.zone (M.stands machine.old ask.entry.import.store.now) (M.left machine.new)) }
+    ensures refused { IfErr result IsSiftRefusal }
+    ensures unasked { IsUnasked (moment_of ask.entry.import.when.seconds (M.clock machine.old)) result }
+    ensures back { GivesBack (M.shows machine.old) (M.left machine.old) (M.left machine.new) }
+    ensures there { OnEnded result (HasBoth (M.shows machine.old) (M.stands machine.old ask.entry.import.store.now) (M.left machine.new)) }
+    ensures asked { AsksPath (M.wanted machine.old) ask.entry.import.store.now (M.wanted machine.new) }
+    ensures clock { IfErr result (IsClockDue M.Disk.Store true ask.entry.import.when.seconds (M.stands machine.old ask.entry.import.store.now) (M.left machine.new)) }
+    ensures bad_sheet { IfErr result (λ refusal. IfSome (M.sheet_bytes machine.old ask.entry.import.sheet.now) (λ bytes. IsBadSheetDue bytes refusal)) }
+    ensures opens { IfErr result (NamesOpening M.Disk.Store (M.stands machine.old ask.entry.import.store.now) (M.left machine.new)) }
+{
+    let mut desk = open_desk(alloc, ask.import.store, ask.import.when.zone, machine)?;
+    let ended = sift_sheet(alloc, ask, &mut desk, output, machine);
+    machine.release(&mut Some(desk.into_store().into_connection()));
+    ended
+}
