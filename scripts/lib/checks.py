@@ -41,6 +41,7 @@ FAST = [
     check("refusals-agree.py"),
     check("openapi-agrees.py"),
     check("scripts-stand.py"),
+    check("pages-of-help.py"),
 ]
 
 # What needs neither, but longer, a browser, git, or rt of the kit, which builds a small program without a proof.

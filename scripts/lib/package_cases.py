@@ -55,6 +55,7 @@ INSTALLED = [
         "0",
     ),
     ("a man page", "zcat /usr/share/man/man8/desk-backup.8.gz | head -c 17", ".TH DESK-BACKUP 8"),
+    ("that of desk", "zcat /usr/share/man/man1/desk.1.gz | head -c 10", ".TH DESK 1"),
     (
         "completion",
         "bash -c '. /usr/share/bash-completion/completions/desk; COMP_WORDS=(desk e); COMP_CWORD=1; _desk; "
