@@ -1,5 +1,5 @@
 #!/usr/bin/env python3
-"""scripts/docs-stand.py: looks at README.md, the pages in docs/ and those of crates; fails where one does not stand.
+"""scripts/docs-stand.py: looks at README.md and the pages of docs/, records/ and crates; fails where one does not stand.
 
 - Each link leads to a file or a folder of the repository, and to a heading of a page if it names one. No link names a
   line, since each change of a file moves its lines.
@@ -47,7 +47,8 @@ ASKED = {"cat", "check", "export", "import", "init", "list", "serve", "show"}
 
 
 def pages():
-    return [ROOT / "README.md", *sorted((ROOT / "docs").glob("*.md")), *sorted((ROOT / "crates").glob("*/README.md"))]
+    crates = sorted((ROOT / "crates").glob("*/README.md"))
+    return [ROOT / "README.md", *sorted((ROOT / "docs").glob("*.md")), ROOT / "records" / "README.md", *crates]
 
 
 @functools.cache
