@@ -64,7 +64,8 @@ class Place:
 
     def filled(self, text):
         """A text with what its places in braces stand for here."""
-        return text.format(desk=self.work / "desk", store=self.now / "museum.sqlite", port=self.port, work=self.work)
+        store = self.now / "museum.sqlite"
+        return text.format(desk=self.work / "desk", store=store, folder=self.now, port=self.port, work=self.work)
 
     def begun(self, words, at=None, more=(), stdin=subprocess.DEVNULL):
         """A command that has begun, with a refusal from the call of number `at` on if there is one, and more variables
@@ -220,6 +221,52 @@ class AsEver:
 
 
 @dataclasses.dataclass(frozen=True)
+class Explains(AsEver):
+    """The command is refused as ever, and explains why: below the line of its refusal some lines of the explanation may
+    be left out, but none is another. Or it says that memory was refused, and below it no more than an explanation."""
+
+    def fault(self, place, _dumps, at):
+        ever = EVER.get(self) or EVER.setdefault(self, place.run(self.words))
+        if ever.status != self.status or ever.output or not ever.errors.startswith(self.part):
+            return ever.odd()
+        ran = place.run(self.words, at)
+        told, *lines = ran.errors.splitlines(keepends=True) or [b""]
+        told_ever, *lines_ever = ever.errors.splitlines(keepends=True)
+        left = iter(lines_ever)
+        is_as_ever = ran.status == ever.status and told == told_ever and all(line in left for line in lines)
+        is_told = dataclasses.replace(ran, errors=told).was_refused(place.refusal)
+        is_refused = is_told and all(line.startswith(b"  ") for line in lines)
+        return None if (is_as_ever or is_refused) and not ran.output else ran.odd()
+
+
+@dataclasses.dataclass(frozen=True)
+class Makes:
+    """The command makes files in a folder that is empty before, and writes a line for each: lines, names and bytes. Or
+    it says that memory was refused; the first files are there then, whole, with a line for each of them or for all but
+    the last."""
+
+    words: tuple
+    files: tuple
+    image: bytes | None = None
+
+    def fault(self, place, _dumps, at):
+        place.take("none")
+        ran = place.run(self.words, at, self.image)
+        made = {path.name: path.read_bytes() for path in place.now.iterdir()}
+        if ran.did(lines_of(self.files)):
+            return None if made == self.first(len(self.files)) else ran.odd()
+        for count in range(len(self.files) + 1):
+            if ran.wrote(lines_of(self.files[:count])):
+                is_left = made in (self.first(count), self.first(count + 1))
+                return None if ran.was_refused(place.refusal) and is_left else ran.odd()
+        return ran.odd()
+
+    def first(self, count):
+        """The first files, by their names."""
+        return {name: data for _, name, data in self.files[:count]}
+
+
+@dataclasses.dataclass(frozen=True)
 class Over:
     """Over a copy of the store `before` the command writes the text, tells the line and makes of it the store `after`.
     Or it says that it was refused, has written nothing (or `first`) and has not changed the store (or has made it
@@ -281,7 +328,7 @@ class Rows(Over):
 
 
 def lines_of(rows):
-    return "\n".join(line for line, _ in rows)
+    return "\n".join(line for line, *_ in rows)
 
 
 LISTENS = "listening 127.0.0.1:{port}"

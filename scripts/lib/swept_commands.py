@@ -9,7 +9,7 @@ import sweeps
 import trials
 
 from harness import ROOT
-from sweeps import LISTENS, AsEver, Over, Reads, Rows, Visit
+from sweeps import LISTENS, AsEver, Explains, Makes, Over, Reads, Rows, Visit
 
 # The words of a command have places in braces: those of the run that it is.
 WHEN = ["--at", "1893452400", "--zone", "CET-1CEST,M3.5.0,M10.5.0/3"]
@@ -18,6 +18,9 @@ KEY = ["--key", "abc"]
 INIT = ("{desk}", "init", *STORE, *KEY)
 STAFF_KEY = ("{desk}", "staff-key", *STORE, "--key", "def")
 IMPORT = ("{desk}", "import", *STORE, *KEY, *WHEN, "--sheet")
+# the same key and clocks in files, and the same moment as a date
+FILES = ["--key-file", "{work}/key", "--zone-file", "{work}/zone", "--at", "2030-01-01"]
+BESIDE = ("{desk}", "import", *STORE, *FILES, "--sheet")
 EXPORT = ("{desk}", "export", *STORE, *WHEN)
 CHECK = ("{desk}", "check", *STORE, *KEY, "--acc", "12", *WHEN)
 SHOW = ("{desk}", "show")
@@ -40,10 +43,10 @@ CHANGED = "UPDATE image SET bytes = CAST(substr(bytes, 1, 86018) || 'B' || subst
 BACK = "DROP TABLE marks; UPDATE desk SET version = 1"
 
 
-def imports(before, sheet, *rows, status=0):
-    """An import of a sheet, each of whose rows has its line and the store after it."""
-    text = sweeps.lines_of(rows)
-    return Rows(before, rows[-1][1], text, (*IMPORT, f"{{work}}/{sheet}.csv"), status=status, rows=rows)
+def imports(before, sheet, *rows, status=0, told="", words=IMPORT, more=()):
+    """An import of a sheet, each of whose rows has its line and the store after it; with other words, or more."""
+    text, words = sweeps.lines_of(rows), (*words, f"{{work}}/{sheet}.csv", *more)
+    return Rows(before, rows[-1][1], text, words, status=status, told=told, rows=rows)
 
 
 def visit(before, after, path, body):
@@ -77,6 +80,21 @@ OVER_STORES = [
         imports("ruled", "bad", ("row 1 bad-row", "ruled"), ("12 done", "program"), status=1),
     ),
     ("desk import of another", imports("program", "another", ("12 done", "program"), ("13 done", "programs"))),
+    ("desk import by a key and clocks in files", imports("ruled", "plain", ("12 done", "filled"), words=BESIDE)),
+    (
+        "desk import that is only tried",
+        imports(
+            "ruled", "three", ("12 would-be-done", "ruled"), ("12 digest-differs", "ruled"), ("row 3 bad-row", "ruled"),
+            status=1, more=["--dry-run"],
+        ),
+    ),
+    (
+        "desk import past a file that is not there",
+        imports(
+            "ruled", "holed", ("row 1 device", "ruled"), ("12 done", "program"),
+            status=3, told="desk: device", more=["--keep-going"],
+        ),
+    ),
     ("desk export", Over("filled", "filled", TABLE, EXPORT)),
     ("desk export of two disks", Over("programs", "programs", TWO_PROGRAMS, EXPORT)),
     ("desk export of a store of version 1", Over("first", "filled", TABLE, EXPORT, between="filled")),
@@ -123,6 +141,8 @@ def fill(work):
     """Makes the images and the sheets that all runs use."""
     shutil.copy(os.path.join(ROOT, "crates/rd_main/stdin"), work / "image")
     (work / "program.d64").write_bytes(PROGRAM)
+    (work / "key").write_bytes(b"abc\n")
+    (work / "zone").write_bytes(ZONE_FILE)
     program = row(12, "d64", work / "program.d64")
     other = row(12, "d64", work / "program.d64", ABC)
     sheets = {
@@ -132,6 +152,7 @@ def fill(work):
         "three": [program, other, ",,,,"],
         "bad": [",,,,", program],
         "another": [program, row(13, "d64", work / "program.d64")],
+        "holed": [row(13, "d64", work / "nothing.d64", ABC), program],
     }
     for name, rows in sheets.items():
         text = "\n".join(["accession,kind,deed,sha256,file", *rows, ""])
@@ -162,6 +183,15 @@ FAULTY = built(
     entry(2, "X", "\\x01", "\\x01"), entry(3, "S", "\\x01", "\\x04"),
 )
 NO_END = built("formatted.image", "91648 \\x12\\x01")
+# A CP/M disk with two sound files.
+TWO_FILES = built("record.image", entry(1, "S", "\\x01", "\\x04"))
+MADE_FILES = (
+    ("0\t00000-HELLO.TXT\t128", "00000-HELLO.TXT", HELLO),
+    ("1\t00001-S\t128", "00001-S", b" " * 128),
+)
+# A file of the time zone database: two parts, each with one kind of time and no change, and the rule.
+ZONE_PART = b"TZif2" + bytes(34) + b"\x01\0\0\0\x04" + b"\0\0\x0e\x10\0\0CET\0"
+ZONE_FILE = ZONE_PART * 2 + b"\nCET-1CEST,M3.5.0,M10.5.0/3\n"
 
 
 # Commands without a store
@@ -209,6 +239,15 @@ WITHOUT_STORE = [
         AsEver(
             ("{desk}", "serve", "--store", "f", "--port", "80", "--count", "1", "--zone", "ABC25"), b"error: ", status=2
         ),
+    ),
+    (
+        "desk list of another size that says why",
+        Explains(("{desk}", "list", "cpm8", "{work}/program.d64", "--explain"), b"desk: wrong-size\n  ", status=1),
+    ),
+    ("desk files of two files", Makes(("{desk}", "files", "cpm8", "-", "--to", "{folder}"), MADE_FILES, TWO_FILES)),
+    (
+        "desk show of keys where no store is",
+        AsEver((*SHOW, "keys", "--store", "{work}/none/museum.sqlite", *KEY), b"desk: not-a-desk\n", status=3),
     ),
     ("desk --version", Reads(("{desk}", "--version"), b"desk 0.1.0\n")),
     ("desk --help", AsEver(("{desk}", "--help"), b"desk cat cpm8 disk.img 0")),
