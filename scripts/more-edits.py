@@ -47,6 +47,7 @@ FOLDERS = ("must-fail", "more-edits")
 
 HEAD = re.compile(r"\s*(?:pub(?:\([^)]*\))? )?(?:const |unsafe |final )*fn (\w+)")
 CONSTANT = re.compile(r"(?:pub(?:\([^)]*\))? )?(?:const|static) (\w+)")
+OF_TYPES = re.compile(r"\w<([^<>]*(?:<[^<>]*>)?[^<>]*)> for ")
 VERDICT = re.compile(r"(?m)^fn (\S+?): (.*)$")
 GOALS = re.compile(r"did not prove (`[^;]*`)")
 CALLS = re.compile(r"it calls (.*?), which (?:is|are) not proved")
@@ -171,13 +172,15 @@ def owner_above(lines, number):
 
 
 def owner_of(word, rest):
-    """The same, of the text behind the word `impl` or `trait`."""
+    """The same, of the text behind the word `impl` or `trait`. Behind a trait come the types that it is of."""
+    of_types = OF_TYPES.search(rest)
     rest = without_brackets(rest).split(" where ")[0].split("{")[0]
     if word != "impl":
         return re.match(r"\s*(\w+)", rest)[1]
     trait, _, of = rest.rpartition(" for ")
     last = lambda text: text.strip().split("::")[-1].strip("& ")
-    return last(of) + last(trait)
+    types = without_brackets(of_types[1]).split(",") if of_types else []
+    return "".join(map(last, [of, trait, *(one for one in types if "'" not in one)]))
 
 
 def without_brackets(text):
