@@ -24,25 +24,33 @@ fn keys(rt: HostRuntime) {
 }
 
 /// The first moment of a date by a rule is this.
-fn is_first(rt: &impl Abort, date: &str, rule: &str, moment: Option<i64>) -> Result<(), Fail> {
+fn is_first(
+    rt: &impl Abort,
+    alloc: Global,
+    date: &str,
+    rule: &str,
+    moment: Option<i64>,
+) -> Result<(), Fail> {
     let zone = Zone::read(rule)?;
-    let day = date_read(Global, date)?;
+    let day = date_read(alloc, date)?;
     assert_eq!(rt; first_moment(day, &zone), moment, "{date} {rule}");
     Ok(())
 }
 
 #[test]
 fn first_moments(rt: HostRuntime) -> Result<(), Fail> {
-    is_first(&rt, "1970-01-01", "UTC0", Some(0))?;
-    is_first(&rt, "2030-01-01", "UTC0", Some(1_893_456_000))?;
+    is_first(&rt, rt.alloc(), "1970-01-01", "UTC0", Some(0))?;
+    is_first(&rt, rt.alloc(), "2030-01-01", "UTC0", Some(1_893_456_000))?;
     is_first(
         &rt,
+        rt.alloc(),
         "2030-01-01",
         "CET-1CEST,M3.5.0,M10.5.0/3",
         Some(1_893_452_400),
     )?;
     is_first(
         &rt,
+        rt.alloc(),
         "2030-07-01",
         "CET-1CEST,M3.5.0,M10.5.0/3",
         Some(1_909_087_200),
@@ -53,24 +61,28 @@ fn first_moments(rt: HostRuntime) -> Result<(), Fail> {
 fn clocks_that_change_at_midnight(rt: HostRuntime) -> Result<(), Fail> {
     is_first(
         &rt,
+        rt.alloc(),
         "2030-03-31",
         "EET-2EEST,M3.5.0/0,M10.5.0/0",
         Some(1_901_138_400),
     )?;
     is_first(
         &rt,
+        rt.alloc(),
         "2030-10-26",
         "EET-2EEST,M3.5.0/0,M10.5.0/0",
         Some(1_919_192_400),
     )?;
     is_first(
         &rt,
+        rt.alloc(),
         "2030-10-27",
         "EET-2EEST,M3.5.0/0,M10.5.0/0",
         Some(1_919_282_400),
     )?;
     is_first(
         &rt,
+        rt.alloc(),
         "2030-11-03",
         "CST5CDT,M3.2.0/0,M11.1.0/1",
         Some(1_919_908_800),
@@ -79,7 +91,13 @@ fn clocks_that_change_at_midnight(rt: HostRuntime) -> Result<(), Fail> {
 
 #[test]
 fn days_without_a_moment(rt: HostRuntime) -> Result<(), Fail> {
-    is_first(&rt, "2030-03-01", "<a-b>12<b+a>-12,J60/0,J300/0", None)?;
-    is_first(&rt, "0001-01-01", "UTC0", None)?;
-    is_first(&rt, "9999-12-31", "UTC0", None)
+    is_first(
+        &rt,
+        rt.alloc(),
+        "2030-03-01",
+        "<a-b>12<b+a>-12,J60/0,J300/0",
+        None,
+    )?;
+    is_first(&rt, rt.alloc(), "0001-01-01", "UTC0", None)?;
+    is_first(&rt, rt.alloc(), "9999-12-31", "UTC0", None)
 }

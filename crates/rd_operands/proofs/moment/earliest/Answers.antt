@@ -1,4 +1,4 @@
-use Rattle.std.proofs.Common.{◌≡◌, rules, arith, FitsSigned, w32, w64}
+use Rattle.std.proofs.Common.{◌≡◌, arith, FitsSigned, w32, w64}
 use Rattle.std.proofs.lemmas.Grind.{common_steps}
 use Rattle.std.proofs.lemmas.Int.{to_z-of_z, ints}
 use Rattle.jiff_core.proofs.SignedLemmas.{signed_arith}

@@ -1,6 +1,6 @@
 use Rattle.std.proofs.Common.{◌≡◌, ◌∙◌, ◌+ℤ◌, pos, sym, subst, true≢false, rules, arith, FitsSigned, to_z, of_z, w32, w64}
 use Rattle.std.proofs.lemmas.Int.{to_z-of_z, ints}
-use Rattle.rd_operands.specs.Moments.{HasNoneFrom, IsOnDay}
+use Rattle.rd_operands.specs.Moments.{IsOnDay}
 use Rattle.rd_operands.proofs.MomentLemmas.{none_from_itself, none_more, plain_none}
 use Rattle.rd_operands.proofs.moment.first_from.Goals as goal
 

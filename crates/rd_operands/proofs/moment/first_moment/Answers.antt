@@ -1,4 +1,4 @@
-use Rattle.std.proofs.Common.{◌≡◌, ◌+ℤ◌, ◌-ℤ◌, ◌*ℤ◌, pos, subst, rules, FitsSigned, w32, w64}
+use Rattle.std.proofs.Common.{◌+ℤ◌, ◌-ℤ◌, ◌*ℤ◌, pos, subst, rules, FitsSigned, w32, w64}
 use Rattle.std.specs.Prelude.{IfNone, IfSome}
 use Rattle.std.proofs.lemmas.Int.{to_z-of_z}
 use Rattle.rd_operands.specs.Moments.{HasNoMoment, HasNoneFrom, IsFirstFrom, IsFirstMoment}

@@ -1,5 +1,5 @@
 use Rattle.std.proofs.Common.{◌≡◌, subst, sym}
-use Rattle.core.specs.Fmt.{HasWritten}
+use Rattle.std.specs.Fmt.{HasWritten}
 use Rattle.rd_explanations.specs.Lines.{line_text}
 use Rattle.rd_explanations.proofs.line.LineDisplay.fmt.Goals as goal
 
