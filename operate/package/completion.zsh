@@ -56,7 +56,7 @@ _desk() {
         _arguments '--store[The file of the store]:FILE:_files' \
             '--port[The port on 127.0.0.1, 1 to 65535; 8041 where neither this nor --socket is given]:PORT: ' \
             '--socket[The path of a Unix socket, which desk makes; give this or --port]:PATH:_files' \
-            '--count[How many visits are served, 0 to 4294967295; as many as come where it is not given]:COUNT: ' \
+            '--count[How many visits are served, 0 to 4294967295; 4294967295 where it is not given]:COUNT: ' \
             '--zone[The rule of the desk'\''s clocks as POSIX writes it, such as CET-1CEST,M3.5.0,M10.5.0/3; UTC0 where it is not given]:ZONE: ' \
             '--zone-file[A file of the time zone database, in whose last line the rule of the desk'\''s clocks is, in place of --zone]:FILE:_files' \
             '--trust-clock[Goes by the clock even if it shows a day long before that of a recorded check]' \

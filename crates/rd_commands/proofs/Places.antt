@@ -125,6 +125,11 @@ count_given None r none value = subst (λ x. IfSome x (IsCountGiven None)) (sym 
 count_given (Some text) (Some n) none value = (text, refl, (value text refl).0)
 count_given (Some text) None none value = tt
 
+-- so it is told
+pub count_told : (rows : List Row) (read : Option ℕ) → IfSome read (IsCountGiven (one_of (codes "count") rows)) → IfSome read (IsCountTold rows)
+count_told rows (Some count) told = inl told
+count_told rows None told = tt
+
 -- where there is a text, the number that is told is the one that is read
 pub count_read : (rows : List Row) (text : Text) (read : Option ℕ) (count : ℕ) → Some text ≡ first_of (codes "count") rows
     → ((text : Text) (count : ℕ) → one_of (codes "count") rows ≡ Some text → ParsesUnsigned {E = ParseIntError} 32 10 text (Ok count) → read ≡ Some count)
@@ -133,9 +138,9 @@ count_read rows text read count there asked (inl told) = asked told.0 count told
 count_read rows text read count there asked (inr none) = absurd (there_and_absent _ text there none.0)
 
 -- where there is none, it is the greatest
-pub count_endless : (rows : List Row) (count : ℕ) → None ≡ first_of (codes "count") rows → IsCountTold rows count → count ≡ 18_446_744_073_709_551_615
-count_endless rows count absent (inl told) = absurd (one_and_absent (codes "count") rows told.0 told.1 (sym absent))
-count_endless rows count absent (inr none) = none.1
+pub count_most : (rows : List Row) (count : ℕ) → None ≡ first_of (codes "count") rows → IsCountTold rows count → count ≡ 4_294_967_295
+count_most rows count absent (inl told) = absurd (one_and_absent (codes "count") rows told.0 told.1 (sym absent))
+count_most rows count absent (inr none) = none.1
 
 -- ---- the command that a parse goes into
 

@@ -38,10 +38,10 @@ NamesOnePlace rows = (place : Place) × NamesPlace rows place
 abbrev pub IsCountGiven : Option (List ℕ) → ℕ → Type 0
 IsCountGiven told count = (text : List ℕ) × (told ≡ Some text) × ParsesUnsigned {E = ParseIntError} 32 10 text (Ok count)
 
--- the number of visits is the one that is given; if none is, it is greater than that of all visits that will ever come
+-- the number of visits is the one that is given, and the greatest number of 32 bits if none is
 abbrev pub IsCountTold : List Row → ℕ → Type 0
 IsCountTold rows count = IsCountGiven (one_of (codes "count") rows) count
-    ⊎ ((first_of (codes "count") rows ≡ None) × (count ≡ 18_446_744_073_709_551_615))
+    ⊎ ((first_of (codes "count") rows ≡ None) × (count ≡ 4_294_967_295))
 
 -- what an option for seconds gives: the number that its text writes, and the usual one if it is absent
 abbrev pub AreSeconds : ℕ → Option (List ℕ) → ℕ → Type 0

@@ -176,7 +176,7 @@ fn count_option<'a>(alloc: Global) -> Arg<'a>
     Arg::new(alloc, "count")
         .long("count")
         .value_name("COUNT")
-        .help("How many visits are served, 0 to 4294967295; as many as come where it is not given")
+        .help("How many visits are served, 0 to 4294967295; 4294967295 where it is not given")
         .value_parser(value_parser!(u32))
 }
 

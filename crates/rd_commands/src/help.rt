@@ -136,7 +136,7 @@ Options:
       --store <FILE>               The file of the store
       --port <PORT>                The port on 127.0.0.1, 1 to 65535; 8041 where neither this nor --socket is given
       --socket <PATH>              The path of a Unix socket, which desk makes; give this or --port
-      --count <COUNT>              How many visits are served, 0 to 4294967295; as many as come where it is not given
+      --count <COUNT>              How many visits are served, 0 to 4294967295; 4294967295 where it is not given
       --zone <ZONE>                The rule of the desk's clocks as POSIX writes it, such as CET-1CEST,M3.5.0,M10.5.0/3; UTC0 where it is not given
       --zone-file <FILE>           A file of the time zone database, in whose last line the rule of the desk's clocks is, in place of --zone
       --trust-clock                Goes by the clock even if it shows a day long before that of a recorded check

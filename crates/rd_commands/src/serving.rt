@@ -80,14 +80,14 @@ fn count_given(found: &ArgMatches) -> Option<u32>
     found.get_one::<u32>("count")
 }
 
-/// How many visits its option gives, more than will ever come if it is absent; `None` if its text is no number.
-pub(crate) fn count_asked(found: &ArgMatches) -> Option<u64>
+/// How many visits its option gives, the most that one run serves if it is absent; `None` if its text is no number.
+pub(crate) fn count_asked(found: &ArgMatches) -> Option<u32>
     ensures asked { (count : ℕ) → IsCountTold (rows_of (found_of found.now)) count → result ≡ Some count }
     ensures told { IfSome result (IsCountTold (rows_of (found_of found.now))) }
 {
     match found.get_str("count") {
-        Some(_) => Some(u64::from(count_given(found)?)),
-        None => Some(u64::MAX),
+        Some(_) => count_given(found),
+        None => Some(u32::MAX),
     }
 }
 

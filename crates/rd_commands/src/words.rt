@@ -66,7 +66,7 @@ pub struct ServeAsk<'a> {
     /// Where the visitors come.
     pub place: Place<'a>,
     /// How many visits.
-    pub count: u64,
+    pub count: u32,
     /// The zone of the desk's clocks.
     pub zone: Zone,
     /// How long a visitor may take.

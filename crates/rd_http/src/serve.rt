@@ -29,11 +29,11 @@ pub enum Ended {
 #[derive(Clone, Copy, Debug, PartialEq, Eq)]
 pub struct Served {
     /// How many visits it served, including those with a fault.
-    pub visits: u64,
+    pub visits: u32,
     /// At how many of them a read failed.
-    pub read_faults: u64,
+    pub read_faults: u32,
     /// At how many of them a write failed.
-    pub write_faults: u64,
+    pub write_faults: u32,
     /// Why it ended.
     pub ended: Ended,
 }
@@ -51,7 +51,7 @@ impl Served {
 
     /// The run after one more visit, which ended so.
     fn with(self, ending: Result<(), WireFault>) -> Served
-        requires room { self.visits < 18_446_744_073_709_551_615 }
+        requires room { self.visits < 4_294_967_295 }
         requires faults { self.read_faults + self.write_faults ≤ self.visits }
         ensures { result ≡ counted ending self }
     {
@@ -88,7 +88,7 @@ fn serve_next<S: Alter, D: Door>(
     served: Served,
 ) -> Served
     requires counting { served.ended ≡ Ended.Count }
-    requires room { served.visits < 18_446_744_073_709_551_615 }
+    requires room { served.visits < 4_294_967_295 }
     requires faults { served.read_faults + served.write_faults ≤ served.visits }
     ensures next { IsNext S.Store D.Door desk.old.zone door.old door.new desk.old.store desk.new.store served result }
     ensures heard { ((conn : _) → D.Conn.read_failed conn ≡ false) → served.read_faults ≡ 0 → result.read_faults ≡ 0 }
@@ -114,7 +114,7 @@ pub fn serve_many<S: Alter, D: Door>(
     alloc: Global,
     door: &mut D,
     desk: &mut Desk<S>,
-    count: u64,
+    count: u32,
 ) -> Served
     ensures run { IsRunOf S.Store D.Door count desk.old.zone door.old door.new desk.old.store desk.new.store result }
     ensures replied { IsOpen S.Store desk.new.store → IfSome (D.told door.old) (λ begun.
@@ -137,7 +137,7 @@ pub fn serve_in_memory<D: Door>(
     alloc: Global,
     door: &mut D,
     desk: &mut Desk<MemStore>,
-    count: u64,
+    count: u32,
 ) -> Served
     ensures run { IsRunOf over_memory D.Door count desk.old.zone door.old door.new desk.old.store desk.new.store result }
     ensures replied { IfSome (D.told door.old) (λ begun.

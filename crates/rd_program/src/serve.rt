@@ -68,7 +68,7 @@ fn tell_listening<M: Machine, W: Write>(
 /// It fails with `NoMemory`, and with `Device` when a write or the flush fails.
 fn tell_served<M: Machine, W: Write>(
     alloc: Global,
-    count: u64,
+    count: u32,
     output: &mut W,
 ) -> Result<(), Refusal>
     ensures done { OnOk result (Appends (W.contents output.old) (W.contents output.new) (served_line count)) }

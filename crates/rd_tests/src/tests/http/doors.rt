@@ -17,6 +17,6 @@ pub(super) fn out_of(alloc: Global, door: &MemoryDoor, n: usize) -> Result<Strin
 }
 
 /// Serves visits, as many as `count`.
-pub(super) fn run<D: Door>(alloc: Global, door: &mut D, desk: &mut Memory, count: u64) -> Served {
+pub(super) fn run<D: Door>(alloc: Global, door: &mut D, desk: &mut Memory, count: u32) -> Served {
     serve_many(alloc, door, desk, count)
 }

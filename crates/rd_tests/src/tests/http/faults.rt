@@ -39,7 +39,7 @@ const UNWRITTEN: Coming = (
 const DAYLESS: Coming = (i64::MAX, like!(Plan, FLUSHED, reads: 1));
 
 /// A run of visits: its name, their connections, up to how many are served, how it goes, and how many leave.
-type Run = (&'static str, &'static [Coming], u64, Served, usize);
+type Run = (&'static str, &'static [Coming], u32, Served, usize);
 
 const RUNS: &[Run] = table![
     ("faults end their visit alone", &[UNREAD, UNWRITTEN, SOUND], 3, served!(3, 1, 1, Count), 3);

@@ -686,7 +686,7 @@ fn is_answered(visit: &MemoryVisit, wanted: &[u8], unavailable: &[u8]) -> bool {
 }
 
 /// How many writes of two visits failed.
-fn failed(first: &MemoryVisit, second: &MemoryVisit) -> u64 {
+fn failed(first: &MemoryVisit, second: &MemoryVisit) -> u32 {
     match (first.write_failed(), second.write_failed()) {
         (true, true) => 2,
         (false, false) => 0,

@@ -14,7 +14,7 @@ use std::test::Fail;
 type Run = (
     &'static str,
     &'static [i64],
-    &'static [(u64, Served)],
+    &'static [(u32, Served)],
     &'static [Wanted],
 );
 
