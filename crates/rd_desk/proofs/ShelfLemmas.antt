@@ -140,9 +140,11 @@ beside_more shelf stood mid image row beside none heading = record {
         let bare : on_shelf shelf acc ≡ None = subst (λ a. on_shelf shelf a ≡ None) is none in
         let got : get (insert mid.images image.acc row) acc ≡ Some row = subst (λ a. get (insert mid.images image.acc row) a ≡ Some row) is (get_inserted nat_cmp number_order.total mid.images image.acc row) in
         rw (bare, same, got) heading
+
     nothing_more : (on : Option Shelved) (stood row : Option ImageRow) → StandsAt on stood row → StandsAt (first_there on None) stood row
     nothing_more (Some earlier) stood row like = like
     nothing_more None stood row like = like
+
     there : (acc : ℕ) → (image.acc == acc) ≡ false
         → StandsAt (first_there (on_shelf shelf acc) (if image.acc == acc then Some image else None)) (get stood.images acc) (get (insert mid.images image.acc row) acc)
     there acc other =
@@ -236,10 +238,10 @@ module _ (shelf : List Shelved) (stood : Desk) (badge : List ℕ) (image : Shelv
           let there = standing mid beside image is in (
             mid,
             done mid mid day beside
-            (λ other.
+                (λ other.
                 let one : there.0 ≡ other.0 = cc (sym there.1 ∙ other.1) in
                 let like : HasHeading image other.0 = subst (HasHeading image) one there.2 in other.2 (like.0, like.1.0, like.1.1))
-            (ap (λ found. put_or_kept found image.acc row mid) (sym there.1)),
+                (ap (λ found. put_or_kept found image.acc row mid) (sym there.1)),
             beside,
           )
 
@@ -247,8 +249,12 @@ module _ (shelf : List Shelved) (stood : Desk) (badge : List ℕ) (image : Shelv
       other_answered : (other : Shelved) → would_stand shelf stood image.acc ≡ Some other → other ≢ image → WouldAnswer shelf shelf stood badge image bytes (response.Refused Conflict)
       other_answered other is apart = refused Conflict (λ mid beside.
           let there = standing mid beside other is in record {
-            holds = (there.0, there.1, λ same. apart (one_image other image (of_standing shelf stood image.acc other is)
-                (sym there.2.0 ∙ same.0) (sym there.2.1.0 ∙ same.1) (sym there.2.1.1 ∙ same.2)));
+            holds = (
+              there.0,
+              there.1,
+              λ same. apart (one_image other image (of_standing shelf stood image.acc other is)
+                  (sym there.2.0 ∙ same.0) (sym there.2.1.0 ∙ same.1) (sym there.2.1.1 ∙ same.2)),
+            );
             lowest = before_conflict mid beside fine;
           })
 

@@ -125,7 +125,10 @@ fn a_write_that_fails_ends_the_run(rt: HostRuntime) -> Result<(), Fail> {
             taken: Vec::new(rt.alloc()),
         };
         let (status, errors) = run_bare(rt.alloc(), *words, &mut image.as_slice(), &mut output);
-        assert!(rt; is_device(status, errors.as_slice()) && output.taken.is_empty(), "row {n}");
+        assert!(rt;
+            is_device(status, errors.as_slice()) && output.taken.is_empty(),
+            "row {n}"
+        );
     }
     Ok(())
 }

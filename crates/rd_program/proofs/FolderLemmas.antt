@@ -194,6 +194,7 @@ refuses_early files input path folder kind made out refusal early = record { on_
     one Device device image = inl (refl, Keeps-refl out)
     one NoMemory memory image = inl (refl, Keeps-refl out)
     one other none image = absurd none
+
     each : (shown : Option (List ℕ)) → IfSome shown (λ image. RefusesExtract kind image folder made made out out refusal)
     each (Some image) = one refusal early image
     each None = tt

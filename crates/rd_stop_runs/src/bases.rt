@@ -85,14 +85,7 @@ const PROGRAM: Command = Command::PutImage(12, Sample::Program);
 
 const WITH_RULES: &[Command] = &[ROOM_KEY, CURATOR, DONOR, CLOSED_RULE, OPEN_RULE];
 
-const WITH_IMAGE: &[Command] = &[
-    ROOM_KEY,
-    CURATOR,
-    DONOR,
-    CLOSED_RULE,
-    OPEN_RULE,
-    PROGRAM,
-];
+const WITH_IMAGE: &[Command] = &[ROOM_KEY, CURATOR, DONOR, CLOSED_RULE, OPEN_RULE, PROGRAM];
 
 const DESK: Plan = Plan {
     has_sums: false,

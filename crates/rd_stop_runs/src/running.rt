@@ -321,7 +321,11 @@ pub(crate) fn carry_out(
     match connect(alloc, files, how, action.asks_sums()) {
         Ok(conn) => {
             let Acted { report, conn } = act(alloc, action, source, conn)?;
-            let files = if run.is_closed { close(conn) } else { into_files(conn) };
+            let files = if run.is_closed {
+                close(conn)
+            } else {
+                into_files(conn)
+            };
             Ok(Ran { report, files })
         }
         Err((error, files)) => unconnected(alloc, error, files),

@@ -46,8 +46,16 @@ fn write_at(bytes: &mut [u8], place: usize, unit: &[u8]) -> Result<()> {
 /// and the text.
 fn write_over(alloc: Global, bytes: &mut Vec<u8>, text: &str, is_each: bool) -> Result<()> {
     let (first, text) = number_and_text(text)?;
-    let (step, text) = if is_each { number_and_text(text)? } else { (0, text) };
-    let (count, text) = if is_each { number_and_text(text)? } else { (1, text) };
+    let (step, text) = if is_each {
+        number_and_text(text)?
+    } else {
+        (0, text)
+    };
+    let (count, text) = if is_each {
+        number_and_text(text)?
+    } else {
+        (1, text)
+    };
     let unit = bytes_of(alloc, text)?;
     let mut place = first;
     for _ in 0..count {

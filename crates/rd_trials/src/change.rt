@@ -93,7 +93,11 @@ impl<'a> Change<'a> {
     /// Runs the statement, and gives what it did.
     fn run(&self, conn: &mut Connection<MemStore>) -> Effect {
         let value = [ValueRef::Blob(self.value.as_slice())];
-        let values = if self.has_value { value.as_slice() } else { &[] };
+        let values = if self.has_value {
+            value.as_slice()
+        } else {
+            &[]
+        };
         match execute(conn, self.statement, values) {
             Ok(0) => Effect::Idle,
             Ok(_) => Effect::Rows,

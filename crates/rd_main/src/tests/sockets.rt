@@ -105,7 +105,10 @@ fn nothing_else_gives_way(rt: HostRuntime) -> Result<(), Fail> {
     for name in STAYING {
         assert!(rt; stays(&rt, folder.path(name)?.as_str())?, "{name}");
     }
-    assert!(rt; fs::exists(&rt, folder.path("left")?.as_str())?, "the link's socket");
+    assert!(rt;
+        fs::exists(&rt, folder.path("left")?.as_str())?,
+        "the link's socket"
+    );
     Ok(())
 }
 

@@ -61,7 +61,7 @@ returns-in_err-extract_one-clause-refused g c =
     let inside : at.file-index < length files = omega arith in
     let are : AreFounds (kind_of c.in_ok-image.image) (bytes_of c.in_ok-image.image) files = subst (AreFounds _ _) (sym c.as_slice-file-items.ensures) c.in_ok-files.ensures.files in
     let part = extracts_part (kind_of c.in_ok-image.image) (bytes_of c.in_ok-image.image) c.args.ask.folder.now files at.file-index c.file-item.result _ _ _ _ _ _ are inside (sym c.file-item.is)
-        (sym c.is_given.ensures ∙ c.if-is_given.true) at.invariant.makes c.in_err-extract_one.ensures.failed in
+    (sym c.is_given.ensures ∙ c.if-is_given.true) at.invariant.makes c.in_err-extract_one.ensures.failed in
     passed_on c.from_residual-in_err-extract_one.result c.in_err-extract_one.field-0.0 _ c.from_residual-in_err-extract_one.ensures.1
     (of_sized _ _ _ c.in_ok-bytes.bytes.items (size_of c.args.ask.image.kind) _ c.in_ok-bytes.ensures.front c.in_ok-bytes.ensures.of_file
     (ap length (sym c.as_slice.ensures.value) ∙ c.in_ok-image.ensures.taken.0 (refl {a = true}))
