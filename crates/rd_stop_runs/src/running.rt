@@ -255,9 +255,14 @@ fn report_of(alloc: Global, written: &Written, has_sheet: bool) -> Result<Report
         Some(0) if status != 0 => ending_of(status, errors),
         _ => Ending::Other,
     };
+    let changes = if has_sheet || ending == Ending::Done {
+        told.unwrap_or(0)
+    } else {
+        0
+    };
     Ok(Report {
         ending,
-        changes: told.unwrap_or(0),
+        changes,
         words,
     })
 }
