@@ -233,7 +233,7 @@ fn copied(conn: Connection<FilesStore>) -> Result<Pair> {
 }
 
 /// The files of a connection, with its pages in the log.
-fn logged(conn: Connection<FilesStore>) -> Result<Pair> {
+fn kept_in_log(conn: Connection<FilesStore>) -> Result<Pair> {
     let pair = Pair::kept(&into_files(conn))?;
     ensure!(pair.has_logged(), "no pages are in the log");
     Ok(pair)
@@ -271,7 +271,10 @@ fn after_statements(
 fn begun(alloc: Global, plan: Plan) -> Result<Pair> {
     let store = new_store(alloc, plan.has_sums)?;
     let pair = copied(after_commands(alloc, store, plan.commands)?)?;
-    ensure!(pair.has_sums() == plan.has_sums, "the pages have no sums");
+    ensure!(
+        pair.has_sums() == plan.has_sums,
+        "the pages have sums, or none, as they must not"
+    );
     if plan.statements.is_empty() {
         return Ok(pair);
     }
@@ -280,7 +283,7 @@ fn begun(alloc: Global, plan: Plan) -> Result<Pair> {
 
 /// The files of a base after its last change, which is in the log.
 fn ended(alloc: Global, pair: &Pair, last: Last) -> Result<Pair> {
-    logged(match last {
+    kept_in_log(match last {
         Last::Statements(statements) => after_statements(alloc, pair, statements)?,
         Last::Commands(commands) => {
             let store = store_in(alloc, pair, options(SALT, USUAL_FRAMES))?;

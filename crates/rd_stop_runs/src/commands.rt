@@ -78,7 +78,7 @@ pub(crate) fn bytes_of(alloc: Global, sample: Sample) -> Result<Vec<u8>, NoMemor
 }
 
 /// The kind of a sample image, and its SHA-256.
-fn kind_of(sample: Sample) -> (Kind, [u8; 32]) {
+fn kind_and_digest_of(sample: Sample) -> (Kind, [u8; 32]) {
     match sample {
         Sample::Program => (Kind::D64, PROGRAM_DIGEST),
         Sample::Looped => (Kind::D64, LOOPED_DIGEST),
@@ -89,7 +89,7 @@ fn kind_of(sample: Sample) -> (Kind, [u8; 32]) {
 
 fn put_image(alloc: Global, acc: u32, sample: Sample) -> Result<What, NoMemory> {
     let bytes = Items::of(bytes_of(alloc, sample)?);
-    let (kind, digest) = kind_of(sample);
+    let (kind, digest) = kind_and_digest_of(sample);
     Ok(What::PutImage {
         acc,
         kind,
