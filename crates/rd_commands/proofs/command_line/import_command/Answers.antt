@@ -14,10 +14,10 @@ returns-clause-shape c =
     let sheet : app_of c.in_ok-given.given ≡ with_rule (with_caller (with_rule (new_app (codes "import")) store_rule)) sheet_rule =
     c.in_ok-given.ensures.shape c.sheet_option.ensures.local ∙ ap₂ with_rule caller c.sheet_option.ensures.rule in
     let moment : app_of c.in_ok-add_moment.field-0 ≡ with_moment (with_rule (with_caller (with_rule (new_app (codes "import")) store_rule)) sheet_rule) = c.in_ok-add_moment.ensures.shape ∙ ap with_moment sheet in
-    let dry_run : app_of c.in_ok-arg-3.field-0 ≡ with_rule (with_moment (with_rule (with_caller (with_rule (new_app (codes "import")) store_rule)) sheet_rule)) dry_run_rule =
-    c.in_ok-arg-3.ensures.shape c.dry_run_flag.ensures.local ∙ ap₂ with_rule moment c.dry_run_flag.ensures.rule in
-    let keep_going : app_of c.in_ok-arg-4.field-0 ≡ with_rule (with_rule (with_moment (with_rule (with_caller (with_rule (new_app (codes "import")) store_rule)) sheet_rule)) dry_run_rule) keep_going_rule =
-    c.in_ok-arg-4.ensures.shape c.keep_going_flag.ensures.local ∙ ap₂ with_rule dry_run c.keep_going_flag.ensures.rule in
+    let dry_run : app_of c.in_ok-arg.field-0 ≡ with_rule (with_moment (with_rule (with_caller (with_rule (new_app (codes "import")) store_rule)) sheet_rule)) dry_run_rule =
+    c.in_ok-arg.ensures.shape c.dry_run_flag.ensures.local ∙ ap₂ with_rule moment c.dry_run_flag.ensures.rule in
+    let keep_going : app_of c.in_ok-arg-2.field-0 ≡ with_rule (with_rule (with_moment (with_rule (with_caller (with_rule (new_app (codes "import")) store_rule)) sheet_rule)) dry_run_rule) keep_going_rule =
+    c.in_ok-arg-2.ensures.shape c.keep_going_flag.ensures.local ∙ ap₂ with_rule dry_run c.keep_going_flag.ensures.rule in
     IfOk-weaker c.arg-5.result _ _ (λ made adds. adds.shape c.explain_flag.ensures.local ∙ ap₂ with_rule keep_going c.explain_flag.ensures.rule) c.arg-5.ensures
 
 pub returns-clause-local : goal.returns-clause-local
@@ -27,6 +27,6 @@ returns-clause-local c =
     let caller : (fields_of c.in_ok-add_caller.field-0).has_globals ≡ false = c.in_ok-add_caller.ensures.local ∙ store in
     let sheet : (fields_of c.in_ok-given.given).has_globals ≡ false = c.in_ok-given.ensures.globals ∙ ap₂ ◌||◌ caller c.sheet_option.ensures.local in
     let moment : (fields_of c.in_ok-add_moment.field-0).has_globals ≡ false = c.in_ok-add_moment.ensures.local ∙ sheet in
-    let dry_run : (fields_of c.in_ok-arg-3.field-0).has_globals ≡ false = c.in_ok-arg-3.ensures.globals ∙ ap₂ ◌||◌ moment c.dry_run_flag.ensures.local in
-    let keep_going : (fields_of c.in_ok-arg-4.field-0).has_globals ≡ false = c.in_ok-arg-4.ensures.globals ∙ ap₂ ◌||◌ dry_run c.keep_going_flag.ensures.local in
+    let dry_run : (fields_of c.in_ok-arg.field-0).has_globals ≡ false = c.in_ok-arg.ensures.globals ∙ ap₂ ◌||◌ moment c.dry_run_flag.ensures.local in
+    let keep_going : (fields_of c.in_ok-arg-2.field-0).has_globals ≡ false = c.in_ok-arg-2.ensures.globals ∙ ap₂ ◌||◌ dry_run c.keep_going_flag.ensures.local in
     IfOk-weaker c.arg-5.result _ _ (λ made adds. adds.globals ∙ ap₂ ◌||◌ keep_going c.explain_flag.ensures.local) c.arg-5.ensures

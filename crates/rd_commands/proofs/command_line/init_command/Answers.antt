@@ -11,8 +11,8 @@ returns-clause-shape c =
     let store : app_of c.in_ok-begun.begun ≡ with_rule (new_app (codes "init")) store_rule =
     c.in_ok-begun.ensures.shape c.store_option.ensures.local ∙ ap₂ with_rule bare c.store_option.ensures.rule in
     let caller : app_of c.in_ok-add_caller.field-0 ≡ with_caller (with_rule (new_app (codes "init")) store_rule) = c.in_ok-add_caller.ensures.shape ∙ ap with_caller store in
-    let sums : app_of c.in_ok-arg.field-0 ≡ with_rule (with_caller (with_rule (new_app (codes "init")) store_rule)) sums_rule =
-    c.in_ok-arg.ensures.shape c.sums_option.ensures.local ∙ ap₂ with_rule caller c.sums_option.ensures.rule in
+    let sums : app_of c.in_ok-given.given ≡ with_rule (with_caller (with_rule (new_app (codes "init")) store_rule)) sums_rule =
+    c.in_ok-given.ensures.shape c.sums_option.ensures.local ∙ ap₂ with_rule caller c.sums_option.ensures.rule in
     IfOk-weaker c.arg-3.result _ _ (λ made adds. adds.shape c.explain_flag.ensures.local ∙ ap₂ with_rule sums c.explain_flag.ensures.rule) c.arg-3.ensures
 
 pub returns-clause-local : goal.returns-clause-local
@@ -20,5 +20,5 @@ returns-clause-local c =
     let bare : (fields_of c.after_help.result).has_globals ≡ false = search rules in
     let store : (fields_of c.in_ok-begun.begun).has_globals ≡ false = c.in_ok-begun.ensures.globals ∙ ap₂ ◌||◌ bare c.store_option.ensures.local in
     let caller : (fields_of c.in_ok-add_caller.field-0).has_globals ≡ false = c.in_ok-add_caller.ensures.local ∙ store in
-    let sums : (fields_of c.in_ok-arg.field-0).has_globals ≡ false = c.in_ok-arg.ensures.globals ∙ ap₂ ◌||◌ caller c.sums_option.ensures.local in
+    let sums : (fields_of c.in_ok-given.given).has_globals ≡ false = c.in_ok-given.ensures.globals ∙ ap₂ ◌||◌ caller c.sums_option.ensures.local in
     IfOk-weaker c.arg-3.result _ _ (λ made adds. adds.globals ∙ ap₂ ◌||◌ sums c.explain_flag.ensures.local) c.arg-3.ensures
