@@ -33,6 +33,10 @@ pub returns-in_err-check_place-clause-failed : goal.returns-in_err-check_place-c
 returns-in_err-check_place-clause-failed c =
     passed_on c.from_residual.result c.in_err-check_place.field-0.0 _ c.from_residual.ensures.1 (inr (inl c.in_err-check_place.ensures.failed))
 
+pub returns-in_err-shown-clause-none : goal.returns-in_err-shown-clause-none
+returns-in_err-shown-clause-none c =
+    passed_on c.from_residual-in_err-shown.result c.in_err-shown.field-0.0 _ c.from_residual-in_err-shown.ensures.1 c.in_err-shown.ensures.none
+
 pub returns-in_err-shown-clause-no_place : goal.returns-in_err-shown-clause-no_place
 returns-in_err-shown-clause-no_place c =
     passed_on c.from_residual-in_err-shown.result c.in_err-shown.field-0.0 _ c.from_residual-in_err-shown.ensures.1
@@ -66,6 +70,10 @@ pub returns-in_err-beside-clause-no_place : goal.returns-in_err-beside-clause-no
 returns-in_err-beside-clause-no_place c =
     passed_on c.from_residual-in_err-beside.result c.in_err-beside.field-0.0 _ c.from_residual-in_err-beside.ensures.1
     (λ place. absurd (beside_no_place _ c.in_err-beside.ensures.failed place))
+
+pub returns-in_err-beside-clause-apart : goal.returns-in_err-beside-clause-apart
+returns-in_err-beside-clause-apart c =
+    passed_on c.from_residual-in_err-beside.result c.in_err-beside.field-0.0 _ c.from_residual-in_err-beside.ensures.1 c.in_err-beside.ensures.apart
 
 pub returns-in_err-beside-clause-shown_before : goal.returns-in_err-beside-clause-shown_before
 returns-in_err-beside-clause-shown_before c =
