@@ -194,8 +194,12 @@ free : (kinds others more shown : NameList) → is_simple_and_free (desk_app kin
 free kinds others more shown = refl
 
 -- words that a parse takes have no fault
+pub faultless : (app : App) (words : List Text) → IsDeskApp app → (is_simple_and_free app ≡ true → fault_of app words ≡ []) → fault_of app words ≡ []
+faultless app words desk none = none (ap is_simple_and_free desk.is ∙ free desk.cat_kinds desk.list_kinds desk.files_kinds desk.shown)
+
+-- so `clap` takes them
 pub taken_by : (app : App) (words : List Text) → IsDeskApp app → (is_simple_and_free app ≡ true → fault_of app words ≡ []) → IsTaken words
-taken_by app words desk none = record { app = app; is_desk = desk; no_fault = none (ap is_simple_and_free desk.is ∙ free desk.cat_kinds desk.list_kinds desk.files_kinds desk.shown) }
+taken_by app words desk none = record { app = app; is_desk = desk; no_fault = faultless app words desk none }
 
 -- so where a parse of the words succeeds
 pub words_taken : {T E : Type 0} (r : Result T E) (app : App) (words : List Text) → IsDeskApp app → (is_simple_and_free app ≡ true → fault_of app words ≡ [])

@@ -2,26 +2,26 @@ use Rattle.std.proofs.Common.{◌≡◌, ◌∙◌, Err, None, Ok, Some, codes, 
 use Rattle.clap.specs.Words.{app_of, subcommand_rows_of}
 use Rattle.rd_commands.specs.Asks.{IsForMemory}
 use Rattle.rd_commands.specs.declared.words.Unread.TheVariants.{Day, Place as NoPlace, Usage}
-use Rattle.rd_commands.proofs.GetterLemmas.{GivesRows, ask_given, ask_read, ask_unread, entered_is, fails_for_memory, names_what_it_shows, no_fault_in, passed_on, sums_read, taken_apart, taken_by, taken_on_output, taken_serving, taken_showing, trust_read, words_at_fault}
+use Rattle.rd_commands.proofs.GetterLemmas.{GivesRows, ask_given, ask_read, ask_unread, entered_is, fails_for_memory, faultless, names_what_it_shows, no_fault_in, passed_on, sums_read, taken_apart, taken_by, taken_on_output, taken_serving, taken_showing, trust_read, words_at_fault}
 use Rattle.rd_commands.proofs.HelpLine.{help_unread, not_help}
 use Rattle.rd_commands.proofs.Places.{fits_together, look_mistake, look_no_fault, look_not_placed, look_not_shown, look_unread, names_a_place, tells_beside}
 use Rattle.rd_commands.proofs.VersionLine.{not_version, version_unread}
 use Rattle.rd_commands.proofs.words.read_by.Goals as goal
 
-pub returns-in-Err-clause-unread : goal.returns-in-Err-clause-unread
-returns-in-Err-clause-unread c = λ command.
+pub returns-clause-unread : goal.returns-clause-unread
+returns-clause-unread c = λ command.
     fails_for_memory (app_of c.args.desk) _ c.in-Err.error c.requires command c.in-Err.ensures.passes c.in-Err.ensures.kinds
 
-pub returns-in-Err-clause-mistake_in : goal.returns-in-Err-clause-mistake_in
-returns-in-Err-clause-mistake_in c =
+pub returns-clause-mistake_in : goal.returns-clause-mistake_in
+returns-clause-mistake_in c =
     words_at_fault (app_of c.args.desk) _ c.in-Err.error c.requires c.in-Err.ensures.kinds
 
-pub returns-in-Err-clause-version : goal.returns-in-Err-clause-version
-returns-in-Err-clause-version c =
+pub returns-clause-version : goal.returns-clause-version
+returns-clause-version c =
     version_unread (app_of c.args.desk) _ c.in-Err.error c.requires c.in-Err.ensures.kinds
 
-pub returns-in-Err-clause-no_rule : goal.returns-in-Err-clause-no_rule
-returns-in-Err-clause-no_rule c =
+pub returns-clause-no_rule : goal.returns-clause-no_rule
+returns-clause-no_rule c =
     let words = map (λ word. word.now) c.args.words.now in
     let wrong = words_at_fault (app_of c.args.desk) _ c.in-Err.error c.requires c.in-Err.ensures.kinds in
     λ none. elim wrong [
@@ -29,11 +29,11 @@ returns-in-Err-clause-no_rule c =
       | inr found ↦ absurd (none (λ name rows enters clocks. absurd (no_fault_in words name rows _ enters found)))
     ]
 
-pub returns-in-Err-clause-day : goal.returns-in-Err-clause-day
-returns-in-Err-clause-day c = λ day. absurd cc
+pub returns-clause-day : goal.returns-clause-day
+returns-clause-day c = λ day. absurd cc
 
-pub returns-in-Err-clause-none_shown : goal.returns-in-Err-clause-none_shown
-returns-in-Err-clause-none_shown c =
+pub returns-clause-none_shown : goal.returns-clause-none_shown
+returns-clause-none_shown c =
     let words = map (λ word. word.now) c.args.words.now in
     let wrong = words_at_fault (app_of c.args.desk) _ c.in-Err.error c.requires c.in-Err.ensures.kinds in
     λ none. elim wrong [
@@ -43,17 +43,17 @@ returns-in-Err-clause-none_shown c =
 
 -- ---- the place
 
-pub returns-in-Err-clause-placeless : goal.returns-in-Err-clause-placeless
-returns-in-Err-clause-placeless c = λ place. absurd cc
+pub returns-clause-placeless : goal.returns-clause-placeless
+returns-clause-placeless c = λ place. absurd cc
 
-pub returns-in-Err-clause-mixed : goal.returns-in-Err-clause-mixed
-returns-in-Err-clause-mixed c = λ apart. elim apart [
+pub returns-clause-mixed : goal.returns-clause-mixed
+returns-clause-mixed c = λ apart. elim apart [
   | inl key ↦ absurd (cc key)
   | inr more ↦ elim more [ inl zones ↦ absurd (cc zones) | inr moment ↦ absurd (cc moment) ]
 ]
 
-pub returns-in-Err-clause-no_place : goal.returns-in-Err-clause-no_place
-returns-in-Err-clause-no_place c =
+pub returns-clause-no_place : goal.returns-clause-no_place
+returns-clause-no_place c =
     let words = map (λ word. word.now) c.args.words.now in
     let wrong = words_at_fault (app_of c.args.desk) _ c.in-Err.error c.requires c.in-Err.ensures.kinds in
     λ none. elim wrong [
@@ -61,7 +61,7 @@ returns-in-Err-clause-no_place c =
       | inr found ↦ absurd (none (λ rows enters. absurd (no_fault_in words (codes "serve") rows _ enters found)))
     ]
 
--- ---- words of `show` that name nothing, and of `serve` that name no place or two
+-- ---- words of `show` that name nothing, of `serve` that name two places, and of others that do not go together
 
 pub returns-in_err-seen-in-Ok-clause-unread : goal.returns-in_err-seen-in-Ok-clause-unread
 returns-in_err-seen-in-Ok-clause-unread c =
@@ -114,8 +114,8 @@ returns-in_err-seen-in-Ok-clause-version c =
     passed_on c.from_residual.result c.in_err-seen-in-Ok.field-0.0 _ c.from_residual.ensures.1
     (λ asks. absurd (not_version (app_of c.args.desk) _ c.requires c.in-Ok.ensures.kinds asks))
 
-pub returns-in-Err-clause-help : goal.returns-in-Err-clause-help
-returns-in-Err-clause-help c =
+pub returns-clause-help : goal.returns-clause-help
+returns-clause-help c =
     help_unread (app_of c.args.desk) _ c.in-Err.error c.requires c.in-Err.ensures.kinds
 
 pub returns-in_err-seen-in-Ok-clause-help : goal.returns-in_err-seen-in-Ok-clause-help
@@ -140,8 +140,8 @@ returns-in-Some-clause-read c =
 pub returns-in-Some-clause-accession : goal.returns-in-Some-clause-accession
 returns-in-Some-clause-accession c = c.in-Some.ensures.accession
 
-pub returns-in-None-clause-unread : goal.returns-in-None-clause-unread
-returns-in-None-clause-unread c =
+pub returns-in-Ok-clause-unread : goal.returns-in-Ok-clause-unread
+returns-in-Ok-clause-unread c =
     let words = map (λ word. word.now) c.args.words.now in
     let rows : GivesRows (subcommand_rows_of c.in-Ok.matches) c.in_ok-seen-in-Ok.seen.shown None = record { file = c.in-None.ensures.file; files = c.in-None.ensures.files; init = c.in-None.ensures.init; serve = c.in-None.ensures.serve; timeouts = c.in-None.ensures.timeouts; import = c.in-None.ensures.import; export = c.in-None.ensures.export; check = c.in-None.ensures.check; show = c.in-None.ensures.show; sift = c.in-None.ensures.sift; extract = c.in-None.ensures.extract; staff_key = c.in-None.ensures.staff_key; copy = c.in-None.ensures.copy } in
     ask_unread None Usage (Err Usage) words IsForMemory refl
@@ -155,11 +155,11 @@ returns-in-Some-clause-written_on_output c =
     taken_on_output (app_of c.args.desk) _ c.in-Ok.matches c.requires c.in-Ok.ensures.matches c.in-Ok.ensures.kinds (Some c.in-Some.ask) Usage (Ok c.in-Some.ask)
     refl c.in-Some.ensures.written_on_output
 
-pub returns-in-None-clause-version : goal.returns-in-None-clause-version
-returns-in-None-clause-version c = λ asks. absurd (not_version (app_of c.args.desk) _ c.requires c.in-Ok.ensures.kinds asks)
+pub returns-in-Ok-clause-version : goal.returns-in-Ok-clause-version
+returns-in-Ok-clause-version c = λ asks. absurd (not_version (app_of c.args.desk) _ c.requires c.in-Ok.ensures.kinds asks)
 
-pub returns-in-None-clause-help : goal.returns-in-None-clause-help
-returns-in-None-clause-help c = λ asks. absurd (not_help (app_of c.args.desk) _ c.requires c.in-Ok.ensures.kinds asks)
+pub returns-in-Ok-clause-help : goal.returns-in-Ok-clause-help
+returns-in-Ok-clause-help c = λ asks. absurd (not_help (app_of c.args.desk) _ c.requires c.in-Ok.ensures.kinds asks)
 
 pub returns-in-Some-clause-zone : goal.returns-in-Some-clause-zone
 returns-in-Some-clause-zone c =
@@ -168,41 +168,41 @@ returns-in-Some-clause-zone c =
     λ name rows enters clocks.
     c.in-Some.ensures.zone name rows (sym (entered_is app words c.in-Ok.matches c.requires c.in-Ok.ensures.matches) ∙ enters.into app c.requires) clocks
 
-pub returns-in-None-clause-no_rule : goal.returns-in-None-clause-no_rule
-returns-in-None-clause-no_rule c = λ none. inl (inl refl)
+pub returns-in-Ok-clause-no_rule : goal.returns-in-Ok-clause-no_rule
+returns-in-Ok-clause-no_rule c = λ none. inl (inl refl)
 
-pub returns-in-None-clause-apart : goal.returns-in-None-clause-apart
-returns-in-None-clause-apart c = λ none. inl (inl refl)
+pub returns-in-Ok-clause-apart : goal.returns-in-Ok-clause-apart
+returns-in-Ok-clause-apart c = λ none. inl (inl refl)
 
 pub returns-in-Some-clause-shown : goal.returns-in-Some-clause-shown
 returns-in-Some-clause-shown c =
     names_what_it_shows (app_of c.args.desk) _ c.in-Ok.matches c.in_ok-seen-in-Ok.seen.shown c.requires c.in-Ok.ensures.matches c.in_ok-seen-in-Ok.ensures.named
 
-pub returns-in-None-clause-none_shown : goal.returns-in-None-clause-none_shown
-returns-in-None-clause-none_shown c = λ none.
+pub returns-in-Ok-clause-none_shown : goal.returns-in-Ok-clause-none_shown
+returns-in-Ok-clause-none_shown c = λ none.
     absurd (none (names_what_it_shows (app_of c.args.desk) _ c.in-Ok.matches c.in_ok-seen-in-Ok.seen.shown c.requires c.in-Ok.ensures.matches c.in_ok-seen-in-Ok.ensures.named))
 
-pub returns-in-None-clause-day : goal.returns-in-None-clause-day
-returns-in-None-clause-day c = λ day. let no : Usage ≡ Day = day in absurd (cc no)
+pub returns-in-Ok-clause-day : goal.returns-in-Ok-clause-day
+returns-in-Ok-clause-day c = λ day. let no : Usage ≡ Day = day in absurd (cc no)
 
 pub returns-in-Some-clause-place : goal.returns-in-Some-clause-place
 returns-in-Some-clause-place c = names_a_place (app_of c.args.desk) _ c.in-Ok.matches c.requires c.in-Ok.ensures.matches c.in_ok-seen-in-Ok.ensures.place
 
-pub returns-in-None-clause-no_place : goal.returns-in-None-clause-no_place
-returns-in-None-clause-no_place c = λ none.
+pub returns-in-Ok-clause-no_place : goal.returns-in-Ok-clause-no_place
+returns-in-Ok-clause-no_place c = λ none.
     absurd (none (names_a_place (app_of c.args.desk) _ c.in-Ok.matches c.requires c.in-Ok.ensures.matches c.in_ok-seen-in-Ok.ensures.place))
 
-pub returns-in-None-clause-placeless : goal.returns-in-None-clause-placeless
-returns-in-None-clause-placeless c = λ place. let no : Usage ≡ NoPlace = place in absurd (cc no)
+pub returns-in-Ok-clause-placeless : goal.returns-in-Ok-clause-placeless
+returns-in-Ok-clause-placeless c = λ place. let no : Usage ≡ NoPlace = place in absurd (cc no)
 
-pub returns-in-None-clause-mixed : goal.returns-in-None-clause-mixed
-returns-in-None-clause-mixed c = λ apart. elim apart [
+pub returns-in-Ok-clause-mixed : goal.returns-in-Ok-clause-mixed
+returns-in-Ok-clause-mixed c = λ apart. elim apart [
   | inl key ↦ absurd (cc key)
   | inr more ↦ elim more [ inl zones ↦ absurd (cc zones) | inr moment ↦ absurd (cc moment) ]
 ]
 
-pub returns-in-None-clause-of_clap : goal.returns-in-None-clause-of_clap
-returns-in-None-clause-of_clap c = λ none. absurd (none (taken_by (app_of c.args.desk) _ c.requires c.in-Ok.ensures.kinds))
+pub returns-in-Ok-clause-of_clap : goal.returns-in-Ok-clause-of_clap
+returns-in-Ok-clause-of_clap c = λ none. absurd (none (taken_by (app_of c.args.desk) _ c.requires c.in-Ok.ensures.kinds))
 
 -- ---- what stands beside
 
@@ -222,7 +222,7 @@ returns-in-Some-clause-all c =
       taken = record {
         app = app;
         is_desk = c.requires;
-        no_fault = (taken_by app words c.requires c.in-Ok.ensures.kinds).no_fault;
+        no_fault = faultless app words c.requires c.in-Ok.ensures.kinds;
         rows = from.0;
         into = entered_is app words c.in-Ok.matches c.requires c.in-Ok.ensures.matches ∙ from.1;
       };
@@ -230,8 +230,8 @@ returns-in-Some-clause-all c =
       beside = c.in_ok-seen-in-Ok.ensures.beside _ from.0 from.1;
     }
 
-pub returns-in-Err-clause-apart : goal.returns-in-Err-clause-apart
-returns-in-Err-clause-apart c =
+pub returns-clause-apart : goal.returns-clause-apart
+returns-clause-apart c =
     let words = map (λ word. word.now) c.args.words.now in
     let wrong = words_at_fault (app_of c.args.desk) _ c.in-Err.error c.requires c.in-Err.ensures.kinds in
     λ none. elim wrong [
