@@ -349,7 +349,7 @@ pub record EntersServe (entered : Option (Text × List Row)) (store : List ℕ) 
 abbrev pub EntersAtAPlace : Option (Text × List Row) → Type 0
 EntersAtAPlace entered = (rows : List Row) → entered ≡ Some (codes "serve", rows) → NamesOnePlace rows
 
--- it went into `serve`, and names no place there, or two
+-- it went into `serve`, and does not name one place there
 abbrev pub EntersNoPlace : Option (Text × List Row) → Type 0
 EntersNoPlace entered = (rows : List Row) × (entered ≡ Some (codes "serve", rows)) × ¬ NamesOnePlace rows
 

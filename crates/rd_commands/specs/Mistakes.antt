@@ -14,7 +14,7 @@ zone_mistake = codes "error: --zone takes a rule as POSIX writes it, as in UTC0 
 abbrev pub day_mistake : List ℕ
 day_mistake = codes "error: --on takes a date, as in 2030-01-01; 'show verdicts' needs it, and nothing else takes it" ++ help_hint
 
--- the words of `serve` name no place, or two
+-- the words of `serve` name two places
 abbrev pub place_mistake : List ℕ
 place_mistake = codes "error: 'serve' needs --port or --socket, and takes only one of them" ++ help_hint
 

@@ -25,7 +25,8 @@ IsNumberTold told number = (text : List ℕ) × (told ≡ Some text) × ParsesUn
 abbrev pub IsPortTold : List Row → ℕ → Type 0
 IsPortTold rows port = IsNumberTold (one_of (codes "port") rows) port ⊎ ((first_of (codes "port") rows ≡ None) × (port ≡ 8_041))
 
--- what `clap` found names this place: the option of the other sort of place is absent; where both are, it is the port 8041
+-- what `clap` found names this place: the option of the other sort of place is absent; where both are absent, it is the
+-- port 8041
 abbrev pub NamesPlace : List Row → Place → Type 0
 NamesPlace rows (Port port) = IsPortTold rows port × (first_of (codes "socket") rows ≡ None)
 NamesPlace rows (Socket path) = (first_of (codes "socket") rows ≡ Some path) × (first_of (codes "port") rows ≡ None)

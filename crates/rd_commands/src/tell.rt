@@ -37,7 +37,7 @@ const ZONE_MISTAKE: &[u8] =
 const DAY_MISTAKE: &[u8] =
     b"error: --on takes a date, as in 2030-01-01; 'show verdicts' needs it, and nothing else takes it\n\nFor more information, try '--help'.\n";
 
-/// What it says about words of `serve` that name no place, or two.
+/// What it says about words of `serve` that name two places.
 const PLACE_MISTAKE: &[u8] =
     b"error: 'serve' needs --port or --socket, and takes only one of them\n\nFor more information, try '--help'.\n";
 
