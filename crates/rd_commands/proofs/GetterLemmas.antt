@@ -231,7 +231,9 @@ help_asked words NoMemory help fault = absurd help
 
 -- a command is found
 no_command : (words : List Text) → GivesAsk words None → IsCommand words → ⊥
-no_command words given (inl cat) = given.file cat.0 cat.1 cat.2 cat.3
+no_command words given (inl (inl cat)) = given.file cat.0 cat.1 cat.2 cat.3
+no_command words given (inl (inr (inl files))) = given.extract files.0 files.1 files.2 files.3
+no_command words given (inl (inr (inr sift))) = given.sift sift.0 sift.1 sift.2 sift.3 sift.4 sift.5 sift.6 sift.7
 no_command words given (inr (inl list)) = given.files list.0 list.1 list.2
 no_command words given (inr (inr (inl init))) = given.init init.0 init.1 init.2
 no_command words given (inr (inr (inr (inl serve)))) = given.serve serve.0 serve.1 serve.2 serve.3 serve.4
@@ -258,7 +260,11 @@ none_among kinds error none has = elim (subst (λ ks. HasKind ks error) none has
 -- a parse of a command fails for want of memory alone
 pub fails_for_memory : (app : App) (words : List Text) (error : Error) → IsDeskApp app → IsCommand words → (takes app words ≡ true → kind_of error ≡ OutOfMemory)
     → (is_simple_and_free app ≡ true → HasKind (fault_of app words) error) → kind_of error ≡ OutOfMemory
-fails_for_memory app words error desk (inl cat) passes has = passes (takes_cat app words cat.0 cat.1 cat.2 desk cat.3)
+fails_for_memory app words error desk (inl (inl cat)) passes has = passes (takes_cat app words cat.0 cat.1 cat.2 desk cat.3)
+fails_for_memory app words error desk (inl (inr (inl files))) passes has =
+    none_among (fault_of app words) error (files.3.enters.no_fault app desk) (has (ap is_simple_and_free desk.is ∙ free desk.cat_kinds desk.list_kinds desk.files_kinds desk.shown))
+fails_for_memory app words error desk (inl (inr (inr sift))) passes has =
+    none_among (fault_of app words) error (sift.7.enters.no_fault app desk) (has (ap is_simple_and_free desk.is ∙ free desk.cat_kinds desk.list_kinds desk.files_kinds desk.shown))
 fails_for_memory app words error desk (inr (inl list)) passes has = passes (takes_list app words list.0 list.1 desk list.2)
 fails_for_memory app words error desk (inr (inr (inl init))) passes has =
     none_among (fault_of app words) error (init.2.enters.no_fault app desk) (has (ap is_simple_and_free desk.is ∙ free desk.cat_kinds desk.list_kinds desk.files_kinds desk.shown))
@@ -429,7 +435,7 @@ module _ (app : App) (words : List Text) (m : ArgMatches) (desk : IsDeskApp app)
   pub taken_showing : EntersNamingNone (subcommand_rows_of m) → IsTakenShowingNothing words
   taken_showing entered = (taken_as (codes "show") (entered.0, entered.1), entered.2)
 
-  -- words that name no place, or two, are taken as `serve`
+  -- words that do not name one place are taken as `serve`
   pub taken_serving : EntersNoPlace (subcommand_rows_of m) → IsTakenServingNowhere words
   taken_serving entered = (taken_as (codes "serve") (entered.0, entered.1), entered.2)
 

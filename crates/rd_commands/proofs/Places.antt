@@ -168,8 +168,12 @@ no_other entered name rows serving other into is = unset (subst (λ n. (second_l
 -- where the words are a command, and a parse goes into `serve`, they name one place
 command_place : (app : App) (words : List Text) (rows : List Row) → IsDeskApp app → subcommand_of app words ≡ Some (codes "serve", rows) → IsCommand words
     → NamesOnePlace rows
-command_place app words rows desk is (inl cat) =
+command_place app words rows desk is (inl (inl cat)) =
     let enters = gives_cat app words cat.0 cat.1 cat.2 desk cat.3 in absurd (no_other _ (codes "cat") enters.rows rows refl enters.into is)
+command_place app words rows desk is (inl (inr (inl files))) =
+    absurd (no_other _ (codes "files") files.3.rows rows refl (files.3.enters.into app desk) is)
+command_place app words rows desk is (inl (inr (inr sift))) =
+    absurd (no_other _ (codes "import") sift.7.rows rows refl (sift.7.enters.into app desk) is)
 command_place app words rows desk is (inr (inl list)) =
     let enters = gives_list app words list.0 list.1 desk list.2 in absurd (no_other _ (codes "list") enters.rows rows refl enters.into is)
 command_place app words rows desk is (inr (inr (inl init))) =

@@ -154,8 +154,12 @@ no_other entered name rows shown other into is = unset (subst (λ n. (third n ==
 -- where the words are a command, and a parse goes into `show`, they name what it shows
 pub command_names : (app : App) (words : List Text) (rows : List Row) → IsDeskApp app → subcommand_of app words ≡ Some (codes "show", rows) → IsCommand words
     → NamesAny rows
-command_names app words rows desk is (inl cat) =
+command_names app words rows desk is (inl (inl cat)) =
     let enters = gives_cat app words cat.0 cat.1 cat.2 desk cat.3 in absurd (no_other _ (codes "cat") enters.rows rows refl enters.into is)
+command_names app words rows desk is (inl (inr (inl files))) =
+    absurd (no_other _ (codes "files") files.3.rows rows refl (files.3.enters.into app desk) is)
+command_names app words rows desk is (inl (inr (inr sift))) =
+    absurd (no_other _ (codes "import") sift.7.rows rows refl (sift.7.enters.into app desk) is)
 command_names app words rows desk is (inr (inl list)) =
     let enters = gives_list app words list.0 list.1 desk list.2 in absurd (no_other _ (codes "list") enters.rows rows refl enters.into is)
 command_names app words rows desk is (inr (inr (inl init))) =

@@ -163,9 +163,13 @@ FitEntered None = ⊤
 -- where the words are a command, what a parse finds goes together
 pub command_together : (app : App) (words : List Text) (name : Text) (rows : List Row) → IsDeskApp app → subcommand_of app words ≡ Some (name, rows) → IsCommand words
     → GoTogether name rows
-command_together app words name rows desk is (inl cat) =
+command_together app words name rows desk is (inl (inl cat)) =
     let enters = gives_cat app words cat.0 cat.1 cat.2 desk cat.3 in
     subst FitEntered (sym enters.into ∙ is) (no_options (codes "cat") enters.rows refl refl)
+command_together app words name rows desk is (inl (inr (inl files))) =
+    subst FitEntered (sym (files.3.enters.into app desk) ∙ is) (no_options (codes "files") files.3.rows refl refl)
+command_together app words name rows desk is (inl (inr (inr sift))) =
+    subst FitEntered (sym (sift.7.enters.into app desk) ∙ is) (import_together sift.7.rows sift.0 sift.1 sift.2 sift.3 sift.4 sift.7.found)
 command_together app words name rows desk is (inr (inl list)) =
     let enters = gives_list app words list.0 list.1 desk list.2 in
     subst FitEntered (sym enters.into ∙ is) (no_options (codes "list") enters.rows refl refl)

@@ -47,11 +47,20 @@ pub record AsksSift (words : List Text) (store key sheet : List ℕ) (moment : O
   pub ways : AreWays rows dry_run keep_going
   pub one : (dry_run || keep_going) ≡ true
 
+-- they ask for it with some options
+abbrev pub IsSift : List Text → Type 0
+IsSift words = (store : List ℕ) × (key : List ℕ) × (sheet : List ℕ) × (moment : Option ℤ) × (rule : List ℕ) × (dry_run : Bool) × (keep_going : Bool)
+    × AsksSift words store key sheet moment rule dry_run keep_going
+
 -- The words ask for the sound files of an image of a kind, in a folder: they are those of `files`, as `clap` takes them.
 pub record AsksFiles (words : List Text) (kind : Kind) (image folder : List ℕ) : Type 0 where
   pub rows : List Row
   pub enters : Enters words (codes "files") rows
   pub found : AreFilesRows rows kind image folder
+
+-- they ask for them of some image
+abbrev pub IsFiles : List Text → Type 0
+IsFiles words = (kind : Kind) × (image : List ℕ) × (folder : List ℕ) × AsksFiles words kind image folder
 
 -- The words ask for the catalogue of the desk in the file of a store, for a caller with this key
 -- or without one, at a moment that they name, or that of the clock, by the clocks of the rule:
@@ -118,9 +127,10 @@ AsksOfStore words = ((store : List ℕ) × (key : List ℕ) × AsksInit words st
     ⊎ (((store : List ℕ) × (place : Place) × (count : ℕ) × (rule : List ℕ) × AsksServe words store place count rule)
     ⊎ (IsImport words ⊎ (IsExport words ⊎ (((acc : ℕ) × IsCheckOf words acc) ⊎ (IsShow words ⊎ (IsStaffKey words ⊎ IsCopy words))))))
 
--- the words are a command of the program: a plain form of `cat` or `list`, or any form of the others
+-- the words are a command of the program: a plain form of `cat` or `list`, or any form of the others in which no key and no
+-- rule for clocks is in a file, and no date stands in place of a moment
 abbrev pub IsCommand : List Text → Type 0
-IsCommand words = ((kind : Kind) × (image : List ℕ) × (slot : ℕ) × AsksCat words kind image slot)
+IsCommand words = (((kind : Kind) × (image : List ℕ) × (slot : ℕ) × AsksCat words kind image slot) ⊎ (IsFiles words ⊎ IsSift words))
     ⊎ (((kind : Kind) × (image : List ℕ) × AsksList words kind image) ⊎ AsksOfStore words)
 
 -- if `clap` takes the words as a command that has clocks, they give a rule for these
@@ -139,7 +149,7 @@ NamesAPlace words = (rows : List Row) → Enters words (codes "serve") rows → 
 abbrev pub IsTakenShowingNothing : List Text → Type 0
 IsTakenShowingNothing words = (taken : IsTakenAs (codes "show") words) × ¬ NamesAny taken.rows
 
--- it takes them as `serve`, and they name no place, or two
+-- it takes them as `serve`, and they do not name one place
 abbrev pub IsTakenServingNowhere : List Text → Type 0
 IsTakenServingNowhere words = (taken : IsTakenAs (codes "serve") words) × ¬ NamesOnePlace taken.rows
 
