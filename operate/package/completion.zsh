@@ -9,7 +9,7 @@ _desk() {
         'init:Makes a desk with one staff key in the file of a store'
         'serve:Serves visits over HTTP on 127.0.0.1 or at a Unix socket, one after the other'
         'import:Takes in the images that a sheet names, and tells what became of each row'
-        'export:Writes the catalogue\: the files of all accessions that the caller may see'
+        'export:Writes the catalogue\: the files of all accessions that the caller may see; the public needs no key'
         'check:Tells whether the image of an accession is as it was given, and records it'
         'show:Shows the staff what the desk holds\: deeds, takedowns, keys, checks, or the verdicts of a day'
         'staff-key:Puts a desk key as one of the staff, for whoever may write the store'
@@ -71,7 +71,7 @@ _desk() {
             '--key[A desk key, without blanks and tabs at both ends; other users of this machine can read it here]:KEY: ' \
             '--key-file[A file with the desk key as its first line, or - for standard input]:FILE:_files' \
             '--sheet[The file of the sheet\: CSV with the header accession,kind,deed,sha256,file]:SHEET:_files' \
-            '--at[The moment, in seconds since 1970-01-01 of UTC, or a date, such as 2030-01-01, for the first second of that day; that of the clock where it is not given]:SECONDS: ' \
+            '--at[The moment, in seconds since 1970-01-01 of UTC, or a date, such as 2030-01-01, for the first second of that day; that of the clock where it is not given]:MOMENT: ' \
             '--zone[The rule of the desk'\''s clocks as POSIX writes it, such as CET-1CEST,M3.5.0,M10.5.0/3; UTC0 where it is not given]:ZONE: ' \
             '--zone-file[A file of the time zone database, in whose last line the rule of the desk'\''s clocks is, in place of --zone]:FILE:_files' \
             '--trust-clock[Goes by the clock even if it shows a day long before that of a recorded check]' \
@@ -84,7 +84,7 @@ _desk() {
         _arguments '--store[The file of the store]:FILE:_files' \
             '--key[A desk key, without blanks and tabs at both ends; other users of this machine can read it here]:KEY: ' \
             '--key-file[A file with the desk key as its first line, or - for standard input]:FILE:_files' \
-            '--at[The moment, in seconds since 1970-01-01 of UTC, or a date, such as 2030-01-01, for the first second of that day; that of the clock where it is not given]:SECONDS: ' \
+            '--at[The moment, in seconds since 1970-01-01 of UTC, or a date, such as 2030-01-01, for the first second of that day; that of the clock where it is not given]:MOMENT: ' \
             '--zone[The rule of the desk'\''s clocks as POSIX writes it, such as CET-1CEST,M3.5.0,M10.5.0/3; UTC0 where it is not given]:ZONE: ' \
             '--zone-file[A file of the time zone database, in whose last line the rule of the desk'\''s clocks is, in place of --zone]:FILE:_files' \
             '--trust-clock[Goes by the clock even if it shows a day long before that of a recorded check]' \
@@ -96,7 +96,7 @@ _desk() {
             '--key[A desk key, without blanks and tabs at both ends; other users of this machine can read it here]:KEY: ' \
             '--key-file[A file with the desk key as its first line, or - for standard input]:FILE:_files' \
             '--acc[The number of an accession, 1 to 999999]:ACCESSION: ' \
-            '--at[The moment, in seconds since 1970-01-01 of UTC, or a date, such as 2030-01-01, for the first second of that day; that of the clock where it is not given]:SECONDS: ' \
+            '--at[The moment, in seconds since 1970-01-01 of UTC, or a date, such as 2030-01-01, for the first second of that day; that of the clock where it is not given]:MOMENT: ' \
             '--zone[The rule of the desk'\''s clocks as POSIX writes it, such as CET-1CEST,M3.5.0,M10.5.0/3; UTC0 where it is not given]:ZONE: ' \
             '--zone-file[A file of the time zone database, in whose last line the rule of the desk'\''s clocks is, in place of --zone]:FILE:_files' \
             '--trust-clock[Goes by the clock even if it shows a day long before that of a recorded check]' \
@@ -108,7 +108,7 @@ _desk() {
             '--key[A desk key, without blanks and tabs at both ends; other users of this machine can read it here]:KEY: ' \
             '--key-file[A file with the desk key as its first line, or - for standard input]:FILE:_files' \
             '--on[The day of the verdicts, such as 2030-01-01; `verdicts` needs it, and nothing else takes it]:DATE: ' \
-            '--at[The moment, in seconds since 1970-01-01 of UTC, or a date, such as 2030-01-01, for the first second of that day; that of the clock where it is not given]:SECONDS: ' \
+            '--at[The moment, in seconds since 1970-01-01 of UTC, or a date, such as 2030-01-01, for the first second of that day; that of the clock where it is not given]:MOMENT: ' \
             '--zone[The rule of the desk'\''s clocks as POSIX writes it, such as CET-1CEST,M3.5.0,M10.5.0/3; UTC0 where it is not given]:ZONE: ' \
             '--zone-file[A file of the time zone database, in whose last line the rule of the desk'\''s clocks is, in place of --zone]:FILE:_files' \
             '--trust-clock[Goes by the clock even if it shows a day long before that of a recorded check]' \

@@ -239,7 +239,7 @@ fn moment_option<'a>(alloc: Global) -> Arg<'a>
     ensures rule { rule_of result ≡ moment_rule }
     ensures local { result.global ≡ false }
 {
-    Arg::new(alloc, "at").long("at").value_name("SECONDS").help(
+    Arg::new(alloc, "at").long("at").value_name("MOMENT").help(
         "The moment, in seconds since 1970-01-01 of UTC, or a date, such as 2030-01-01, for the first second of that day; that of the clock where it is not given",
     )
 }
@@ -404,7 +404,9 @@ fn export_command<'a>(alloc: Global) -> Result<Command<'a>, AllocError>
     ensures local { IfOk result (λ export. (fields_of export).has_globals ≡ false) }
 {
     let begun = Command::new(alloc, "export")
-        .about("Writes the catalogue: the files of all accessions that the caller may see")
+        .about(
+            "Writes the catalogue: the files of all accessions that the caller may see; the public needs no key",
+        )
         .after_help("Example:\n  desk export --store museum.sqlite")
         .arg(store_option(alloc))?;
     let given = add_caller(alloc, begun)?;
