@@ -53,6 +53,8 @@ int fdatasync(int file)
 
 int statx(int file, const char *path, int flags, unsigned mask, struct statx *told)
 {
-    int is_open = (flags & AT_EMPTY_PATH) && !*path;
+    /* Linux asks for no path here, but the C library declares that there is one, and gcc goes by that. */
+    const char *volatile name = path;
+    int is_open = (flags & AT_EMPTY_PATH) && (!name || !*name);
     return is_open && fails() ? -1 : NEXT(statx)(file, path, flags, mask, told);
 }
