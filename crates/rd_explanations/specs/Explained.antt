@@ -3,7 +3,7 @@ use Rattle.std.specs.Prelude.{◌≡◌, ◌≢◌, ◌≤◌, ◌==◌, ◌||�
 use Rattle.rd_explanations.specs.Lines.{line_text}
 use Rattle.rd_explanations.specs.declared.line.Line.{Line}
 
--- a byte as a line shows it: a question mark (63) for one of the bytes that steer a terminal, below 32 and 127
+-- a byte as a line shows it: a question mark (63) for a control byte of ASCII, below 32 and 127
 abbrev pub shown_byte : ℕ → ℕ
 shown_byte byte = if nat_lt byte 32 || (byte == 127) then 63 else byte
 
@@ -15,7 +15,7 @@ line_of body = codes "  " ++ (body ++ 10 ∷ [])
 abbrev pub shown_line : Line → List ℕ
 shown_line line = line_of (map shown_byte (line_text line))
 
--- The bytes are lines: each is two blanks, bytes that do not steer a terminal, and a line feed.
+-- The bytes are lines: each is two blanks, bytes of which none is a control byte of ASCII, and a line feed.
 pub record AreLines (bytes : List ℕ) : Type 0 where
   pub bodies : List (List ℕ)
   pub plain : All (λ body. All (λ byte. 32 ≤ byte) body) bodies

@@ -6,7 +6,7 @@ use Rattle.rd_geometry.specs.Kinds.{size_of, word_of}
 use Rattle.rd_geometry.specs.declared.kind.Kind.{Kind}
 use Rattle.rd_explanations.specs.Words.{advice_text, column_word, reason_text, said_text}
 use Rattle.rd_explanations.specs.declared.line.Line.{Line}
-use Rattle.rd_explanations.specs.declared.line.Line.TheVariants.{Field, Fits, Length, More, Next, Path, Row, Size, TooLong, Unread}
+use Rattle.rd_explanations.specs.declared.line.Line.TheVariants.{Field, Fits, Length, More, Next, OtherSize, Path, Row, Size, TooLong, Unread}
 
 -- a kind, and how many bytes its images have
 abbrev pub wanted_text : Kind → List ℕ
@@ -19,6 +19,8 @@ line_text (Size path found kind) =
     string_bytes path ++ (codes " has " ++ (decimal found ++ (codes " bytes, and an image of the kind " ++ (wanted_text kind ++ codes "."))))
 line_text (TooLong path kind) =
     string_bytes path ++ (codes " has more bytes than an image of its kind: " ++ (wanted_text kind ++ codes "."))
+line_text (OtherSize path kind) =
+    string_bytes path ++ (codes " has another number of bytes than an image of its kind: " ++ (wanted_text kind ++ codes "."))
 line_text (Fits kind) =
     codes "An image of the kind " ++ (word_of kind ++ codes " has as many bytes as this file: is it one?")
 line_text (Field row column) =

@@ -5,7 +5,7 @@ use Rattle.std.specs.declared.io.ErrorKind.TheVariants as system
 use Rattle.rd_explanations.specs.declared.said.Said.{Said}
 use Rattle.rd_explanations.specs.declared.said.Said.TheVariants as said
 use Rattle.rd_explanations.specs.declared.words.Advice.{Advice}
-use Rattle.rd_explanations.specs.declared.words.Advice.TheVariants.{CheckKey, CheckPath, CopyAgain, CopyAnew, FreshPath, InitFirst, KeepGoing, KnownNumber, ListSlots, MakeFolder, NameColumns, OtherMoment, OtherPlace, OtherProgram, OtherType, Restore, ShortKey, StaffKey, UseCommas, ZoneFile}
+use Rattle.rd_explanations.specs.declared.words.Advice.TheVariants.{CheckKey, CheckPath, CopyAgain, CopyAnew, FirstLook, FreshPath, InitFirst, KeepGoing, KnownNumber, ListSlots, MakeFolder, NameColumns, OtherCopy, OtherMoment, OtherPlace, OtherProgram, OtherType, Restore, SaveFirst, SetClock, ShortKey, ShowSize, StaffKey, TrustClock, UseCommas, ZoneFile}
 use Rattle.rd_explanations.specs.declared.words.Column.{Column}
 use Rattle.rd_explanations.specs.declared.words.Column.TheVariants as column
 use Rattle.rd_explanations.specs.declared.words.Reason.{Reason}
@@ -30,9 +30,12 @@ advice_text UseCommas = codes "Save the sheet as CSV with commas between the fie
 advice_text ListSlots = codes "Give a slot as the number that desk list shows first."
 advice_text CheckKey = codes "Give a key that the desk knows: one of the staff may show all keys."
 advice_text StaffKey = codes "Only the staff may do this: give a key of the staff."
-advice_text OtherMoment = codes "Set the clock of this machine, or name a moment by --at."
+advice_text OtherMoment = codes "Set the clock of this machine, or name another moment by --at."
+advice_text SetClock = codes "Set the clock of this machine."
+advice_text TrustClock = codes "If the clock is right, a check was recorded while it was ahead: write --trust-clock."
 advice_text OtherProgram = codes "Use the desk that made this store, or a newer one."
 advice_text Restore = codes "Give the file of a store, or bring back a backup of it."
+advice_text FirstLook = codes "First look that no other desk or sqlite3 uses it; else give the file of a store, or bring back a backup of it."
 advice_text ShortKey = codes "Put the key alone into the first line of the file: at most 4096 bytes."
 advice_text ZoneFile = codes "Give a file as those below /usr/share/zoneinfo, or a rule by --zone."
 advice_text MakeFolder = codes "Make the folder first, or give the path of one."
@@ -41,6 +44,9 @@ advice_text FreshPath = codes "Give a path where nothing is yet, or move away wh
 advice_text CopyAnew = codes "Remove the new file and its log, if they are there, and copy again."
 advice_text OtherType = codes "Give the slot of a file of the type SEQ, PRG or USR: desk gives the bytes of these."
 advice_text KnownNumber = codes "Give the number of an accession that stands: desk show checks names them all."
+advice_text SaveFirst = codes "Save it as a file, and give its path: then more can be said of it."
+advice_text OtherCopy = codes "The file is damaged in this image: copy the disk again, or look for another copy of it."
+advice_text ShowSize = codes "desk list KIND FILE --explain says how many bytes the file of a row has, and which kind fits."
 
 -- why the desk does not take in the image of a row
 abbrev pub reason_text : Reason → List ℕ

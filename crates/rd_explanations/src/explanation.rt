@@ -8,7 +8,7 @@ use crate::line::Line;
 use rd_geometry::NoMemory;
 use std::alloc::{AllocError, Global};
 
-/// A byte as a line shows it: a question mark for a byte that steers a terminal, and any other as it is.
+/// A byte as a line shows it: a question mark for a control byte of ASCII, and any other as it is.
 fn shown_byte(byte: u8) -> u8
     ensures { result ≡ spec.shown_byte byte }
 {
@@ -40,7 +40,8 @@ fn push_line(alloc: Global, bytes: &mut Vec<u8>, line: &Line) -> Result<(), Allo
 }
 
 /// The lines of an explanation, in their order. Whatever a path holds, each of them is one line: two blanks, bytes of
-/// which none steers a terminal, and a line feed. It fails only when memory runs out.
+/// which none is a control byte of ASCII, and a line feed. A path in UTF-8 may still hold characters beyond ASCII that some
+/// terminals obey. It fails only when memory runs out.
 pub fn explained(alloc: Global, lines: &[Line]) -> Result<Vec<u8>, NoMemory>
     ensures text { IfOk result (λ bytes. bytes.items ≡ flat_map shown_line lines.now) }
     ensures lines { IfOk result (λ bytes. AreLines bytes.items) }

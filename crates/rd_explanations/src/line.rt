@@ -49,6 +49,13 @@ pub enum Line {
         /// The kind that the command names.
         kind: Kind,
     },
+    /// A file has another number of bytes than an image of its kind, and nobody has counted them.
+    OtherSize {
+        /// The path of the file.
+        path: String,
+        /// The kind that the command names.
+        kind: Kind,
+    },
     /// An image of this kind has as many bytes as the file.
     Fits(Kind),
     /// A field of a sheet is missing or badly written.
@@ -107,6 +114,13 @@ impl fmt::Display for Line {
                 write!(
                     f,
                     "{path} has more bytes than an image of its kind: {wanted}."
+                )
+            }
+            Line::OtherSize { path, kind } => {
+                let wanted = Wanted(*kind);
+                write!(
+                    f,
+                    "{path} has another number of bytes than an image of its kind: {wanted}."
                 )
             }
             Line::Fits(kind) => {

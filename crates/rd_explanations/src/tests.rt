@@ -19,6 +19,10 @@ fn lines(rt: HostRuntime) -> Result<(), Fail> {
         kind: Kind::Cpm8,
     });
     notes.add(Line::Fits(Kind::D64));
+    notes.add(Line::OtherSize {
+        path: String::from_str(rt.alloc(), "standard input")?,
+        kind: Kind::D64,
+    });
     notes.add(Line::Field {
         row: 3,
         column: Column::Digest,
@@ -29,14 +33,17 @@ fn lines(rt: HostRuntime) -> Result<(), Fail> {
         reason: Reason::NoDeed,
     });
     notes.add(Line::Next(Advice::UseCommas));
+    notes.add(Line::Next(Advice::TrustClock));
     let bytes = explained(rt.alloc(), notes.lines.as_slice())?;
     let text = concat!(
         "  a?b.d64: there is no such file\n",
         "  box.img has 174848 bytes, and an image of the kind cpm8 has 256256.\n",
         "  An image of the kind d64 has as many bytes as this file: is it one?\n",
+        "  standard input has another number of bytes than an image of its kind: d64 has 174848.\n",
         "  Row 3, column sha256: missing or badly written.\n",
         "  Row 4, accession 12: no deed of this number stands; put the deed first.\n",
         "  Save the sheet as CSV with commas between the fields.\n",
+        "  If the clock is right, a check was recorded while it was ahead: write --trust-clock.\n",
     );
     assert_eq!(rt; bytes.as_slice(), text.as_bytes());
     Ok(())

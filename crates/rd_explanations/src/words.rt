@@ -56,12 +56,18 @@ pub enum Advice {
     CheckKey,
     /// The key is known, and is none of the staff.
     StaffKey,
-    /// The moment lies outside the years in which clocks have days.
+    /// The moment, or that of the clock, lies outside the years in which clocks have days.
     OtherMoment,
+    /// The clock is wrong, and no moment can be named.
+    SetClock,
+    /// The clock is behind a recorded check.
+    TrustClock,
     /// The store holds a desk of a version that this program does not know.
     OtherProgram,
     /// The store is another file, or is damaged.
     Restore,
+    /// The store may be in use; else it is another file, or is damaged.
+    FirstLook,
     /// A key file has at most 4,096 bytes.
     ShortKey,
     /// The file of a zone is one of the time zone database.
@@ -78,6 +84,12 @@ pub enum Advice {
     OtherType,
     /// No accession of this number stands.
     KnownNumber,
+    /// The bytes came once, as from a pipe, and cannot be read again.
+    SaveFirst,
+    /// The file is not sound in this image.
+    OtherCopy,
+    /// The size of a row's file is shown by another command.
+    ShowSize,
 }
 
 impl fmt::Display for Advice {
@@ -113,10 +125,19 @@ impl fmt::Display for Advice {
             Advice::StaffKey => write!(f, "Only the staff may do this: give a key of the staff."),
             Advice::OtherMoment => write!(
                 f,
-                "Set the clock of this machine, or name a moment by --at."
+                "Set the clock of this machine, or name another moment by --at."
+            ),
+            Advice::SetClock => write!(f, "Set the clock of this machine."),
+            Advice::TrustClock => write!(
+                f,
+                "If the clock is right, a check was recorded while it was ahead: write --trust-clock."
             ),
             Advice::OtherProgram => write!(f, "Use the desk that made this store, or a newer one."),
             Advice::Restore => write!(f, "Give the file of a store, or bring back a backup of it."),
+            Advice::FirstLook => write!(
+                f,
+                "First look that no other desk or sqlite3 uses it; else give the file of a store, or bring back a backup of it."
+            ),
             Advice::ShortKey => write!(
                 f,
                 "Put the key alone into the first line of the file: at most 4096 bytes."
@@ -145,6 +166,18 @@ impl fmt::Display for Advice {
             Advice::KnownNumber => write!(
                 f,
                 "Give the number of an accession that stands: desk show checks names them all."
+            ),
+            Advice::SaveFirst => write!(
+                f,
+                "Save it as a file, and give its path: then more can be said of it."
+            ),
+            Advice::OtherCopy => write!(
+                f,
+                "The file is damaged in this image: copy the disk again, or look for another copy of it."
+            ),
+            Advice::ShowSize => write!(
+                f,
+                "desk list KIND FILE --explain says how many bytes the file of a row has, and which kind fits."
             ),
         }
     }

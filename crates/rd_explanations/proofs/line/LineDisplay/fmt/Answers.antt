@@ -11,6 +11,10 @@ pub returns-in-TooLong-clause-writes : goal.returns-in-TooLong-clause-writes
 returns-in-TooLong-clause-writes g c = λ plain ok.
     subst (λ line. HasWritten g.W.Write.write_str_gives c.args.f.now (line_text line) c.write-in-TooLong.new.self) (sym c.in-TooLong.is) (c.write-in-TooLong.ensures.writes plain ok)
 
+pub returns-in-OtherSize-clause-writes : goal.returns-in-OtherSize-clause-writes
+returns-in-OtherSize-clause-writes g c = λ plain ok.
+    subst (λ line. HasWritten g.W.Write.write_str_gives c.args.f.now (line_text line) c.write-in-OtherSize.new.self) (sym c.in-OtherSize.is) (c.write-in-OtherSize.ensures.writes plain ok)
+
 pub returns-in-Length-clause-writes : goal.returns-in-Length-clause-writes
 returns-in-Length-clause-writes g c = λ plain ok.
     subst (λ line. HasWritten g.W.Write.write_str_gives c.args.f.now (line_text line) c.write-in-Length.new.self) (sym c.in-Length.is) (c.write-in-Length.ensures.writes plain ok)
