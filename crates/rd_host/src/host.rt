@@ -74,7 +74,8 @@ fn open_store(
 }
 
 /// Whether the file at a path begins as a database whose pages do not end in sums, as its byte 20 says. It looks at no more
-/// than that byte and those before it, and only in an ordinary file; one with fewer bytes is no database yet.
+/// than that byte and those before it, and only in an ordinary file; one with fewer bytes is no database yet, nor is one
+/// whose first byte is 0, which a crash leaves while a database is made.
 ///
 /// It fails when it cannot read the file.
 fn is_without_sums(rt: &HostRuntime, path: &str) -> Result<bool, MachineFault> {
@@ -86,7 +87,7 @@ fn is_without_sums(rt: &HostRuntime, path: &str) -> Result<bool, MachineFault> {
     }
     let mut file = fs::open(rt, path)?;
     let head = read_front(rt.alloc(), KEPT_FREE_AT + 1, &mut file)?;
-    Ok(head.len() > KEPT_FREE_AT && head[KEPT_FREE_AT] != SUM_LENGTH)
+    Ok(head.len() > KEPT_FREE_AT && head[0] != 0 && head[KEPT_FREE_AT] != SUM_LENGTH)
 }
 
 /// Makes an empty file that its owner alone may open. It answers false where something is at the path already, to which it
@@ -235,15 +236,28 @@ fn folder_of(path: &str) -> &str {
     }
 }
 
-/// Whether a file is a database, or empty: no other file is opened as one, since a log would be left beside it. Of what is
-/// no file, such as a folder or a pipe, nothing is read: `sqlite` says what it is.
+/// Whether the log of a database stands beside a file.
+fn has_log(rt: &HostRuntime, path: &str) -> io::Result<bool> {
+    let real = fs::canonicalize(rt, path)?;
+    let log = format!(in rt.alloc(); "{}-wal", real.as_str())?;
+    Ok(fs::symlink_metadata(rt, log.as_str()).is_ok())
+}
+
+/// Whether a file is empty, begins as a database, or has a log beside it: no other file is opened as a database, since a
+/// log would be left there. Where one is, a crash may have left the first page in part, or none of it as it was: `sqlite`
+/// tells that from another file. Of what is no file, such as a folder or a pipe, nothing is read: `sqlite` says what it is.
 fn may_be_database(rt: &HostRuntime, path: &str) -> io::Result<bool> {
     if !fs::metadata(rt, path)?.is_file() {
         return Ok(true);
     }
-    let mut head = [0; 16];
-    let count = fs::open(rt, path)?.read(&mut head)?;
-    Ok(count == 0 || &head[..count] == DATABASE_HEAD)
+    let mut head = Vec::new(rt.alloc());
+    fs::open(rt, path)?
+        .take(DATABASE_HEAD.len() as u64)
+        .read_to_end(&mut head)?;
+    if head.is_empty() || head.as_slice() == DATABASE_HEAD {
+        return Ok(true);
+    }
+    has_log(rt, path)
 }
 
 impl<D: Door + Drop, P: Places<D> + Drop> Host<'_, D, P> {
@@ -372,9 +386,9 @@ impl<'a, D: Door + Drop, P: Places<D> + Drop> Machine for Host<'a, D, P> {
         }
     }
 
-    /// It opens no file that is there and is neither empty nor a database. One that goes away between this look and the
-    /// opening is made anew, empty. It also fails where sums are asked for and a database without them is there, in which
-    /// nothing stands: it would keep its kind.
+    /// It opens no file that is there, is neither empty nor a database, and has no log beside it. One that goes away
+    /// between this look and the opening is made anew, empty. It also fails where sums are asked for and a database
+    /// without them is there, in which nothing stands: it would keep its kind.
     fn connect(
         &mut self,
         path: &str,
