@@ -15,6 +15,7 @@ use Rattle.rd_program.specs.Leaves.{GivesBack, HasBoth, IfBoth, IsReached, IsSam
 use Rattle.rd_program.specs.Serving.{IsOpenRefusal}
 use Rattle.rd_commands.specs.Refusals.{status_of}
 use Rattle.rd_commands.specs.declared.refusal.Refusal.{Refusal}
+use Rattle.rd_commands.specs.declared.refusal.Refusal.TheVariants.{NoMemory, NotADesk, Store}
 
 -- ---- two connections that are told
 
@@ -38,6 +39,12 @@ module _ {S : Type 0} where
   leaves_weaker was (Some before) None P Q weaker leaves = tt
   leaves_weaker was (Some before) (Some after) P Q weaker (inl none) = inl none
   leaves_weaker was (Some before) (Some after) P Q weaker (inr fact) = inr (weaker before after fact)
+
+-- a connection that is not made is one of the failures of opening
+pub unconnected_opening : (refusal : Refusal) → (refusal ≡ NotADesk) ⊎ ((refusal ≡ Store) ⊎ (refusal ≡ NoMemory)) → IsOpenRefusal refusal
+unconnected_opening refusal (inl missing) = inl missing
+unconnected_opening refusal (inr (inl failed)) = inr (inr (inr (inl failed)))
+unconnected_opening refusal (inr (inr memory)) = inr (inr (inr (inr memory)))
 
 -- a machine that shows its connections has the one that it was given last
 pub gives_back : {S : Type 0} (shows : Bool) (was new : Option (Held S)) (conn : Held S) → (IsTrue shows → new ≡ Some conn) → GivesBack shows was new
@@ -124,6 +131,15 @@ module _ {S : Type 0} (g : Ghosts S) where
       (of_fault open_fault.Sql) (subst (LeavesUnopened g was old new) is left)
   unopened_with was old new P of_fault refusal (inr (inr (inr (inr is)))) left =
       none_left was old new P (subst (LeavesUnopened g was old new) is left)
+
+  -- where there is no connection, none stood if no file is there, and none was taken back
+  pub unconnected_left : (was old new : Option (Held S)) (refusal : Refusal) → (refusal ≡ NotADesk) ⊎ ((refusal ≡ Store) ⊎ (refusal ≡ NoMemory))
+      → (refusal ≡ NotADesk → old ≡ None) → LeavesNone was new → LeavesUnopened g was old new refusal
+  unconnected_left was old new refusal (inl missing) absent none =
+      subst (LeavesUnopened g was old new) (sym missing) (subst (λ o. LeavesUnopened g was o new NotADesk) (sym (absent missing)) tt)
+  unconnected_left was old new refusal (inr (inl failed)) absent none =
+      subst (LeavesUnopened g was old new) (sym failed) (none_left was old new (λ before after. IsNotMigrated g before after open_fault.Sql) none)
+  unconnected_left was old new refusal (inr (inr memory)) absent none = subst (LeavesUnopened g was old new) (sym memory) none
 
   pub unopened_left : (was old new : Option (Held S)) (Reached : Desk → Desk → Type 0) (refusal : Refusal) → IsOpenRefusal refusal
       → LeavesUnopened g was old new refusal → Leaves was old new (LeavesStore g Reached)
