@@ -134,11 +134,11 @@ early_never refusal (inr (inr memory)) = subst (λ r. status_of r ≢ 2) (sym me
 
 -- ---- what is written at 1
 
-pub kept_alike : {Keeps : Type 0} (result : Result Done Refusal) (new old : Ask) → (TellsInRows new → TellsInRows old)
-    → (IsExtraction new → IsExtraction old) → IfErr result (λ refusal. status_of refusal ≡ 1 → Keeps ⊎ (TellsInRows new ⊎ IsExtraction new))
-    → IfErr result (λ refusal. status_of refusal ≡ 1 → Keeps ⊎ (TellsInRows old ⊎ IsExtraction old))
-kept_alike (Ok done) new old rows files kept = tt
-kept_alike (Err refusal) new old rows files kept = λ one. elim (kept one) [
+pub kept_alike : (Kept : Type 0) (result : Result Done Refusal) (new old : Ask) → (TellsInRows new → TellsInRows old)
+    → (IsExtraction new → IsExtraction old) → IfErr result (λ refusal. status_of refusal ≡ 1 → Kept ⊎ (TellsInRows new ⊎ IsExtraction new))
+    → IfErr result (λ refusal. status_of refusal ≡ 1 → Kept ⊎ (TellsInRows old ⊎ IsExtraction old))
+kept_alike Kept (Ok done) new old rows files kept = tt
+kept_alike Kept (Err refusal) new old rows files kept = λ one. elim (kept one) [
   | inl keeps ↦ inl keeps
   | inr (inl tells) ↦ inr (inl (rows tells))
   | inr (inr extracts) ↦ inr (inr (files extracts))

@@ -1,4 +1,5 @@
 use Rattle.std.proofs.Common.{◌≡◌, ◌∙◌, ◌≤◌, ap, arith, inl, inr, subst, sym}
+use Rattle.std.specs.Io.KnownBytes.{Keeps}
 use Rattle.std.proofs.KnownBytes.{Keeps-refl}
 use Rattle.std.proofs.lemmas.Result.{IfErr-weaker, IfOk-weaker}
 use Rattle.rd_commands.proofs.ReadLimits.{reads_after, reads_within}
@@ -16,7 +17,8 @@ perform-requires g c = (whole_alike _ _ c.args.told c.in-Ok-completed.ask (c.in-
 pub returns-in-Ok-completed-clause-kept : goal.returns-in-Ok-completed-clause-kept
 returns-in-Ok-completed-clause-kept g c =
     let alike = whole_alike _ _ c.args.told c.in-Ok-completed.ask (c.in-Ok-completed.ensures.completes _ _ c.in-Ok.ensures.read) in
-    kept_alike c.perform.result c.in-Ok-completed.ask c.args.told.ask alike.rows alike.files c.perform.ensures.kept
+    kept_alike (Keeps (g.W.Write.contents c.args.output.now) (g.W.Write.contents c.perform.new.output)) c.perform.result c.in-Ok-completed.ask c.args.told.ask alike.rows alike.files
+    c.perform.ensures.kept
 
 pub returns-in-Ok-completed-clause-in_part : goal.returns-in-Ok-completed-clause-in_part
 returns-in-Ok-completed-clause-in_part g c =
