@@ -473,25 +473,28 @@ struct Noted<W: Write + Drop> {
 
 impl<W: Write + Drop> Noted<W> {
     /// Keeps what the system said of a call that failed. One that was interrupted is made again, and is no fault.
-    fn note<T>(&mut self, called: io::Result<T>) -> io::Result<T> {
-        if let Err(error) = &called {
-            if error.kind() != ErrorKind::Interrupted {
-                self.said = Some(Said::of(error.kind()));
-            }
+    fn note(&mut self, error: &io::Error) {
+        if error.kind() != ErrorKind::Interrupted {
+            self.said = Some(Said::of(error.kind()));
         }
-        called
     }
 }
 
 impl<W: Write + Drop> Write for Noted<W> {
     fn write(&mut self, buf: &[u8]) -> io::Result<usize> {
         let written = self.inner.write(buf);
-        self.note(written)
+        if let Err(error) = &written {
+            self.note(error);
+        }
+        written
     }
 
     fn flush(&mut self) -> io::Result<()> {
         let flushed = self.inner.flush();
-        self.note(flushed)
+        if let Err(error) = &flushed {
+            self.note(error);
+        }
+        flushed
     }
 }
 
