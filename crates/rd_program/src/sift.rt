@@ -132,9 +132,9 @@ fn answer_to_row<M: Machine>(
     requires within { IsWithin row }
     ensures zone { desk.new.zone ≡ desk.old.zone }
     ensures dry { way.dry_run ≡ true → Reads M.Disk.Store desk.old.store desk.new.store result
-        (WouldAnswer shelf.old.images.items shelf.new.images.items (desk_in M.Disk.Store desk.old.store) giver.badge (spec.shelved_row row.entry) bytes.entry.items) }
+        (WouldAnswer shelf.old.images.items shelf.new.images.items (desk_in M.Disk.Store desk.old.store) giver.badge (spec.shelved_row row.entry) bytes.items) }
     ensures wet { way.dry_run ≡ false → Responds M.Disk.Store desk.old.store desk.new.store giver.day
-        (spec.put_of giver.badge row.entry bytes.entry.items) result }
+        (spec.put_of giver.badge row.entry bytes.items) result }
     ensures shelf { way.dry_run ≡ false → shelf.new.images.items ≡ shelf.old.images.items }
 {
     if !way.dry_run {
