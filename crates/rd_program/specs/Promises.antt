@@ -16,7 +16,7 @@ use Rattle.rd_store.specs.Held.{Lasts}
 use Rattle.rd_holdings.specs.declared.rows.Outcome.TheVariants.{Changed, Sound}
 use Rattle.rd_protocol.specs.declared.request.What.{What}
 use Rattle.rd_protocol.specs.declared.request.What.TheVariants as request
-use Rattle.rd_commands.specs.Beside.{IsTakenApart}
+use Rattle.rd_commands.specs.Beside.{FitsTogether, IsTakenApart}
 use Rattle.rd_commands.specs.Cat.{HasNoSoundFile, IsCut, Refuses, Serves}
 use Rattle.rd_commands.specs.CommandLine.{AsksForHelp, AsksForVersion, IsTaken, IsTakenAs, IsTakenTelling}
 use Rattle.rd_commands.specs.Commands.{AsksCopy, AsksOfStore, IsCommand, IsTakenServingNowhere, IsTakenShowingNothing, NamesAPlace, NamesWhatItShows, TellsARule, Trusts}
@@ -64,8 +64,9 @@ EndsSaying text result errors told = ((result ≡ 2) × AppendsPart errors told 
 
 -- At 0 and 1 the words are a command. At 0 they may also ask for help, or for the version, and then exactly the help that
 -- they ask for is written, or the line of the version. At 0 and 1, a command that has clocks has a rule as the text of
--- `--zone`, or none; `show` names what it shows, and a date where that needs one; and `serve` names no more than one of a
--- port and a Unix socket. If they do not, the words are a mistake, or memory ran out; and so it is with words that
+-- `--zone`, or none; its options go together: a key where it needs one, no key and no rule in two places, and a moment
+-- as the text of `--at`; `show` names what it shows, and a date where that needs one; and `serve` names no more than one
+-- of a port and a Unix socket. If they do not, the words are a mistake, or memory ran out; and so it is with words that
 -- are no command, unless they ask for help or the version. At 2 they are no plain form of `cat` or `list`, and no form of
 -- another command. Of words of `show` that name nothing, of words of `serve` that name two places, and of others without a
 -- rule whose options go together the errors get no more than the text that says so.
@@ -76,6 +77,8 @@ pub record EndsByWords (words : List (List ℕ)) (result : ℕ) (out written err
   pub zone : result ≤ 1 → TellsARule words
   pub no_rule : ¬ TellsARule words → EndsAsMistake result errors told
   pub no_rule_told : ¬ TellsARule words → ¬ IsTakenShowingNothing words → ¬ IsTakenServingNowhere words → ¬ IsTakenApart words → EndsSaying zone_mistake result errors told
+  pub together : result ≤ 1 → FitsTogether words
+  pub apart : ¬ FitsTogether words → EndsAsMistake result errors told
   pub named : result ≤ 1 → NamesWhatItShows words
   pub none_named : ¬ NamesWhatItShows words → EndsSaying day_mistake result errors told
   pub place : result ≤ 1 → NamesAPlace words

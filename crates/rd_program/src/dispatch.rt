@@ -296,14 +296,14 @@ pub fn run<'a, R: Read, W: Write, E: Write, M: Machine>(
     // Where the run keeps why a command was refused, that has this status.
     ensures why { why.old.refused ≡ None → IfSome why.new.refused (λ refusal. status_of refusal ≡ result) }
     // What it keeps of the words is what they tell, in all forms: operands in files, and days in place of moments. It did
-    // that, once the files were read, or was refused, with the status and the line of that. At 0 without it, the words ask
-    // for help or the version.
+    // that, once the files were read, or was refused, with the status and the line of that. At 0 and 1 without it, the
+    // words ask for help or the version.
     ensures told { why.old.told ≡ None → IfSome why.new.told (TellsAll (texts words.entry.now)) }
     ensures so { why.old.told ≡ None → IfSome why.new.told (λ told. RunsSo M.Disk.Store M.Door.told M.Door.coming
         (sight M.shows M.clock M.file_bytes M.sheet_bytes M.stands M.left M.wanted M.sums M.door M.door_limits M.made M.fresh M.new_stores M.written machine.old)
         (sight M.shows M.clock M.file_bytes M.sheet_bytes M.stands M.left M.wanted M.sums M.door M.door_limits M.made M.fresh M.new_stores M.written machine.new)
         (R.remaining input.old) (W.contents output.old) (W.contents output.new) (E.contents errors.old) (E.contents errors.new) told result) }
-    ensures untold { result ≡ 0 → why.new.told ≡ None → AsksForHelp (texts words.entry.now) ⊎ AsksForVersion (texts words.entry.now) }
+    ensures untold { result ≤ 1 → why.new.told ≡ None → AsksForHelp (texts words.entry.now) ⊎ AsksForVersion (texts words.entry.now) }
 
     // Of an image, on standard input or in a file that the machine shows.
     ensures cat { DoesCat (texts words.entry.now) result (R.remaining input.old) (M.file_bytes machine.old)

@@ -59,6 +59,8 @@ returns-in-Ok-perform_told-clause-by_words g c = record {
   zone = λ well. c.in-Ok.ensures.zone;
   no_rule = λ none. absurd (none c.in-Ok.ensures.zone);
   no_rule_told = λ none named placed fit. absurd (none c.in-Ok.ensures.zone);
+  together = λ well. c.in-Ok.ensures.together;
+  apart = λ none. absurd (none c.in-Ok.ensures.together);
   named = λ well. c.in-Ok.ensures.shown;
   none_named = λ none. absurd (none c.in-Ok.ensures.shown);
   place = λ well. c.in-Ok.ensures.place;
@@ -74,6 +76,8 @@ returns-in-Err-perform_told-clause-by_words g c = record {
   zone = λ well. c.in-Ok.ensures.zone;
   no_rule = λ none. absurd (none c.in-Ok.ensures.zone);
   no_rule_told = λ none named placed fit. absurd (none c.in-Ok.ensures.zone);
+  together = λ well. c.in-Ok.ensures.together;
+  apart = λ none. absurd (none c.in-Ok.ensures.together);
   named = λ well. c.in-Ok.ensures.shown;
   none_named = λ none. absurd (none c.in-Ok.ensures.shown);
   place = λ well. c.in-Ok.ensures.place;
@@ -103,6 +107,16 @@ returns-in-Err-clause-by_words g c = record {
     | inl mistake ↦
         let usage = no_other_mistake _ _ _ c.in-Err.unread mistake c.in-Err.ensures.day c.in-Err.ensures.placeless c.in-Err.ensures.mixed named placed fit in
         inl (c.tell_unread.ensures.mistaken (inl usage), c.tell_unread.ensures.mistake_written usage)
+    | inr memory ↦ inr (tells (λ refusal. refusal ≡ NoMemory) NoMemory _ _ _ refl (c.tell_unread.ensures.memory memory).0 (c.tell_unread.ensures.no_memory memory))
+  ];
+  together = λ well name rows enters.
+      let zero : c.tell_unread.result ≡ 0 = omega (arith, c.tell_unread.ensures.not_refused, well) in
+      absurd (elim (c.tell_unread.ensures.shown zero) as (λ _. ⊥) [
+        | inl help ↦ no_fault_in _ name rows _ enters (help_asked _ c.in-Err.unread help.0 c.in-Err.ensures.mistake_in)
+        | inr version ↦ no_fault_in _ name rows _ enters (version_asked _ c.in-Err.unread version.0 c.in-Err.ensures.mistake_in)
+      ]);
+  apart = λ none. elim (c.in-Err.ensures.apart none) [
+    | inl mistake ↦ inl (c.tell_unread.ensures.mistaken mistake)
     | inr memory ↦ inr (tells (λ refusal. refusal ≡ NoMemory) NoMemory _ _ _ refl (c.tell_unread.ensures.memory memory).0 (c.tell_unread.ensures.no_memory memory))
   ];
   named = λ well rows enters.
@@ -391,16 +405,18 @@ pub returns-in-Err-clause-so : goal.returns-in-Err-clause-so
 returns-in-Err-clause-so g c = λ none. none_so _ c.args.why.now.told none
 
 pub returns-in-Ok-perform_told-clause-untold : goal.returns-in-Ok-perform_told-clause-untold
-returns-in-Ok-perform_told-clause-untold g c = λ zero none. absurd (is_told c.in-Ok.told _ refl none)
+returns-in-Ok-perform_told-clause-untold g c = λ well none. absurd (is_told c.in-Ok.told _ refl none)
 
 pub returns-in-Err-perform_told-clause-untold : goal.returns-in-Err-perform_told-clause-untold
-returns-in-Err-perform_told-clause-untold g c = λ zero none. absurd (is_told c.in-Ok.told _ c.tell_and_keep.ensures.told none)
+returns-in-Err-perform_told-clause-untold g c = λ well none. absurd (is_told c.in-Ok.told _ c.tell_and_keep.ensures.told none)
 
 pub returns-in-Err-clause-untold : goal.returns-in-Err-clause-untold
-returns-in-Err-clause-untold g c = λ zero none. elim (c.tell_unread.ensures.shown zero) [
-  | inl help ↦ inl (help_asked _ c.in-Err.unread help.0 c.in-Err.ensures.mistake_in)
-  | inr version ↦ inr (version_asked _ c.in-Err.unread version.0 c.in-Err.ensures.mistake_in)
-]
+returns-in-Err-clause-untold g c = λ well none.
+    let zero : c.tell_unread.result ≡ 0 = omega (arith, c.tell_unread.ensures.not_refused, well) in
+    elim (c.tell_unread.ensures.shown zero) [
+      | inl help ↦ inl (help_asked _ c.in-Err.unread help.0 c.in-Err.ensures.mistake_in)
+      | inr version ↦ inr (version_asked _ c.in-Err.unread version.0 c.in-Err.ensures.mistake_in)
+    ]
 
 -- ---- a file of an image
 
