@@ -21,7 +21,7 @@ is_told told kept some none = cc (some, none)
 
 -- the status of what was done is that of its end, and nothing is written of it
 pub ends_by : (done : Done) (status : ℕ) (errors : Option (List ℕ)) → status ≤ 1 → (status ≡ 0 → done ≡ Whole) → (status ≢ 0 → done ≡ InPart) → EndsSo (Ok done) status errors errors
-ends_by Whole 0 errors most whole in_part = (refl, Keeps-refl errors)
-ends_by Whole (suc n) errors most whole in_part = absurd (cc (in_part (λ zero. omega (arith, zero))))
-ends_by InPart 0 errors most whole in_part = absurd (cc (whole refl))
+ends_by Whole zero errors most whole in_part = (refl, Keeps-refl errors)
+ends_by Whole (suc n) errors most whole in_part = absurd (cc (in_part (λ none. omega (arith, none))))
+ends_by InPart zero errors most whole in_part = absurd (cc (whole refl))
 ends_by InPart (suc n) errors most whole in_part = (omega (arith, most), Keeps-refl errors)

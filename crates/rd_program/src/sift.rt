@@ -353,7 +353,6 @@ fn sift_sheet<W: Write, M: Machine>(
         (moment_of ask.entry.import.when.seconds (M.clock machine.old)) desk.old.zone desk.old.store desk.new.store) }
     ensures opened { IfErr result IsOfOpenDesk }
     ensures refused { IfErr result IsSiftRefusal }
-    ensures left { M.left machine.new ≡ M.left machine.old }
     ensures shows { M.shows machine.new ≡ M.shows machine.old }
     ensures asked { M.wanted machine.new ≡ M.wanted machine.old }
 {

@@ -12,7 +12,7 @@ use Rattle.rd_program.proofs.dispatch.perform_completed.Goals as goal
 -- ---- what is whole
 
 pub perform-requires : goal.perform-requires
-perform-requires g c = (whole_alike _ _ c.args.told c.in-Ok-completed.ask (c.in-Ok-completed.ensures.completes _ _ c.in-Ok.ensures.read)).within c.requires.accession
+perform-requires g c = record { accession = (whole_alike _ _ c.args.told c.in-Ok-completed.ask (c.in-Ok-completed.ensures.completes _ _ c.in-Ok.ensures.read)).within c.requires.accession }
 
 pub returns-in-Ok-completed-clause-kept : goal.returns-in-Ok-completed-clause-kept
 returns-in-Ok-completed-clause-kept g c =
@@ -77,21 +77,21 @@ returns-in-Ok-completed-clause-completed g c =
 
 -- ---- a day without a moment
 
-pub returns-in-Err-completed-clause-never : goal.returns-in-Err-completed-clause-never
-returns-in-Err-completed-clause-never g c = early_never c.in-Err-completed.refused c.in-Err-completed.ensures.early
+pub returns-in-Ok-clause-never : goal.returns-in-Ok-clause-never
+returns-in-Ok-clause-never g c = early_never c.in-Err-completed.refused c.in-Err-completed.ensures.early
 
-pub returns-in-Err-completed-clause-kept : goal.returns-in-Err-completed-clause-kept
-returns-in-Err-completed-clause-kept g c = λ one. inl (Keeps-refl _)
+pub returns-in-Ok-clause-kept : goal.returns-in-Ok-clause-kept
+returns-in-Ok-clause-kept g c = λ one. inl (Keeps-refl _)
 
-pub returns-in-Err-completed-clause-back : goal.returns-in-Err-completed-clause-back
-returns-in-Err-completed-clause-back g c =
+pub returns-in-Ok-clause-back : goal.returns-in-Ok-clause-back
+returns-in-Ok-clause-back g c =
     subst (λ machine. GivesBack (g.M.Machine.shows c.args.machine.now) (g.M.Machine.left c.args.machine.now) (g.M.Machine.left machine)) (sym c.read_operands.ensures.same) (λ shows had. had)
 
-pub returns-in-Err-completed-clause-limit : goal.returns-in-Err-completed-clause-limit
-returns-in-Err-completed-clause-limit g c = reads_within _ _ _ _ (omega arith) c.read_operands.ensures.limit
+pub returns-in-Ok-clause-limit : goal.returns-in-Ok-clause-limit
+returns-in-Ok-clause-limit g c = reads_within _ _ _ _ (omega arith) c.read_operands.ensures.limit
 
-pub returns-in-Err-completed-clause-completed : goal.returns-in-Err-completed-clause-completed
-returns-in-Err-completed-clause-completed g c = inr (record {
+pub returns-in-Ok-clause-completed : goal.returns-in-Ok-clause-completed
+returns-in-Ok-clause-completed g c = inr (record {
   refused = tt;
   why = c.in-Err-completed.ensures.early;
   same = ap (sight g.M.Machine.shows g.M.Machine.clock g.M.Files.file_bytes g.M.Files.sheet_bytes g.M.Machine.stands g.M.Machine.left g.M.Machine.wanted g.M.Machine.sums g.M.Machine.door g.M.Machine.door_limits g.M.Machine.made g.M.Machine.fresh g.M.Machine.new_stores g.M.Machine.written) c.read_operands.ensures.same;
@@ -100,21 +100,21 @@ returns-in-Err-completed-clause-completed g c = inr (record {
 
 -- ---- a file that is not read
 
-pub returns-in-Err-clause-never : goal.returns-in-Err-clause-never
-returns-in-Err-clause-never g c = early_never c.in-Err.refused c.in-Err.ensures.early
+pub returns-clause-never : goal.returns-clause-never
+returns-clause-never g c = early_never c.in-Err.refused c.in-Err.ensures.early
 
-pub returns-in-Err-clause-kept : goal.returns-in-Err-clause-kept
-returns-in-Err-clause-kept g c = λ one. inl (Keeps-refl _)
+pub returns-clause-kept : goal.returns-clause-kept
+returns-clause-kept g c = λ one. inl (Keeps-refl _)
 
-pub returns-in-Err-clause-back : goal.returns-in-Err-clause-back
-returns-in-Err-clause-back g c =
+pub returns-clause-back : goal.returns-clause-back
+returns-clause-back g c =
     subst (λ machine. GivesBack (g.M.Machine.shows c.args.machine.now) (g.M.Machine.left c.args.machine.now) (g.M.Machine.left machine)) (sym c.read_operands.ensures.same) (λ shows had. had)
 
-pub returns-in-Err-clause-limit : goal.returns-in-Err-clause-limit
-returns-in-Err-clause-limit g c = reads_within _ _ _ _ (omega arith) c.read_operands.ensures.limit
+pub returns-clause-limit : goal.returns-clause-limit
+returns-clause-limit g c = reads_within _ _ _ _ (omega arith) c.read_operands.ensures.limit
 
-pub returns-in-Err-clause-completed : goal.returns-in-Err-clause-completed
-returns-in-Err-clause-completed g c = inr (record {
+pub returns-clause-completed : goal.returns-clause-completed
+returns-clause-completed g c = inr (record {
   refused = tt;
   why = c.in-Err.ensures.early;
   same = ap (sight g.M.Machine.shows g.M.Machine.clock g.M.Files.file_bytes g.M.Files.sheet_bytes g.M.Machine.stands g.M.Machine.left g.M.Machine.wanted g.M.Machine.sums g.M.Machine.door g.M.Machine.door_limits g.M.Machine.made g.M.Machine.fresh g.M.Machine.new_stores g.M.Machine.written) c.read_operands.ensures.same;

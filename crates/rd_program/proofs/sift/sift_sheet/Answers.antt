@@ -1,7 +1,8 @@
-use Rattle.std.proofs.Common.{FitsSigned, rules, subst, sym, w32}
+use Rattle.std.proofs.Common.{◌≡◌, FitsSigned, IfSome, ap, rules, subst, sym, w32}
 use Rattle.std.proofs.lemmas.Int.{to_z-of_z}
 use Rattle.sha2.specs.Sha256.{sha256}
 use Rattle.rd_program.specs.Leaves.{IsDayAt, moment_of}
+use Rattle.rd_program.specs.Sifting.{way_asked}
 use Rattle.rd_program.proofs.LeftStores.{still_same}
 use Rattle.rd_program.proofs.OnTimeLemmas.{on_time_from}
 use Rattle.rd_program.proofs.ShowLemmas.{passed_on}
@@ -41,13 +42,19 @@ returns-clause-takes g c =
 pub returns-clause-sifted : goal.returns-clause-sifted
 returns-clause-sifted g c =
     let fits : FitsSigned w32 c.in_ok-day.day = search rules in
-    sifted_on g.M.Disk.Store (g.M.Files.file_bytes c.args.machine.now) (g.M.Files.file_bytes c.day_on_time.new.machine) _
+    let opened = c.day_on_time.new.machine in
+    let path = c.args.ask.import.sheet.now in
+    let read = subst (λ b. IfSome (g.M.Files.sheet_bytes opened path) (λ sheet. b ≡ sheet)) (sym c.as_slice.ensures.value) c.in-Ok.ensures.bytes in
+    sifted_on g.M.Disk.Store (g.M.Files.file_bytes c.args.machine.now) (g.M.Files.file_bytes opened) (way_asked c.args.ask)
     (IsDayAt (moment_of c.args.ask.import.when.seconds (g.M.Machine.clock c.args.machine.now)) c.args.desk.now.zone)
-    (g.M.Files.sheet_bytes c.args.machine.now c.args.ask.import.sheet.now) _ _ c.ended_by.result _ (sha256 c.args.ask.import.key.now) _ _ c.args.desk.now.store c.day_on_time.new.desk.store
-    c.sift_rows.new.desk.store c.in_ok-sift_rows.field-0 (search rules)
+    (g.M.Files.sheet_bytes c.args.machine.now path) (g.W.Write.contents c.args.output.now) (g.W.Write.contents c.sift_rows.new.output) c.ended_by.result
+    c.digest-badge.result (sha256 c.args.ask.import.key.now) c.as_slice.result.now _ c.args.desk.now.store c.day_on_time.new.desk.store
+    c.sift_rows.new.desk.store c.in_ok-sift_rows.field-0 c.day_on_time.ensures.files.0
     (still_same g.M.Disk.Store c.args.desk.now.store c.day_on_time.new.desk.store c.day_on_time.ensures.reads) (λ o. c.sift_rows.ensures.takes.lasts.was_open o)
     (subst (IsDayAt (moment_of c.args.ask.import.when.seconds (g.M.Machine.clock c.args.machine.now)) c.args.desk.now.zone) (sym (to_z-of_z w32 c.in_ok-day.day fits)) c.in_ok-day.ensures.day)
-    c.digest-badge.ensures (search rules) c.in_ok-sift_rows.ensures.rows c.ended_by.ensures.ended
+    c.digest-badge.ensures
+    (subst (λ shown. IfSome shown (λ sheet. c.as_slice.result.now ≡ sheet)) (ap (λ sheets. sheets path) c.day_on_time.ensures.files.1) read)
+    c.in_ok-sift_rows.ensures.rows c.ended_by.ensures.ended
 
 pub returns-clause-on_time : goal.returns-clause-on_time
 returns-clause-on_time g c = λ held.
