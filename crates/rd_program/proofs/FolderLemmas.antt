@@ -16,7 +16,7 @@ use Rattle.rd_commands.specs.Refusals.{IsDeviceOrMemory}
 use Rattle.rd_commands.proofs.WriterLemmas.{part_after, whole_part}
 use Rattle.rd_commands.specs.declared.refusal.Refusal.{Refusal}
 use Rattle.rd_commands.specs.declared.refusal.Refusal.TheVariants.{Device, NoMemory, WrongSize}
-use Rattle.rd_program.specs.Extracting.{Extracts, ExtractsPart, FailsOne, IsExtractRefusal, Made, MakesFiles, MakesNext, OfImage, RefusesExtract, is_given, line_of, made_of}
+use Rattle.rd_program.specs.Extracting.{AreNew, Extracts, ExtractsPart, FailsOne, IsExtractRefusal, IsNewPlace, Made, MakesAll, MakesFiles, MakesNext, OfImage, RefusesExtract, is_given, line_of, made_of}
 
 -- ---- the bytes of the image
 
@@ -79,15 +79,24 @@ given_same files n file inside is given =
     ∙ ap (λ b. filter is_given (take n files) ++ cond b (file ∷ []) []) given
     ∙ append-nil (filter is_given (take n files))
 
+-- a file is new after others that are
+new_more : (before files : List Made) (file : Made) → AreNew before files → IsNewPlace (before ++ files) file.folder file.name → AreNew before (files ++ file ∷ [])
+new_more before [] file are is = (subst (λ l. IsNewPlace l file.folder file.name) (append-nil before) is, tt)
+new_more before (made ∷ more) file are is =
+    (are.0, new_more (before ++ made ∷ []) more file are.1 (subst (λ l. IsNewPlace l file.folder file.name) (sym (append_assoc before (made ∷ []) more)) is))
+
 -- a file that is made after others
 made_after : (kind : Kind) (image folder : List ℕ) (done : List Found) (file : Found) (old mid new : Option (List Made))
-    → IfSome old (λ before. mid ≡ Some (before ++ map (made_of kind image folder) done)) → MakesNext mid new (made_of kind image folder file)
-    → IfSome old (λ before. new ≡ Some (before ++ map (made_of kind image folder) (done ++ file ∷ [])))
+    → MakesAll old mid (map (made_of kind image folder) done) → MakesNext mid new (made_of kind image folder file)
+    → MakesAll old new (map (made_of kind image folder) (done ++ file ∷ []))
 made_after kind image folder done file None mid new made next = tt
 made_after kind image folder done file (Some before) mid new made next =
-    let so : new ≡ Some ((before ++ map (made_of kind image folder) done) ++ made_of kind image folder file ∷ []) = subst (λ m. MakesNext m new (made_of kind image folder file)) made next in
-    so ∙ ap Some (append_assoc before (map (made_of kind image folder) done) (made_of kind image folder file ∷ [])
-    ∙ ap (λ l. before ++ l) (sym (map-append (made_of kind image folder) done (file ∷ []))))
+    let made_file = made_of kind image folder file in
+    let files = map (made_of kind image folder) done in
+    let both : (new ≡ Some ((before ++ files) ++ made_file ∷ [])) × IsNewPlace (before ++ files) folder made_file.name = subst (λ m. MakesNext m new made_file) made.0 next in (
+      both.0 ∙ ap Some (append_assoc before files (made_file ∷ []) ∙ ap (λ l. before ++ l) (sym (map-append (made_of kind image folder) done (file ∷ [])))),
+      subst (λ l. AreNew before l) (sym (map-append (made_of kind image folder) done (file ∷ []))) (new_more before files made_file made.1 both.1),
+    )
 
 -- the lines of files, with one more
 lines_after : (kind : Kind) (image folder : List ℕ) (done : List Found) (file : Found)
@@ -119,9 +128,9 @@ makes_same kind image folder files n file old new out after inside is given make
 pub makes_none : (kind : Kind) (image folder : List ℕ) (old : Option (List Made)) (out : Option (List ℕ)) → MakesFiles kind image folder [] old old out out
 makes_none kind image folder old out = record { made = none old; lines = Appends-nil out }
   where
-    none : (made : Option (List Made)) → IfSome made (λ before. made ≡ Some (before ++ []))
+    none : (made : Option (List Made)) → MakesAll made made []
     none None = tt
-    none (Some before) = ap Some (sym (append-nil before))
+    none (Some before) = (ap Some (sym (append-nil before)), tt)
 
 -- ---- at the end
 
@@ -136,7 +145,7 @@ extracts_all kind image folder files n old new out after are past makes = record
 
 -- a front part of them was
 part_of_all : (kind : Kind) (image folder : List ℕ) (files : List Found) (n : ℕ) (old new : Option (List Made)) (out after : Option (List ℕ)) → AreFounds kind image files
-    → IfSome old (λ before. new ≡ Some (before ++ map (made_of kind image folder) (filter is_given (take n files))))
+    → MakesAll old new (map (made_of kind image folder) (filter is_given (take n files)))
     → AppendsPart out after (concat (map (line_of kind image folder) (filter is_given (take n files)))) → ExtractsPart kind image folder old new out after
 part_of_all kind image folder files n old new out after are made lines = record {
   files = files;
@@ -154,11 +163,11 @@ pub extracts_part : (kind : Kind) (image folder : List ℕ) (files : List Found)
     → FailsOne (made_of kind image folder file) (line_of kind image folder file) mid new before after → ExtractsPart kind image folder old new out after
 extracts_part kind image folder files n file old mid new out before after are inside is given makes (inl none) =
     part_of_all kind image folder files n old new out after are
-    (subst (λ m. IfSome old (λ b. m ≡ Some (b ++ map (made_of kind image folder) (filter is_given (take n files))))) (sym none.0) makes.made)
+    (subst (λ m. MakesAll old m (map (made_of kind image folder) (filter is_given (take n files)))) (sym none.0) makes.made)
     (whole_part out before after _ makes.lines none.1)
 extracts_part kind image folder files n file old mid new out before after are inside is given makes (inr (next, part)) =
     part_of_all kind image folder files (n + 1) old new out after are
-    (subst (λ l. IfSome old (λ b. new ≡ Some (b ++ map (made_of kind image folder) l))) (sym (given_more files n file inside is given))
+    (subst (λ l. MakesAll old new (map (made_of kind image folder) l)) (sym (given_more files n file inside is given))
     (made_after kind image folder (filter is_given (take n files)) file old mid new makes.made next))
     (subst (λ l. AppendsPart out after (concat (map (line_of kind image folder) l))) (sym (given_more files n file inside is given))
     (part_after out before after _ (concat (map (line_of kind image folder) (filter is_given (take n files)))) (line_of kind image folder file) []

@@ -1,5 +1,5 @@
 -- What the command `files` makes of an image: a file in a folder for each sound file of the served class.
-use Rattle.std.specs.Prelude.{◌≡◌, ◌≢◌, ◌⊎◌, ◌++◌, ◌∷◌, ◌==◌, ◌&&◌, ⊤, [], ℕ, Bool, Err, IfSome, List, Ok, Option, Result, Some, codes, length, map}
+use Rattle.std.specs.Prelude.{◌≡◌, ◌≢◌, ◌⊎◌, ◌++◌, ◌∷◌, ◌==◌, ◌&&◌, ⊤, [], ℕ, All, Bool, Err, IfSome, List, Ok, Option, Result, Some, codes, length, map}
 use Rattle.std.specs.Fmt.{decimal}
 use Rattle.std.specs.Io.KnownBytes.{Appends, Keeps}
 use Rattle.std.specs.List.{concat, filter}
@@ -25,9 +25,22 @@ pub record Made : Type 0 where
   pub name : List ℕ
   pub bytes : List ℕ
 
--- a machine that shows what it made made this after that, and nothing else
+-- none of these files is in this folder under this name
+abbrev pub IsNewPlace : List Made → List ℕ → List ℕ → Type 0
+IsNewPlace before folder name = All (λ made. made.folder ≡ folder → made.name ≡ name → ⊥) before
+
+-- each of these is where none of those before it is
+abbrev pub AreNew : List Made → List Made → Type 0
+AreNew before [] = ⊤
+AreNew before (made ∷ more) = IsNewPlace before made.folder made.name × AreNew (before ++ made ∷ []) more
+
+-- a machine that shows what it made made this after that, over nothing, and nothing else
 abbrev pub MakesNext : Option (List Made) → Option (List Made) → Made → Type 0
-MakesNext old new made = IfSome old (λ before. new ≡ Some (before ++ made ∷ []))
+MakesNext old new made = IfSome old (λ before. (new ≡ Some (before ++ made ∷ [])) × IsNewPlace before made.folder made.name)
+
+-- it made these, in turn
+abbrev pub MakesAll : Option (List Made) → Option (List Made) → List Made → Type 0
+MakesAll old new files = IfSome old (λ before. (new ≡ Some (before ++ files)) × AreNew before files)
 
 -- the file is sound, and of a class that desk serves
 abbrev pub is_given : Found → Bool
@@ -47,9 +60,9 @@ made_line file made = line_text file.slot made.name (length made.bytes)
 abbrev pub line_of : Kind → List ℕ → List ℕ → Found → List ℕ
 line_of kind image folder file = made_line file (made_of kind image folder file)
 
--- These files of an image were made in a folder, in turn, and the lines of all were written.
+-- These files of an image were made in a folder, in turn and over nothing, and the lines of all were written.
 pub record MakesFiles (kind : Kind) (image folder : List ℕ) (files : List Found) (old new : Option (List Made)) (out written : Option (List ℕ)) : Type 0 where
-  pub made : IfSome old (λ before. new ≡ Some (before ++ map (made_of kind image folder) files))
+  pub made : MakesAll old new (map (made_of kind image folder) files)
   pub lines : Appends out written (concat (map (line_of kind image folder) files))
 
 -- All sound files of the served class of the image were made, and no other.
@@ -58,14 +71,14 @@ pub record Extracts (kind : Kind) (image folder : List ℕ) (old new : Option (L
   pub are : AreFounds kind image files
   pub makes : MakesFiles kind image folder (filter is_given files) old new out written
 
--- A front part of them was made: the next one was not, or its line was not written whole.
+-- A front part of them was made, over nothing: perhaps the next one was not, or its line was not written whole.
 pub record ExtractsPart (kind : Kind) (image folder : List ℕ) (old new : Option (List Made)) (out written : Option (List ℕ)) : Type 0 where
   pub files : List Found
   pub are : AreFounds kind image files
   pub done : List Found
   pub rest : List Found
   pub front : filter is_given files ≡ done ++ rest
-  pub made : IfSome old (λ before. new ≡ Some (before ++ map (made_of kind image folder) done))
+  pub made : MakesAll old new (map (made_of kind image folder) done)
   pub lines : AppendsPart out written (concat (map (line_of kind image folder) done))
 
 -- why a file is not made
