@@ -93,6 +93,12 @@ pub trait Machine: Files {
         false
     }
 
+    /// Whether an ordinary file is at a path, which gives its bytes once more when it is read again; a pipe does not, and may
+    /// make its reader wait. A machine need not have other files.
+    fn is_ordinary(&self, _path: &str) -> bool {
+        true
+    }
+
     /// A connection to the database in the file at a path, outside a transaction. If there is no file, it makes one where
     /// it is to, with a sum at the end of each page or without, and otherwise nothing.
     ///
