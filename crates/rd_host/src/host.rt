@@ -518,15 +518,25 @@ fn slices_of(alloc: Global, words: &[String]) -> Result<Vec<&str>, AllocError> {
     words.iter().map(|word| word.as_str()).collect(alloc)
 }
 
-/// Runs the program on these words and a machine with doors of any kind, on the input and the outputs of the process, and
-/// gives its exit status.
+/// A machine of the process that remembers for an explanation what the system said of its output.
+trait Hears: Machine {
+    /// Keeps what the system said when standard output last did not take what was written.
+    fn keep_output(&self, said: Said);
+}
+
+impl<D: Door + Drop, P: Places<D> + Drop> Hears for Host<'_, D, P> {
+    fn keep_output(&self, said: Said) {
+        self.remembered.keep("standard output", said);
+    }
+}
+
+// It takes a machine of any kind: where a type with several lifetimes, as `Host` has, is passed for a type parameter, the
+// call's signature may not name `'static`, and a zone that words tell holds it.
+
+/// Runs the program on these words and a machine, on the input and the outputs of the process, and gives its exit status.
 ///
 /// It fails with `NoMemory`.
-fn run_on<D: Door + Drop, P: Places<D> + Drop>(
-    rt: &HostRuntime,
-    words: &[&str],
-    host: &mut Host<'_, D, P>,
-) -> Result<u8, Refusal> {
+fn run_on<M: Hears>(rt: &HostRuntime, words: &[&str], machine: &mut M) -> Result<u8, Refusal> {
     let mut stdout = Noted {
         inner: rt.stdout(),
         said: None,
@@ -541,14 +551,14 @@ fn run_on<D: Door + Drop, P: Places<D> + Drop>(
         &mut rt.stdin(),
         &mut output,
         &mut rt.stderr(),
-        host,
+        machine,
         &mut why,
     );
     drop(output);
     if let Some(said) = stdout.said {
-        host.remembered.keep("standard output", said);
+        machine.keep_output(said);
     }
-    explain(rt.alloc(), &why, host, &mut rt.stderr());
+    explain(rt.alloc(), &why, machine, &mut rt.stderr());
     Ok(status)
 }
 
