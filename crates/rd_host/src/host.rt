@@ -43,6 +43,27 @@ fn is_no_file(path: &str) -> bool {
     path == ":memory:" || path.starts_with("file:")
 }
 
+/// The fault of the machine where the file of a store is not opened. It keeps what is said of its path: that another program
+/// uses it, that it is no ordinary file of one name, or what else the system said.
+fn not_opened(error: OpenError, path: &str, remembered: &Remembered) -> MachineFault {
+    match error {
+        OpenError::OutOfMemory => MachineFault::NoMemory,
+        OpenError::Io(error) => {
+            let said = match error.kind() {
+                ErrorKind::Unsupported => Said::Unfit,
+                kind => Said::of(kind),
+            };
+            remembered.keep(path, said);
+            MachineFault::from(error)
+        }
+        OpenError::Busy => {
+            remembered.keep(path, Said::Taken);
+            MachineFault::Failed
+        }
+        OpenError::HotJournal => MachineFault::Failed,
+    }
+}
+
 /// Opens the store in the file at a path, or makes it, with a sum at the end of each page or without.
 ///
 /// It fails with `NoMemory`, and with `Failed` when it cannot open the file, when the file holds no sound database, and
@@ -51,6 +72,7 @@ fn open_store(
     rt: &HostRuntime,
     path: &str,
     new_has_sums: bool,
+    remembered: &Remembered,
 ) -> Result<Connection<HostDisk>, MachineFault>
     ensures outside { IfOk result (λ conn. conn.in_transaction ≡ false) }
 {
@@ -59,9 +81,7 @@ fn open_store(
     }
     let files = match sqlite_std_file::open(rt, path, Wary) {
         Ok(files) => files,
-        Err(OpenError::OutOfMemory) => return Err(MachineFault::NoMemory),
-        Err(OpenError::Io(error)) => return Err(error.into()),
-        Err(_) => return Err(MachineFault::Failed),
+        Err(error) => return Err(not_opened(error, path, remembered)),
     };
     let options = Options {
         checkpoint_frames: COPIED_FRAMES,
@@ -236,16 +256,17 @@ fn folder_of(path: &str) -> &str {
     }
 }
 
-/// Whether the log of a database stands beside a file.
+/// Whether the log of a database stands beside a file. An empty one holds no page.
 fn has_log(rt: &HostRuntime, path: &str) -> io::Result<bool> {
     let real = fs::canonicalize(rt, path)?;
     let log = format!(in rt.alloc(); "{}-wal", real.as_str())?;
-    Ok(fs::symlink_metadata(rt, log.as_str()).is_ok())
+    Ok(fs::symlink_metadata(rt, log.as_str()).is_ok_and(|found| found.len() > 0))
 }
 
-/// Whether a file is empty, begins as a database, or has a log beside it: no other file is opened as a database, since a
-/// log would be left there. Where one is, a crash may have left the first page in part, or none of it as it was: `sqlite`
-/// tells that from another file. Of what is no file, such as a folder or a pipe, nothing is read: `sqlite` says what it is.
+/// Whether a file is empty, begins as a database, or has a log beside it that is not empty: no other file is opened as a
+/// database, since a log would be left there. Where such a log is, a crash may have left the first page in part, or none of
+/// it as it was: `sqlite` tells that from another file. Of what is no file, such as a folder or a pipe, nothing is read:
+/// `sqlite` says what it is.
 fn may_be_database(rt: &HostRuntime, path: &str) -> io::Result<bool> {
     if !fs::metadata(rt, path)?.is_file() {
         return Ok(true);
@@ -350,6 +371,7 @@ impl<'a, D: Door + Drop, P: Places<D> + Drop> Machine for Host<'a, D, P> {
 
     ghost left = { λ _. None };
 
+    /// It also fails where the path of the folder is empty, which is no folder's.
     fn write_new(
         &mut self,
         alloc: Global,
@@ -357,6 +379,10 @@ impl<'a, D: Door + Drop, P: Places<D> + Drop> Machine for Host<'a, D, P> {
         name: &str,
         bytes: &[u8],
     ) -> Result<(), WriteFault> {
+        if folder.is_empty() {
+            self.remembered.keep("''", Said::Missing);
+            return Err(WriteFault::Failed);
+        }
         let Ok(path) = path_in(alloc, folder, name) else {
             return Err(WriteFault::NoMemory);
         };
@@ -374,7 +400,7 @@ impl<'a, D: Door + Drop, P: Places<D> + Drop> Machine for Host<'a, D, P> {
     }
 
     fn is_missing(&mut self, path: &str) -> bool {
-        if is_no_file(path) {
+        if path.is_empty() || is_no_file(path) {
             return false;
         }
         match fs::symlink_metadata(self.rt, path) {
@@ -384,6 +410,10 @@ impl<'a, D: Door + Drop, P: Places<D> + Drop> Machine for Host<'a, D, P> {
                     && fs::metadata(self.rt, folder_of(path)).is_ok_and(|found| found.is_dir())
             }
         }
+    }
+
+    fn is_ordinary(&self, path: &str) -> bool {
+        fs::metadata(self.rt, path).is_ok_and(|found| found.is_file())
     }
 
     /// It opens no file that is there, is neither empty nor a database, and has no log beside it. One that goes away
@@ -405,7 +435,7 @@ impl<'a, D: Door + Drop, P: Places<D> + Drop> Machine for Host<'a, D, P> {
             Err(error) => return Err(self.keep_fault(path, error)),
         }
         let is_plain = new_has_sums && is_without_sums(self.rt, path)?;
-        let conn = open_store(self.rt, path, new_has_sums)?;
+        let conn = open_store(self.rt, path, new_has_sums, &self.remembered)?;
         if is_plain && is_blank(conn.schema()) {
             let _ = conn.close();
             return Err(MachineFault::Failed);
@@ -437,7 +467,7 @@ impl<'a, D: Door + Drop, P: Places<D> + Drop> Machine for Host<'a, D, P> {
             self.remembered.keep(path, Said::Standing);
             return Ok(None);
         }
-        match open_store(self.rt, path, has_sums) {
+        match open_store(self.rt, path, has_sums, &self.remembered) {
             Ok(conn) => Ok(Some(conn)),
             Err(fault) => Err(fault),
         }
