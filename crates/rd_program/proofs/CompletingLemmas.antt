@@ -9,13 +9,13 @@ use Rattle.rd_policy.specs.declared.zone.Zone.{Zone}
 use Rattle.rd_commands.specs.Asks.{IsExtraction, IsWithinLimits, TellsInRows, TellsOnOutput, most_read}
 use Rattle.rd_commands.specs.Beside.{IsBeside, IsPlain}
 use Rattle.rd_commands.specs.Input.{ReadsUpTo}
-use Rattle.rd_commands.specs.Refusals.{status_of}
+use Rattle.rd_commands.specs.Refusals.{IsDeviceOrMemory, status_of}
 use Rattle.rd_commands.specs.Told.{TellsAll, command_name}
 use Rattle.rd_commands.specs.declared.beside.Beside.{Beside}
 use Rattle.rd_commands.specs.declared.beside.Told.{Told}
 use Rattle.rd_commands.specs.declared.done.Done.{Done}
 use Rattle.rd_commands.specs.declared.refusal.Refusal.{Refusal}
-use Rattle.rd_commands.specs.declared.refusal.Refusal.TheVariants.{Clock}
+use Rattle.rd_commands.specs.declared.refusal.Refusal.TheVariants.{Device, NoMemory}
 use Rattle.rd_commands.specs.declared.words.Ask.{Ask}
 use Rattle.rd_commands.specs.declared.words.ImportAsk.{ImportAsk}
 use Rattle.rd_commands.specs.declared.words.OneQuestionAsk.{OneQuestionAsk}
@@ -23,7 +23,6 @@ use Rattle.rd_commands.specs.declared.words.SiftAsk.{SiftAsk}
 use Rattle.rd_commands.specs.declared.words.Ask.TheVariants.{Copy, Extract, File, Files, Import, Init, OneQuestion, Serve, Sift, StaffKey}
 use Rattle.rd_program.specs.Completing.{AreOperands, Completes, IsDated, IsKeyAt, IsKeyRead, IsKeyed, IsKeyedBy, IsZoneRead, IsZoned, IsZonedBy, with_key, with_moment, with_zone}
 use Rattle.rd_program.specs.Extracting.{ExtractsBy, Made}
-use Rattle.rd_program.specs.Performing.{IsEarlyRefusal}
 use Rattle.rd_commands.proofs.ReadLimits.{reads_after}
 use Rattle.rd_program.proofs.Plain.{extraction_plain, image_plain}
 
@@ -127,10 +126,10 @@ reads_nothing_more most old mid new first later is none =
 
 -- ---- why a command ends early
 
-pub early_never : (refusal : Refusal) → IsEarlyRefusal refusal → status_of refusal ≢ 2
-early_never refusal (inl device) = subst (λ r. status_of r ≢ 2) (sym device) (λ two. omega arith)
-early_never refusal (inr (inl clock)) = subst (λ r. status_of r ≢ 2) (sym clock) (λ two. omega arith)
-early_never refusal (inr (inr memory)) = subst (λ r. status_of r ≢ 2) (sym memory) (λ two. omega arith)
+pub early_never : (refusal : Refusal) → IsDeviceOrMemory refusal → status_of refusal ≢ 2
+early_never Device early = λ two. omega arith
+early_never NoMemory early = λ two. omega arith
+early_never refusal early = absurd early
 
 -- ---- what is written at 1
 
@@ -176,23 +175,17 @@ is_zoned files None (Some zone) old new read is = absurd read
 is_zoned files (Some path) None old new read is = absurd read
 is_zoned files (Some path) (Some zone) old new read is = (zone, is, read)
 
--- what stands in the files and the first moment of the day are in their places: it is whole
-pub is_whole : (files : List ℕ → Option (List ℕ)) (input : Option (List ℕ)) (told : Told) (key : Option (List ℕ)) (clocks : Option Zone) (keyed zoned : Ask) (result : Result Ask Refusal)
-    → AreOperands files input told.beside key clocks → IsKeyedBy key told.ask keyed → IsZonedBy clocks keyed zoned → IfOk result (IsDated told.beside.day zoned)
-    → IfOk result (Completes files input told)
-is_whole files input told key clocks keyed zoned (Ok ask) are with_key with_zone dated = record {
+-- what stands in the files and the moment of the day are in their places: it is whole
+pub is_whole : (files : List ℕ → Option (List ℕ)) (input : Option (List ℕ)) (told : Told) (key : Option (List ℕ)) (clocks : Option Zone) (keyed zoned ask : Ask)
+    → AreOperands files input told.beside key clocks → IsKeyedBy key told.ask keyed → IsZonedBy clocks keyed zoned → IsDated told.beside.day zoned ask
+    → Completes files input told ask
+is_whole files input told key clocks keyed zoned ask are with_key with_zone dated = record {
   keyed = keyed;
   zoned = zoned;
   key = is_keyed files input told.beside.key_file key told.ask keyed are.key_is with_key;
   zone = is_zoned files told.beside.zone_file clocks keyed zoned are.zone_is with_zone;
   moment = dated;
 }
-is_whole files input told key clocks keyed zoned (Err refusal) are with_key with_zone dated = tt
-
--- a day without a moment ends a command early
-pub clock_early : {A : Type 0} (result : Result A Refusal) → IfErr result (λ refusal. refusal ≡ Clock) → IfErr result IsEarlyRefusal
-clock_early (Ok value) clock = tt
-clock_early (Err refusal) clock = inr (inl clock)
 
 -- ---- a day of what has no moment
 

@@ -1,8 +1,9 @@
 -- What a command asks for once the operands that stand in files are read, and the first moment of a day is found.
-use Rattle.std.specs.Prelude.{◌≡◌, ◌≢◌, ⊤, ℕ, ℤ, IfSome, List, None, Option, Some, codes, option_map}
+use Rattle.std.specs.Prelude.{◌≡◌, ◌≢◌, ◌≤◌, ◌⊎◌, ⊤, ℕ, ℤ, IfSome, List, None, Option, Some, codes, length, option_map}
 use Rattle.std.specs.Borrow.{Bor}
 use Rattle.rd_operands.specs.KeyFiles.{key_of}
-use Rattle.rd_operands.specs.Moments.{IsFirstMoment}
+use Rattle.rd_operands.specs.Moments.{HasNoMoment, IsFirstMoment}
+use Rattle.rd_policy.specs.Days.{HasDay}
 use Rattle.rd_zone_files.specs.ZoneFiles.{IsZoneOfFile}
 use Rattle.rd_policy.specs.declared.zone.Zone.{Zone}
 use Rattle.rd_commands.specs.declared.beside.Beside.{Beside}
@@ -12,10 +13,15 @@ use Rattle.rd_commands.specs.declared.words.Ask.TheVariants.{Import, Init, OneQu
 use Rattle.rd_commands.specs.declared.words.ImportAsk.{ImportAsk}
 use Rattle.rd_commands.specs.declared.words.WhenAsk.{WhenAsk}
 
+-- the key is that in these bytes, and a file with a key has no more than 4,096
+pub record IsKeyIn (key all : List ℕ) : Type 0 where
+  pub is : key ≡ key_of all
+  pub few : length all ≤ 4_096
+
 -- the key is that in the file at a path, if the machine shows its bytes, or on standard input, if the path is a hyphen
 pub record IsKeyAt (files : List ℕ → Option (List ℕ)) (input : Option (List ℕ)) (path key : List ℕ) : Type 0 where
-  pub on_input : path ≡ codes "-" → IfSome input (λ all. key ≡ key_of all)
-  pub in_file : path ≢ codes "-" → IfSome (files path) (λ bytes. key ≡ key_of bytes)
+  pub on_input : path ≡ codes "-" → IfSome input (IsKeyIn key)
+  pub in_file : path ≢ codes "-" → IfSome (files path) (IsKeyIn key)
 
 -- the zone is that of the rule in which the file at a path ends, if the machine shows its bytes
 abbrev pub IsZoneAt : (List ℕ → Option (List ℕ)) → List ℕ → Zone → Type 0
@@ -60,9 +66,13 @@ OfClocks (Sift ask) P = P ask.import.when.zone
 OfClocks (OneQuestion ask) P = P ask.when.zone
 OfClocks ask P = ⊤
 
--- a command asks at the first moment of a day, by its clocks
+-- the moment is the first at which the clocks of the zone show the day, or one without a day where they never show it
+abbrev pub IsMomentOf : ℤ → Zone → ℤ → Type 0
+IsMomentOf day zone seconds = IsFirstMoment day zone seconds ⊎ (HasNoMoment day zone × ¬ HasDay seconds)
+
+-- a command asks at the moment of a day, by its clocks
 abbrev pub IsWhenDated : ℤ → WhenAsk → WhenAsk → Type 0
-IsWhenDated day old new = (seconds : ℤ) × (new ≡ at_moment seconds old) × IsFirstMoment day old.zone seconds
+IsWhenDated day old new = (seconds : ℤ) × (new ≡ at_moment seconds old) × IsMomentOf day old.zone seconds
 
 -- ---- all parts
 
@@ -76,10 +86,10 @@ abbrev pub IsZoned : (List ℕ → Option (List ℕ)) → Option (Bor (List ℕ)
 IsZoned files None old new = new ≡ old
 IsZoned files (Some path) old new = (zone : Zone) × (new ≡ with_zone zone old) × IsZoneAt files path.now zone
 
--- and the first moment of a day, by these clocks
+-- and the moment of a day, by these clocks
 abbrev pub IsDated : Option ℤ → Ask → Ask → Type 0
 IsDated None old new = new ≡ old
-IsDated (Some day) old new = (seconds : ℤ) × (new ≡ with_moment seconds old) × OfClocks old (λ zone. IsFirstMoment day zone seconds)
+IsDated (Some day) old new = (seconds : ℤ) × (new ≡ with_moment seconds old) × OfClocks old (λ zone. IsMomentOf day zone seconds)
 
 -- a key was read exactly where there is a file with one
 abbrev pub IsKeyRead : (List ℕ → Option (List ℕ)) → Option (List ℕ) → Option (List ℕ) → Option (List ℕ) → Type 0
@@ -94,7 +104,7 @@ IsZoneRead files (Some path) (Some zone) = IsZoneAt files path zone
 IsZoneRead files _ _ = ⊥
 
 -- What the words tell is whole in this: the key and the zone are those of the files, which the machine may show, and the
--- moment is the first of the day.
+-- moment is that of the day.
 pub record Completes (files : List ℕ → Option (List ℕ)) (input : Option (List ℕ)) (told : Told) (ask : Ask) : Type 0 where
   pub keyed : Ask
   pub zoned : Ask

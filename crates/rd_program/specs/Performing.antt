@@ -14,13 +14,12 @@ use Rattle.rd_commands.specs.Input.{ReadsUpTo}
 use Rattle.rd_commands.specs.Listed.{Lists, RefusesList}
 use Rattle.rd_commands.specs.Output.{AppendsPart}
 use Rattle.rd_commands.specs.Printed.{refusal_line}
-use Rattle.rd_commands.specs.Refusals.{status_of}
+use Rattle.rd_commands.specs.Refusals.{IsDeviceOrMemory, status_of}
 use Rattle.rd_commands.specs.Serving.{Place, place_of}
 use Rattle.rd_commands.specs.declared.beside.Told.{Told}
 use Rattle.rd_commands.specs.declared.done.Done.{Done}
 use Rattle.rd_commands.specs.declared.done.Done.TheVariants.{InPart, Whole}
 use Rattle.rd_commands.specs.declared.refusal.Refusal.{Refusal}
-use Rattle.rd_commands.specs.declared.refusal.Refusal.TheVariants.{Clock, Device, NoMemory}
 use Rattle.rd_commands.specs.declared.words.Ask.{Ask}
 use Rattle.rd_commands.specs.declared.words.Ask.TheVariants.{Init, Serve, StaffKey}
 use Rattle.rd_program.specs.Asked.{AsksBy, IsClockDueBy, IsUnaskedBy, SumsBy}
@@ -141,15 +140,11 @@ pub record CompletesSo {S D : Type 0} (g : Ghosts S) (told_of : D → Option Vis
   pub whole : Completes before.files input told ask
   pub performs : Performs g told_of coming before after input out written ask result
 
--- why a command ends before it asks the machine for a connection: a file was not read, a day has no moment, or memory ran
--- out
-abbrev pub IsEarlyRefusal : Refusal → Type 0
-IsEarlyRefusal refusal = (refusal ≡ Device) ⊎ ((refusal ≡ Clock) ⊎ (refusal ≡ NoMemory))
-
--- It ended so: the machine shows what it showed, and nothing was written.
+-- A command ended before it asked the machine for a connection, since a file was not read or memory ran out: the machine
+-- shows what it showed, and nothing was written.
 pub record EndsEarly {S D : Type 0} (before after : Sight S D) (out written : Option (List ℕ)) (result : Result Done Refusal) : Type 0 where
   pub refused : IsErr result
-  pub why : IfErr result IsEarlyRefusal
+  pub why : IfErr result IsDeviceOrMemory
   pub same : after ≡ before
   pub kept : Keeps out written
 

@@ -1,11 +1,10 @@
-//! Completes what the words of a command ask for by what stands in files, and by the first moment of a day.
+//! Completes what the words of a command ask for by what stands in files, and by the moment of a day.
 
 ghost use Rattle.std.specs.Prelude.{◌≡◌, IfErr, IfOk, List, Option, Some, option_map, ℕ};
 ghost use Rattle.rd_commands.specs.Input.{ReadsUpTo};
 ghost use Rattle.rd_commands.specs.Refusals.{IsDeviceOrMemory};
 ghost use Rattle.rd_program.specs.Completing as spec;
 ghost use Rattle.rd_program.specs.Completing.{AreOperands, Completes, IsDated, IsKeyRead, IsKeyedBy, IsZoneRead, IsZonedBy};
-ghost use Rattle.rd_program.specs.Performing.{IsEarlyRefusal};
 
 use crate::operands::{key_from, moment_of_day, zone_from};
 use rd_commands::{
@@ -84,44 +83,38 @@ fn with_zone<'a>(ask: Ask<'a>, zone: Zone) -> Ask<'a>
     }
 }
 
-/// When a command asks: at the first moment of a day, by its clocks.
-///
-/// It fails with `Clock` when they never show the day.
-fn on_day(when: WhenAsk, day: i32) -> Result<WhenAsk, Refusal>
-    ensures dated { IfOk result (λ dated. spec.IsWhenDated day when dated) }
-    ensures none { IfErr result (λ refusal. refusal ≡ Refusal.Clock) }
+/// When a command asks: at the moment of a day, by its clocks.
+fn on_day(when: WhenAsk, day: i32) -> WhenAsk
+    ensures { spec.IsWhenDated day when result }
 {
-    let seconds = moment_of_day(day, &when.zone)?;
-    Ok(WhenAsk {
+    let seconds = moment_of_day(day, &when.zone);
+    WhenAsk {
         seconds: Some(seconds),
         ..when
-    })
+    }
 }
 
-/// What is asked for, at the first moment of a day, by its clocks.
-///
-/// It fails with `Clock` when they never show the day.
-fn at_day<'a>(ask: Ask<'a>, day: i32) -> Result<Ask<'a>, Refusal>
-    ensures dated { IfOk result (IsDated (Some day) ask.entry) }
-    ensures none { IfErr result (λ refusal. refusal ≡ Refusal.Clock) }
+/// What is asked for, at the moment of a day, by its clocks.
+fn at_day<'a>(ask: Ask<'a>, day: i32) -> Ask<'a>
+    ensures { IsDated (Some day) ask.entry result }
 {
     match ask {
-        Ask::Import(ask) => Ok(Ask::Import(ImportAsk {
-            when: on_day(ask.when, day)?,
+        Ask::Import(ask) => Ask::Import(ImportAsk {
+            when: on_day(ask.when, day),
             ..ask
-        })),
-        Ask::Sift(ask) => Ok(Ask::Sift(SiftAsk {
+        }),
+        Ask::Sift(ask) => Ask::Sift(SiftAsk {
             import: ImportAsk {
-                when: on_day(ask.import.when, day)?,
+                when: on_day(ask.import.when, day),
                 ..ask.import
             },
             ..ask
-        })),
-        Ask::OneQuestion(ask) => Ok(Ask::OneQuestion(OneQuestionAsk {
-            when: on_day(ask.when, day)?,
+        }),
+        Ask::OneQuestion(ask) => Ask::OneQuestion(OneQuestionAsk {
+            when: on_day(ask.when, day),
             ..ask
-        })),
-        other => Ok(other),
+        }),
+        other => other,
     }
 }
 
@@ -145,16 +138,13 @@ fn zoned<'a>(ask: Ask<'a>, zone: Option<Zone>) -> Ask<'a>
     }
 }
 
-/// What is asked for, at the first moment of a day, if there is a day.
-///
-/// It fails with `Clock` when the clocks never show the day.
-fn dated<'a>(ask: Ask<'a>, day: Option<i32>) -> Result<Ask<'a>, Refusal>
-    ensures dated { IfOk result (IsDated day ask.entry) }
-    ensures none { IfErr result (λ refusal. refusal ≡ Refusal.Clock) }
+/// What is asked for, at the moment of a day, if there is a day.
+fn dated<'a>(ask: Ask<'a>, day: Option<i32>) -> Ask<'a>
+    ensures { IsDated day ask.entry result }
 {
     match day {
         Some(day) => at_day(ask, day),
-        None => Ok(ask),
+        None => ask,
     }
 }
 
@@ -206,7 +196,7 @@ pub(crate) fn read_operands<R: Read, M: Files>(
     machine: &mut M,
 ) -> Result<Operands, Refusal>
     ensures read { IfOk result (λ operands. AreOperands (M.file_bytes machine.old) (R.remaining input.old) told.now.beside (option_map (λ key. key.items) operands.key) operands.zone) }
-    ensures early { IfErr result IsEarlyRefusal }
+    ensures refused { IfErr result IsDeviceOrMemory }
     ensures same { machine.new ≡ machine.old }
     ensures limit { ReadsUpTo 4_097 (R.remaining input.old) (R.remaining input.new) }
 {
@@ -215,13 +205,10 @@ pub(crate) fn read_operands<R: Read, M: Files>(
     Ok(Operands { key, zone })
 }
 
-/// What the words ask for, with what stands in files, and at the first moment of a day.
-///
-/// It fails with `Clock` when the clocks never show the day.
-pub(crate) fn completed<'a>(told: Told<'a>, operands: &'a Operands) -> Result<Ask<'a>, Refusal>
-    ensures completes { (files : List ℕ → Option (List ℕ)) (input : Option (List ℕ))
-        → AreOperands files input told.entry.beside (option_map (λ key. key.items) operands.now.key) operands.now.zone → IfOk result (Completes files input told.entry) }
-    ensures early { IfErr result IsEarlyRefusal }
+/// What the words ask for, with what stands in files, and at the moment of a day.
+pub(crate) fn completed<'a>(told: Told<'a>, operands: &'a Operands) -> Ask<'a>
+    ensures { (files : List ℕ → Option (List ℕ)) (input : Option (List ℕ))
+        → AreOperands files input told.entry.beside (option_map (λ key. key.items) operands.now.key) operands.now.zone → Completes files input told.entry result }
 {
     let with_both = zoned(keyed(told.ask, operands), operands.zone);
     dated(with_both, told.beside.day)

@@ -157,8 +157,8 @@ fn perform<R: Read, W: Write, M: Machine>(
 
 /// Does what a command asks for whose operands stand in files in part, or that names a day: it reads the files first.
 ///
-/// It fails with `Device` when a file cannot be read or is none of its kind, with `Clock` when the clocks never show the
-/// day, with `NoMemory`, and then as `perform` does.
+/// It fails with `Device` when a file cannot be read or is none of its kind, with `NoMemory`, and then as `perform` does:
+/// so a day that the clocks never show is refused after the store is open.
 fn perform_completed<R: Read, W: Write, M: Machine>(
     alloc: Global,
     told: Told,
@@ -185,10 +185,10 @@ fn perform_completed<R: Read, W: Write, M: Machine>(
         (W.contents output.old) (W.contents output.new) result }
 {
     match read_operands(alloc, &told, input, machine) {
-        Ok(operands) => match completed(told, &operands) {
-            Ok(ask) => perform(alloc, ask, input, output, machine),
-            Err(refused) => Err(refused),
-        },
+        Ok(operands) => {
+            let ask = completed(told, &operands);
+            perform(alloc, ask, input, output, machine)
+        }
         Err(refused) => Err(refused),
     }
 }

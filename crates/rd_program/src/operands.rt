@@ -1,10 +1,9 @@
 //! The operands of a command that stand in files, and the first moment of a day.
 
 ghost use Rattle.std.specs.Prelude.{◌≡◌, ◌≢◌, IfErr, IfOk, IfSome, codes, take};
-ghost use Rattle.rd_operands.specs.Moments.{HasNoMoment, IsFirstMoment};
 ghost use Rattle.rd_commands.specs.Input.{ReadsUpTo};
 ghost use Rattle.rd_commands.specs.Refusals.{IsDeviceOrMemory};
-ghost use Rattle.rd_program.specs.Completing.{IsKeyAt, IsZoneAt};
+ghost use Rattle.rd_program.specs.Completing.{IsKeyAt, IsMomentOf, IsZoneAt};
 
 use rd_commands::{Files, Refusal, read_front};
 use rd_operands::{KEY_FILE_LIMIT, first_moment, key_in_file};
@@ -83,15 +82,16 @@ pub(crate) fn zone_from<M: Files>(
     }
 }
 
-/// The first moment at which the clocks of a zone show a day, in seconds since 1970-01-01T00:00:00 UTC.
-///
-/// It fails with `Clock` exactly when they never show it.
-pub(crate) fn moment_of_day(day: i32, zone: &Zone) -> Result<i64, Refusal>
-    ensures first { IfOk result (λ seconds. IsFirstMoment day zone.now seconds) }
-    ensures none { IfErr result (λ refusal. (refusal ≡ Refusal.Clock) × HasNoMoment day zone.now) }
+/// A moment without a day, which a desk refuses with `Clock`.
+const WITHOUT_A_DAY: i64 = i64::MAX;
+
+/// The first moment at which the clocks of a zone show a day, in seconds since 1970-01-01T00:00:00 UTC; a moment without
+/// a day where they never show it.
+pub(crate) fn moment_of_day(day: i32, zone: &Zone) -> i64
+    ensures { IsMomentOf day zone.now result }
 {
     match first_moment(day, zone) {
-        Some(seconds) => Ok(seconds),
-        None => Err(Refusal::Clock),
+        Some(seconds) => seconds,
+        None => WITHOUT_A_DAY,
     }
 }

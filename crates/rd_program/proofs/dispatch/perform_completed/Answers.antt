@@ -12,43 +12,43 @@ use Rattle.rd_program.proofs.dispatch.perform_completed.Goals as goal
 -- ---- what is whole
 
 pub perform-requires : goal.perform-requires
-perform-requires g c = record { accession = (whole_alike _ _ c.args.told c.in-Ok-completed.ask (c.in-Ok-completed.ensures.completes _ _ c.in-Ok.ensures.read)).within c.requires.accession }
+perform-requires g c = record { accession = (whole_alike _ _ c.args.told c.completed-ask.result (c.completed-ask.ensures _ _ c.in-Ok.ensures.read)).within c.requires.accession }
 
-pub returns-in-Ok-completed-clause-kept : goal.returns-in-Ok-completed-clause-kept
-returns-in-Ok-completed-clause-kept g c =
-    let alike = whole_alike _ _ c.args.told c.in-Ok-completed.ask (c.in-Ok-completed.ensures.completes _ _ c.in-Ok.ensures.read) in
-    kept_alike (Keeps (g.W.Write.contents c.args.output.now) (g.W.Write.contents c.perform.new.output)) c.perform.result c.in-Ok-completed.ask c.args.told.ask alike.rows alike.files
+pub returns-in-Ok-clause-kept : goal.returns-in-Ok-clause-kept
+returns-in-Ok-clause-kept g c =
+    let alike = whole_alike _ _ c.args.told c.completed-ask.result (c.completed-ask.ensures _ _ c.in-Ok.ensures.read) in
+    kept_alike (Keeps (g.W.Write.contents c.args.output.now) (g.W.Write.contents c.perform.new.output)) c.perform.result c.completed-ask.result c.args.told.ask alike.rows alike.files
     c.perform.ensures.kept
 
-pub returns-in-Ok-completed-clause-in_part : goal.returns-in-Ok-completed-clause-in_part
-returns-in-Ok-completed-clause-in_part g c =
-    let alike = whole_alike _ _ c.args.told c.in-Ok-completed.ask (c.in-Ok-completed.ensures.completes _ _ c.in-Ok.ensures.read) in
+pub returns-in-Ok-clause-in_part : goal.returns-in-Ok-clause-in_part
+returns-in-Ok-clause-in_part g c =
+    let alike = whole_alike _ _ c.args.told c.completed-ask.result (c.completed-ask.ensures _ _ c.in-Ok.ensures.read) in
     IfOk-weaker c.perform.result _ _ (λ done tells part. alike.output (tells part)) c.perform.ensures.in_part
 
-pub returns-in-Ok-completed-clause-flushed : goal.returns-in-Ok-completed-clause-flushed
-returns-in-Ok-completed-clause-flushed g c = c.perform.ensures.flushed
+pub returns-in-Ok-clause-flushed : goal.returns-in-Ok-clause-flushed
+returns-in-Ok-clause-flushed g c = c.perform.ensures.flushed
 
-pub returns-in-Ok-completed-clause-back : goal.returns-in-Ok-completed-clause-back
-returns-in-Ok-completed-clause-back g c =
+pub returns-in-Ok-clause-back : goal.returns-in-Ok-clause-back
+returns-in-Ok-clause-back g c =
     subst (λ machine. GivesBack (g.M.Machine.shows machine) (g.M.Machine.left machine) (g.M.Machine.left c.perform.new.machine)) c.read_operands.ensures.same c.perform.ensures.back
 
-pub returns-in-Ok-completed-clause-limit : goal.returns-in-Ok-completed-clause-limit
-returns-in-Ok-completed-clause-limit g c =
-    let alike = whole_alike _ _ c.args.told c.in-Ok-completed.ask (c.in-Ok-completed.ensures.completes _ _ c.in-Ok.ensures.read) in
+pub returns-in-Ok-clause-limit : goal.returns-in-Ok-clause-limit
+returns-in-Ok-clause-limit g c =
+    let alike = whole_alike _ _ c.args.told c.completed-ask.result (c.completed-ask.ensures _ _ c.in-Ok.ensures.read) in
     reads_nothing_more _ _ _ _ c.read_operands.ensures.limit c.perform.ensures.limit alike.read c.requires.of_store
 
-pub returns-in-Ok-completed-clause-completed : goal.returns-in-Ok-completed-clause-completed
-returns-in-Ok-completed-clause-completed g c =
-    let alike = whole_alike _ _ c.args.told c.in-Ok-completed.ask (c.in-Ok-completed.ensures.completes _ _ c.in-Ok.ensures.read) in
+pub returns-in-Ok-clause-completed : goal.returns-in-Ok-clause-completed
+returns-in-Ok-clause-completed g c =
+    let alike = whole_alike _ _ c.args.told c.completed-ask.result (c.completed-ask.ensures _ _ c.in-Ok.ensures.read) in
     inl (subst
     (λ machine. CompletesSo g.M.Disk.Store g.M.Door.Door.told g.M.Door.Door.coming
     (sight g.M.Machine.shows g.M.Machine.clock g.M.Files.file_bytes g.M.Files.sheet_bytes g.M.Machine.stands g.M.Machine.left g.M.Machine.wanted g.M.Machine.sums g.M.Machine.door g.M.Machine.door_limits g.M.Machine.made g.M.Machine.fresh g.M.Machine.new_stores g.M.Machine.written machine)
     (sight g.M.Machine.shows g.M.Machine.clock g.M.Files.file_bytes g.M.Files.sheet_bytes g.M.Machine.stands g.M.Machine.left g.M.Machine.wanted g.M.Machine.sums g.M.Machine.door g.M.Machine.door_limits g.M.Machine.made g.M.Machine.fresh g.M.Machine.new_stores g.M.Machine.written c.perform.new.machine)
     (g.R.Read.remaining c.args.input.now) (g.W.Write.contents c.args.output.now) (g.W.Write.contents c.perform.new.output) c.args.told c.perform.result)
     c.read_operands.ensures.same (record {
-      ask = c.in-Ok-completed.ask;
-      whole = subst (λ machine. Completes (g.M.Files.file_bytes machine) (g.R.Read.remaining c.args.input.now) c.args.told c.in-Ok-completed.ask) (sym c.read_operands.ensures.same)
-          (c.in-Ok-completed.ensures.completes _ _ c.in-Ok.ensures.read);
+      ask = c.completed-ask.result;
+      whole = subst (λ machine. Completes (g.M.Files.file_bytes machine) (g.R.Read.remaining c.args.input.now) c.args.told c.completed-ask.result) (sym c.read_operands.ensures.same)
+          (c.completed-ask.ensures _ _ c.in-Ok.ensures.read);
       performs = record {
         gives = c.perform.ensures.of_file;
         makes = c.perform.ensures.makes;
@@ -58,7 +58,7 @@ returns-in-Ok-completed-clause-completed g c =
         limits = c.perform.ensures.limits;
         imports = c.perform.ensures.imports;
         sifts = c.perform.ensures.sifts;
-        extracts = extracts_none _ _ _ _ _ _ c.in-Ok-completed.ask c.perform.result (alike.read ∙ c.requires.of_store);
+        extracts = extracts_none _ _ _ _ _ _ c.completed-ask.result c.perform.result (alike.read ∙ c.requires.of_store);
         answers = c.perform.ensures.answers;
         unasked = c.perform.ensures.unasked;
         on_time = c.perform.ensures.on_time;
@@ -75,33 +75,10 @@ returns-in-Ok-completed-clause-completed g c =
       };
     }))
 
--- ---- a day without a moment
-
-pub returns-in-Ok-clause-never : goal.returns-in-Ok-clause-never
-returns-in-Ok-clause-never g c = early_never c.in-Err-completed.refused c.in-Err-completed.ensures.early
-
-pub returns-in-Ok-clause-kept : goal.returns-in-Ok-clause-kept
-returns-in-Ok-clause-kept g c = λ one. inl (Keeps-refl _)
-
-pub returns-in-Ok-clause-back : goal.returns-in-Ok-clause-back
-returns-in-Ok-clause-back g c =
-    subst (λ machine. GivesBack (g.M.Machine.shows c.args.machine.now) (g.M.Machine.left c.args.machine.now) (g.M.Machine.left machine)) (sym c.read_operands.ensures.same) (λ shows had. had)
-
-pub returns-in-Ok-clause-limit : goal.returns-in-Ok-clause-limit
-returns-in-Ok-clause-limit g c = reads_within _ _ _ _ (omega arith) c.read_operands.ensures.limit
-
-pub returns-in-Ok-clause-completed : goal.returns-in-Ok-clause-completed
-returns-in-Ok-clause-completed g c = inr (record {
-  refused = tt;
-  why = c.in-Err-completed.ensures.early;
-  same = ap (sight g.M.Machine.shows g.M.Machine.clock g.M.Files.file_bytes g.M.Files.sheet_bytes g.M.Machine.stands g.M.Machine.left g.M.Machine.wanted g.M.Machine.sums g.M.Machine.door g.M.Machine.door_limits g.M.Machine.made g.M.Machine.fresh g.M.Machine.new_stores g.M.Machine.written) c.read_operands.ensures.same;
-  kept = Keeps-refl _;
-})
-
 -- ---- a file that is not read
 
 pub returns-clause-never : goal.returns-clause-never
-returns-clause-never g c = early_never c.in-Err.refused c.in-Err.ensures.early
+returns-clause-never g c = early_never c.in-Err.refused c.in-Err.ensures.refused
 
 pub returns-clause-kept : goal.returns-clause-kept
 returns-clause-kept g c = λ one. inl (Keeps-refl _)
@@ -116,7 +93,7 @@ returns-clause-limit g c = reads_within _ _ _ _ (omega arith) c.read_operands.en
 pub returns-clause-completed : goal.returns-clause-completed
 returns-clause-completed g c = inr (record {
   refused = tt;
-  why = c.in-Err.ensures.early;
+  why = c.in-Err.ensures.refused;
   same = ap (sight g.M.Machine.shows g.M.Machine.clock g.M.Files.file_bytes g.M.Files.sheet_bytes g.M.Machine.stands g.M.Machine.left g.M.Machine.wanted g.M.Machine.sums g.M.Machine.door g.M.Machine.door_limits g.M.Machine.made g.M.Machine.fresh g.M.Machine.new_stores g.M.Machine.written) c.read_operands.ensures.same;
   kept = Keeps-refl _;
 })
