@@ -3,7 +3,8 @@
 # errors, and its exit status, for each of the statuses 0 to 3; a closed standard output, a full device, folders
 # in place of a sheet and of an image, and bits that flip in a store are among the cases. Of a copy it looks who may
 # open it, whether its pages have sums, and that it takes nothing that is there; of a Unix socket who may use it,
-# whether it gives way once its desk was killed, and whether it goes with its desk. The program is ./desk of this
+# whether it gives way once its desk was killed, and whether it goes with its desk; of an explanation what the system
+# said; of the files of an image that each is there byte for byte, and over nothing. The program is ./desk of this
 # repository, or the one that you name.
 set -u
 desk=
@@ -42,16 +43,22 @@ ends() {
     fails "status $status, not $wanted, or other text: ${*##*/}: $(head -n 1 "$work/stderr")"
 }
 
-# begins to serve at a socket, and waits until it listens, for a minute at most
+# said NAME LINE..: what a refusal writes with --explain: its line, and each of these after two blanks
+said() {
+    printf 'desk: %s' "$1"
+    printf '\n  %s' "${@:2}"
+}
+
+# serve_at --socket PATH, or --port PORT: begins to serve there, and waits until it listens, for a minute at most
 serve_at() {
     : >"$work/serving"
-    "$desk" serve --store "$work/store" --socket "$1" --count 9 >"$work/serving" &
+    "$desk" serve --store "$work/store" "$@" --count 9 >"$work/serving" &
     serving=$!
     for _ in $(seq 600); do
         grep -q '^listening ' "$work/serving" && return
         sleep 0.1
     done
-    fails "it does not listen at $1"
+    fails "it does not listen at $2"
 }
 
 # ends it as a loss of power would
@@ -67,6 +74,12 @@ kind_at() { stat -c '%a %F' "$1" 2>/dev/null || echo nothing; }
 from() { "${@:2}" <"$1"; }
 into() { "${@:2}" >"$1"; }
 closed() { "$@" >&-; }
+# its output goes to a pipe that nobody reads any more, as under a program that ignores SIGPIPE
+piped() (
+    trap '' PIPE
+    { sleep 0.2 && "$@"; } | :
+    exit "${PIPESTATUS[0]}"
+)
 
 ends 0 "" crates/rd_main/stdout from "$hello" "$desk" cat cpm8 - 0
 ends 0 "" crates/rd_main/stdout "$desk" cat cpm8 "$hello" 0
@@ -181,7 +194,7 @@ socket=$work/socket
 printf 'listening %s\nserved 0\n' "$socket" >"$work/both"
 ends 0 "" "$work/done" "$desk" init --store "$work/store" --key abc
 ends 0 "" "$work/done" "$desk" init --store "$work/other" --key abc
-serve_at "$socket"
+serve_at --socket "$socket"
 ends 3 "desk: store" "$work/nothing" "$desk" copy --store "$work/store" --to "$work/of-served"
 same "the copy of a store that is served" nothing "$(kind_at "$work/of-served")"
 same "the socket while its desk serves" '660 socket' "$(kind_at "$socket")"
@@ -212,9 +225,60 @@ ends 3 "desk: not-a-desk" "$work/nothing" "$desk" serve --store "$work/no-store"
 ends 3 "desk: not-a-desk" "$work/nothing" "$desk" copy --store "$work/no-store" --to "$work/no-copy"
 same "what is at a path without a store" nothing "$(kind_at "$work/no-store")"
 same "the new file of a copy of nothing" nothing "$(kind_at "$work/no-copy")"
-ends 3 "desk: store" "$work/nothing" "$desk" export --store "$work/no-folder/store"
+for path in '' "$work/dangling" "$work/no-folder/store"; do
+    ends 3 "desk: store" "$work/nothing" "$desk" export --store "$path"
+done
+same "where a link to no store leads" nothing "$(kind_at "$work/nowhere")"
 printf 'a text that is no database\n' >"$work/text"
 ends 3 "desk: store" "$work/nothing" "$desk" export --store "$work/text"
 same "the log beside a text" nothing "$(kind_at "$work/text-wal")"
+
+# With --explain a refusal says what the system said, and what to do next; what is no ordinary file is read once.
+look='Check how the path is written, and that you may read it.'
+make='Make the folder first, or give the path of one.'
+first='First look that no other desk or sqlite3 uses it; else give the file of a store, or bring back a backup of it.'
+ends 3 "$(said device "$work: it is a folder" "$look")" "$work/nothing" "$desk" list cpm8 "$work" --explain
+ends 3 "$(said device 'standard output: the disk is full')" "$work/nothing" into /dev/full "$desk" list cpm8 "$hello" --explain
+ends 3 "$(said device 'standard output: nobody reads what is written there')" "$work/nothing" piped "$desk" list cpm8 "$hello" --explain
+ends 3 "$(said device "$work/missing/socket: there is no such file" "$make")" "$work/nothing" \
+    "$desk" serve --store "$work/other" --socket "$work/missing/socket" --count 0 --explain
+ends 3 "$(said store "$work/no-folder/new: there is no such file" "$make")" "$work/nothing" \
+    "$desk" init --store "$work/no-folder/new" --key abc --explain
+ends 3 "$(said not-a-desk "$work/no-store: there is no such file" "$look" 'Make a desk there with desk init, or give the path of one.')" \
+    "$work/nothing" "$desk" export --store "$work/no-store" --explain
+ends 3 "$(said store "$work/text: it is no file of the right sort" 'Give the file of a store, or bring back a backup of it.')" \
+    "$work/nothing" "$desk" export --store "$work/text" --explain
+port=$(python3 -c 'import socket; s = socket.socket(); s.bind(("127.0.0.1", 0)); print(s.getsockname()[1])')
+serve_at --port "$port"
+ends 3 "$(said device "port $port: another program uses it" 'Give another port, or stop what uses this one.')" "$work/nothing" \
+    "$desk" serve --store "$work/other" --port "$port" --count 0 --explain
+ends 3 "$(said store "$work/store: another program uses it" "$first")" "$work/nothing" "$desk" export --store "$work/store" --explain
+kill_it
+other='has another number of bytes than an image of its kind: cpm8 has 256256.'
+save='Save it as a file, and give its path: then more can be said of it.'
+ends 1 "$(said wrong-size "standard input $other" "$save")" "$work/nothing" from "$work/short" "$desk" list cpm8 - --explain
+mkfifo "$work/fifo" || exit 1
+cat "$work/short" >"$work/fifo" &
+ends 1 "$(said wrong-size "$work/fifo $other" "$save")" "$work/nothing" timeout 60 "$desk" list cpm8 "$work/fifo" --explain
+
+# The files of an image go into a folder that is there, byte for byte, and over nothing.
+extract() { "$desk" files d64 images/museum.d64 --to "$@"; }
+mkdir "$work/files" "$work/linked" || exit 1
+extract "$work/files" >"$work/lines" || fails "files ends with $?"
+while IFS=$'\t' read -r slot name count; do
+    ends 0 "" "$work/files/$name" "$desk" cat d64 images/museum.d64 "$slot"
+    same "bytes of $name" "$count" "$(stat -c %s "$work/files/$name")"
+done <"$work/lines"
+same "files of the image" "$(wc -l <"$work/lines")" "$(find "$work/files" -type f | wc -l)"
+sums=$(cd "$work/files" && sha256sum -- *)
+ends 1 "desk: exists" "$work/nothing" extract "$work/files"
+same "the files after a second time" "$sums" "$(cd "$work/files" && sha256sum -- *)"
+name=$(head -n 1 "$work/lines" | cut -f 2)
+ends 3 "$(said device "$work/no-folder/$name: there is no such file" "$make")" "$work/nothing" extract "$work/no-folder" --explain
+ends 3 "$(said device "'': there is no such file" "$make")" "$work/nothing" extract '' --explain
+same "a file of a folder without a name" nothing "$(kind_at "/$name")"
+ln -s nowhere "$work/linked/$name" || exit 1
+ends 1 "desk: exists" "$work/nothing" extract "$work/linked"
+same "where a link in the folder leads" nothing "$(kind_at "$work/linked/nowhere")"
 
 told
