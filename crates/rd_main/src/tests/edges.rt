@@ -2,7 +2,7 @@
 
 use super::folders::Folder;
 use rd_host::Host;
-use rd_program::{Files, Machine, MachineFault};
+use rd_program::{Files, Machine, MachineFault, WriteFault};
 use std::alloc::Global;
 use std::fs;
 use std::test::Fail;
@@ -66,6 +66,27 @@ fn the_machine_makes_no_store_where_none_is(rt: HostRuntime) -> Result<(), Fail>
     assert!(rt; host.is_missing(path.as_str()));
     assert!(rt; !fs::exists(&rt, path.as_str())?);
     assert!(rt; !host.is_missing("/no-such-folder/museum.sqlite"));
+    assert!(rt; !host.is_missing(""));
+    Ok(())
+}
+
+#[test]
+fn the_machine_makes_files_over_nothing_and_in_folders_alone(rt: HostRuntime) -> Result<(), Fail> {
+    let folder = Folder::new(&rt)?;
+    let path = folder.path("new")?;
+    let parent = folder.path("")?;
+    let mut host = Host::new(&rt);
+    let written = host.write_new(rt.alloc(), "", "new", b"one");
+    assert!(rt; written == Err(WriteFault::Failed));
+    let written = host.write_new(rt.alloc(), parent.as_str(), "new", b"one");
+    assert!(rt; written == Ok(()));
+    let written = host.write_new(rt.alloc(), parent.as_str(), "new", b"two");
+    assert!(rt; written == Err(WriteFault::Exists));
+    let bytes = host.read_file(rt.alloc(), path.as_str());
+    assert!(rt; bytes.is_ok_and(|bytes| bytes.as_slice() == b"one"));
+    assert!(rt; host.is_ordinary(path.as_str()));
+    assert!(rt; !host.is_ordinary(parent.as_str()));
+    assert!(rt; !host.is_ordinary("/dev/zero"));
     Ok(())
 }
 
