@@ -460,21 +460,21 @@ returns-in-Err-perform_told-clause-cat g c = record {
 pub returns-in-Err-clause-cat : goal.returns-in-Err-clause-cat
 returns-in-Err-clause-cat g c = record {
   done = λ zero kind slot asked.
-      let memory = c.tell_unread.ensures.memory (c.in-Err.ensures.unread (inl (kind, codes "-", slot, asked))) in
+      let memory = c.tell_unread.ensures.memory (c.in-Err.ensures.unread (inl (inl (kind, codes "-", slot, asked)))) in
       let three : c.tell_unread.result ≡ 3 = memory.0 in absurd (omega arith);
   no_sound_file = λ one. absurd (c.tell_unread.ensures.not_refused one);
   cat_due = λ some kind slot asked.
-      let none = c.in-Err.ensures.unread (inl (kind, codes "-", slot, asked)) in
+      let none = c.in-Err.ensures.unread (inl (inl (kind, codes "-", slot, asked))) in
       let memory = c.tell_unread.ensures.memory none in
       of_all (g.R.Read.remaining c.args.input.now) (λ image. tells _ NoMemory _ _ _ memory.1 memory.0 (c.tell_unread.ensures.no_memory none));
   cut = λ three kind slot asked.
-      let memory = c.tell_unread.ensures.memory (c.in-Err.ensures.unread (inl (kind, codes "-", slot, asked))) in
+      let memory = c.tell_unread.ensures.memory (c.in-Err.ensures.unread (inl (inl (kind, codes "-", slot, asked)))) in
       kept_is_cut _ kind slot _ _ memory.1;
   file_done = λ zero kind path slot other asks.
-      let memory = c.tell_unread.ensures.memory (c.in-Err.ensures.unread (inl (kind, path, slot, asks))) in
+      let memory = c.tell_unread.ensures.memory (c.in-Err.ensures.unread (inl (inl (kind, path, slot, asks)))) in
       let three : c.tell_unread.result ≡ 3 = memory.0 in absurd (omega arith);
   file_told = λ some kind path slot other asked.
-      let none = c.in-Err.ensures.unread (inl (kind, path, slot, asked)) in
+      let none = c.in-Err.ensures.unread (inl (inl (kind, path, slot, asked))) in
       let memory = c.tell_unread.ensures.memory none in
       of_all (g.M.Files.file_bytes c.args.machine.now path) (λ image. tells _ NoMemory _ _ _ memory.1 memory.0 (c.tell_unread.ensures.no_memory none));
 }
