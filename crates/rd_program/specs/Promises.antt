@@ -68,8 +68,9 @@ EndsSaying text result errors told = ((result ≡ 2) × AppendsPart errors told 
 -- as the text of `--at`; `show` names what it shows, and a date where that needs one; and `serve` names no more than one
 -- of a port and a Unix socket. If they do not, the words are a mistake, or memory ran out; and so it is with words that
 -- are no command, unless they ask for help or the version. At 2 they are no plain form of `cat` or `list`, and no form of
--- another command. Of words of `show` that name nothing, of words of `serve` that name two places, and of others without a
--- rule whose options go together the errors get no more than the text that says so.
+-- another command in which no key and no rule for clocks is in a file, and no date stands in place of a moment. Of words
+-- of `show` that name nothing, of words of `serve` that name two places, and of others without a rule whose options go
+-- together the errors get no more than the text that says so.
 pub record EndsByWords (words : List (List ℕ)) (result : ℕ) (out written errors told : Option (List ℕ)) : Type 0 where
   pub command : result ≡ 0 → IsTaken words ⊎ (
       (AsksForHelp words × Appends out written (help_for words)) ⊎ (AsksForVersion words × Appends out written version_line))
