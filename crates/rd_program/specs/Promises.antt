@@ -101,14 +101,14 @@ pub record WritesByStatus (words : List (List ℕ)) (result : ℕ) (flushed : Op
   pub usage_keeps : result ≡ 2 → Keeps out written
 
 -- No more than one byte past an image is read, of the largest kind, and of the kind that the words name; and nothing by
--- a command on a store.
+-- a command on a store without an operand in a file.
 pub record ReadsInput (words : List (List ℕ)) (input rest : Option (List ℕ)) : Type 0 where
   pub limit : ReadsUpTo (size_of Cpm8 + 1) input rest
   pub limit_of_store : AsksOfStore words → ReadsUpTo 0 input rest
   pub limit_of_kind : (kind : Kind) → AsksOfKind words kind → ReadsUpTo (size_of kind + 1) input rest
 
 -- A machine that shows its connections, and had one, has one again, whatever the words ask for. The machine stays as it
--- was if the words ask for a file or the files of an image, if they are no command, as those that ask for help or the
+-- was if the words are a plain form of `cat` or `list`, if they are no command, as those that ask for help or the
 -- version, and at 2.
 pub record KeepsMachine {S M : Type 0} (words : List (List ℕ)) (result : ℕ) (shows : Bool) (was left : Option (Held S)) (old new : M) : Type 0 where
   pub back : GivesBack shows was left
