@@ -9,7 +9,7 @@ use rd_fakes::stream::Narrow;
 use rd_fakes::wire::new_door;
 use rd_http::MemoryDoor;
 use rd_played::{Tally, bytes_of};
-use rd_program::{MachineFault, Why, explain, run};
+use rd_program::{MachineFault, Remembered, Why, explain, run};
 use std::alloc::{AllocError, Global};
 use std::mem;
 
@@ -163,13 +163,14 @@ impl<'a> Run<'a> {
         Ok(self.lacks.push(Lack { what, fault })?)
     }
 
-    /// Makes the machine ready for the run.
+    /// Makes the machine ready for the run, as one that remembers no other run.
     fn prepare(&mut self, rt: &HostRuntime, museum: &mut Museum) -> Result<()> {
         mem::swap(&mut museum.supply.lacks, &mut self.lacks);
         museum.supply.set_clock(self.clock);
         museum.door = door_of(rt, self.visitors.as_slice())?;
         museum.supply.place = None;
         museum.supply.made = 0;
+        museum.remembered = Remembered::new(rt.alloc());
         Ok(())
     }
 
