@@ -32,18 +32,19 @@ LIMIT = 600
 
 @dataclasses.dataclass(frozen=True)
 class Refusal:
-    """What is refused: its name, the file in C that stands before the program's calls, the lines that the program may
-    tell then, and whether what it did not tell as done may be done all the same."""
+    """What is refused: its name, for one and for more; the file in C that stands before the program's calls; the lines
+    that the program may tell then; and whether what it did not tell as done may be done all the same."""
 
     name: str
+    plural: str
     source: str
     lines: tuple
     may_be_done: bool
 
 
 NO_MEMORY, NO_STORE = "desk: no-memory", "desk: store"
-MEMORY = Refusal("growth of memory", "refuse.c", (NO_MEMORY, NO_STORE), False)
-DISK = Refusal("call of the disk", "failing-disk.c", (NO_STORE,), True)
+MEMORY = Refusal("growth of memory", "growths of memory", "refuse.c", (NO_MEMORY, NO_STORE), False)
+DISK = Refusal("call of the disk", "calls of the disk", "failing-disk.c", (NO_STORE,), True)
 
 
 # Runs
@@ -441,7 +442,7 @@ class Sweeps(harness.Seen):
             return self.fails(f"{name} asked for no {self.refusal.name}, so that nothing was tried")
         self.calls += calls
         self.passed += 1
-        print(f"{name}: each {self.refusal.name} of {calls} refused", flush=True)
+        print(f"{name}: each of {calls} {self.refusal.plural} refused", flush=True)
 
 
 def prepare(work, program, refusal):
@@ -499,5 +500,5 @@ def main(usage, refusal, commands, sweep_more=None):
             else:
                 sweeps.sweep_all(commands.OVER_STORES)
     seconds = time.monotonic() - before
-    print(f"{sweeps.calls} times a {refusal.name} refused in {seconds:.0f} s, with {sweeps.dumps} dumps by sqlite3")
+    print(f"{sweeps.calls} {refusal.plural} refused in {seconds:.0f} s, with {sweeps.dumps} dumps by sqlite3")
     sys.exit(sweeps.told())
