@@ -271,7 +271,8 @@ class Makes:
 class Over:
     """Over a copy of the store `before` the command writes the text, tells the line and makes of it the store `after`.
     Or it says that it was refused, has written nothing (or `first`) and has not changed the store (or has made it
-    `between`); a second run then does all this. Where a disk failed, the store may be `after` too, or `torn`."""
+    `between`); a second run then does all this. Where a disk failed, the store may be `after` too, or `torn`; no second
+    run is made over one that the command has changed to `after`."""
 
     before: str
     after: str
@@ -297,7 +298,7 @@ class Over:
             holds = dumps.of(place.now)
             if not self.leaves(place, ran, holds):
                 return ran.odd()
-            if place.refusal.may_be_done and holds == known(self.after):
+            if place.refusal.may_be_done and holds == known(self.after) != known(self.before):
                 return None
             ran = self.run(place)
             if not self.is_whole(place, ran):
