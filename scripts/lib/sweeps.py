@@ -32,19 +32,19 @@ LIMIT = 600
 
 @dataclasses.dataclass(frozen=True)
 class Refusal:
-    """What is refused: its name, for one and for more; the file in C that stands before the program's calls; the lines
-    that the program may tell then; and whether what it did not tell as done may be done all the same."""
+    """What is refused: its name, for one and for more; the file in C that stands before the program's calls; the line
+    that names it; and whether what the program did not tell as done may be done all the same."""
 
     name: str
     plural: str
     source: str
-    lines: tuple
+    line: str
     may_be_done: bool
 
 
-NO_MEMORY, NO_STORE = "desk: no-memory", "desk: store"
-MEMORY = Refusal("growth of memory", "growths of memory", "refuse.c", (NO_MEMORY, NO_STORE), False)
-DISK = Refusal("call of the disk", "calls of the disk", "failing-disk.c", (NO_STORE,), True)
+NO_STORE = "desk: store"
+MEMORY = Refusal("growth of memory", "growths of memory", "refuse.c", "desk: no-memory", False)
+DISK = Refusal("call of the disk", "calls of the disk", "failing-disk.c", NO_STORE, True)
 
 
 # Runs
@@ -117,9 +117,13 @@ class Ended:
         """It ended with this status, wrote this text and told this line."""
         return self.status == status and self.wrote(text) and self.errors == in_lines(told)
 
+    def names(self, refusal):
+        """It says what was refused."""
+        return self.status == 3 and self.errors == in_lines(refusal.line)
+
     def was_refused(self, refusal):
         """It says what was refused, or that its store failed, which cannot tell why."""
-        return self.status == 3 and self.errors in [in_lines(line) for line in refusal.lines]
+        return self.names(refusal) or (self.status == 3 and self.errors == in_lines(NO_STORE))
 
     def odd(self):
         """Says how it ended, which is not as it has to be."""
@@ -199,26 +203,33 @@ class Reads:
         ran = place.run(self.words, at, self.image)
         if ran.status == self.status:
             return None if ran.output == self.output and ran.errors == in_lines(self.told) else ran.odd()
-        return None if ran.was_refused(place.refusal) and not ran.output else ran.odd()
+        return None if ran.names(place.refusal) and not ran.output else ran.odd()
 
 
 @dataclasses.dataclass(frozen=True)
 class AsEver:
-    """The command ends as where nothing is refused, with the status, and says the part. Or it says that memory was
-    refused and writes nothing."""
+    """The command ends as where nothing is refused, with the status: it writes the part, or begins with it to say why
+    it does nothing. Or it says that memory was refused, or at a store that this failed, and writes nothing."""
 
     words: tuple
     part: bytes
     image: bytes | None = None
     status: int = 0
+    has_store: bool = False
+
+    def ever(self, place):
+        """How it ends where nothing is refused, and whether this is how it has to end."""
+        ever = EVER.get(self) or EVER.setdefault(self, place.run(self.words, image=self.image))
+        is_said = (not ever.output and ever.errors.startswith(self.part)) if self.status else self.part in ever.output
+        return ever, ever.status == self.status and is_said
 
     def fault(self, place, _dumps, at):
-        ever = EVER.get(self) or EVER.setdefault(self, place.run(self.words, image=self.image))
-        if ever.status != self.status or self.part not in ever.output + ever.errors:
+        ever, is_due = self.ever(place)
+        if not is_due:
             return ever.odd()
         ran = place.run(self.words, at, self.image)
-        is_told = ran.was_refused(place.refusal) and not ran.output
-        return None if ran == ever or is_told else ran.odd()
+        is_told = ran.was_refused(place.refusal) if self.has_store else ran.names(place.refusal)
+        return None if ran == ever or (is_told and not ran.output) else ran.odd()
 
 
 @dataclasses.dataclass(frozen=True)
@@ -227,15 +238,15 @@ class Explains(AsEver):
     be left out, but none is another. Or it says that memory was refused, and below it no more than an explanation."""
 
     def fault(self, place, _dumps, at):
-        ever = EVER.get(self) or EVER.setdefault(self, place.run(self.words))
-        if ever.status != self.status or ever.output or not ever.errors.startswith(self.part):
+        ever, is_due = self.ever(place)
+        if not is_due:
             return ever.odd()
         ran = place.run(self.words, at)
         told, *lines = ran.errors.splitlines(keepends=True) or [b""]
         told_ever, *lines_ever = ever.errors.splitlines(keepends=True)
         left = iter(lines_ever)
         is_as_ever = ran.status == ever.status and told == told_ever and all(line in left for line in lines)
-        is_told = dataclasses.replace(ran, errors=told).was_refused(place.refusal)
+        is_told = dataclasses.replace(ran, errors=told).names(place.refusal)
         is_refused = is_told and all(line.startswith(b"  ") for line in lines)
         return None if (is_as_ever or is_refused) and not ran.output else ran.odd()
 
@@ -259,7 +270,7 @@ class Makes:
         for count in range(len(self.files) + 1):
             if ran.wrote(lines_of(self.files[:count])):
                 is_left = made in (self.first(count), self.first(count + 1))
-                return None if ran.was_refused(place.refusal) and is_left else ran.odd()
+                return None if ran.names(place.refusal) and is_left else ran.odd()
         return ran.odd()
 
     def first(self, count):
@@ -305,13 +316,18 @@ class Over:
                 return ran.odd()
         return None if dumps.of(place.now) == known(self.after) else ran.odd()
 
+    def is_refused(self, place, ran):
+        """It says that it was refused. Once it has written `first`, it can tell why."""
+        if ran.wrote(""):
+            return ran.was_refused(place.refusal)
+        return ran.wrote(place.filled(self.first)) and ran.names(place.refusal)
+
     def leaves(self, place, ran, holds):
         """A run that was refused leaves what it may."""
         may = {self.before, self.between or self.before}
         if place.refusal.may_be_done:
             may |= {self.after, self.torn or self.after}
-        is_written = ran.wrote("") or ran.wrote(place.filled(self.first))
-        return ran.was_refused(place.refusal) and is_written and holds in map(known, may)
+        return self.is_refused(place, ran) and holds in map(known, may)
 
 
 @dataclasses.dataclass(frozen=True)
@@ -342,7 +358,7 @@ UNAVAILABLE = HEAD.format("503 Service Unavailable", 23, '{"error":"unavailable"
 @dataclasses.dataclass(frozen=True)
 class Visit(Over):
     """The same of a `serve` of one visit, at which the staff puts something. The reply is whole, or a front of it, or
-    says that the desk is unavailable, and then nothing is done. Where no reply comes, either may be."""
+    says that the desk is unavailable; then, and where no reply comes, nothing is done."""
 
     request: bytes = b""
 
@@ -356,15 +372,13 @@ class Visit(Over):
         return super().is_whole(place, ran) and ran.reply == DONE
 
     def leaves(self, place, ran, holds):
-        first = place.filled(self.first)
-        is_told = ran.was_refused(place.refusal) and (ran.wrote("") or ran.wrote(first))
-        if not (is_told or super().is_whole(place, ran)):
+        if not (self.is_refused(place, ran) or super().is_whole(place, ran)):
             return False
         if ran.reply == UNAVAILABLE:
             return holds == known(self.before) or (place.refusal.may_be_done and holds == known(self.after))
         if ran.reply:
             return DONE.startswith(ran.reply) and holds == known(self.after)
-        return holds in (known(self.before), known(self.after))
+        return holds == known(self.before)
 
 
 def reply_to(request, port):

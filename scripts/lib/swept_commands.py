@@ -247,7 +247,10 @@ WITHOUT_STORE = [
     ("desk files of two files", Makes(("{desk}", "files", "cpm8", "-", "--to", "{folder}"), MADE_FILES, TWO_FILES)),
     (
         "desk show of keys where no store is",
-        AsEver((*SHOW, "keys", "--store", "{work}/none/museum.sqlite", *KEY), b"desk: not-a-desk\n", status=3),
+        AsEver(
+            (*SHOW, "keys", "--store", "{work}/none/museum.sqlite", *KEY), b"desk: not-a-desk\n", status=3,
+            has_store=True,
+        ),
     ),
     ("desk --version", Reads(("{desk}", "--version"), b"desk 0.1.0\n")),
     ("desk --help", AsEver(("{desk}", "--help"), b"desk cat cpm8 disk.img 0")),
