@@ -333,13 +333,14 @@ class Over:
 @dataclasses.dataclass(frozen=True)
 class Rows(Over):
     """The same of an import, which has a line for each row of its sheet, and a store after it. One that was refused has
-    written the first lines; the rows that these tell of are done, and perhaps one more."""
+    written the first lines; the rows that these tell of are done, and perhaps one more. Behind the last line it needs
+    memory, but no disk."""
 
     rows: tuple = ()
 
     def leaves(self, place, ran, holds):
         stores = [self.before, *(store for _, store in self.rows)]
-        for count in range(len(stores)):
+        for count in range(len(self.rows) if place.refusal.may_be_done else len(stores)):
             if ran.wrote(lines_of(self.rows[:count])):
                 return ran.was_refused(place.refusal) and holds in map(known, stores[count : count + 2])
         return False
