@@ -92,13 +92,12 @@ impl<'a> Change<'a> {
 
     /// Runs the statement, and gives what it did.
     fn run(&self, conn: &mut Connection<MemStore>) -> Effect {
-        let value = [ValueRef::Blob(self.value.as_slice())];
-        let values = if self.has_value {
-            value.as_slice()
+        let changed = if self.has_value {
+            execute_with(conn, self.statement, self.value.as_slice())
         } else {
-            &[]
+            execute(conn, self.statement)
         };
-        match execute(conn, self.statement, values) {
+        match changed {
             Ok(0) => Effect::Idle,
             Ok(_) => Effect::Rows,
             Err(_) => Effect::Refused,
@@ -106,12 +105,12 @@ impl<'a> Change<'a> {
     }
 }
 
-fn execute(
-    conn: &mut Connection<MemStore>,
-    sql: &str,
-    values: &[ValueRef<'_>],
-) -> Result<usize, Error> {
-    conn.execute(sql, values)
+fn execute(conn: &mut Connection<MemStore>, sql: &str) -> Result<usize, Error> {
+    conn.execute(sql, &[])
+}
+
+fn execute_with(conn: &mut Connection<MemStore>, sql: &str, value: &[u8]) -> Result<usize, Error> {
+    conn.execute(sql, &[ValueRef::Blob(value)])
 }
 
 /// A question in SQL, its place, and the rows that it must give, each ended by a line feed.
