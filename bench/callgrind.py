@@ -12,6 +12,9 @@ counts one instruction for each byte of `rep movsb`, so a copy looks dearer than
 the whole of the C program, its copies left out; where desks alone are asked, shares of the desk's own whole. --tree
 also prints the functions of each crate.
 
+Last it counts a start that nobody visits: `serve` opens a store of 100 accessions, reads its images, and ends. The C
+program looks at nothing of the store as it starts, so desks alone are started.
+
 It fails where the desk that is named last takes more in its own crates than the whole of the C program for a question
 that both answer, where that desk calls a function of rd_cpm or rd_cbm for any question, and where no C program stands
 beside it. Where two desks are named, it also prints the ratio of the last to the first: of their own crates alone, of
@@ -35,6 +38,7 @@ READERS = ("rd_cpm", "rd_cbm")
 # Where rows of the table `image` are asked for, and the functions that the compiler moves this into, also of desks of
 # before.
 ROW_READERS = re.compile(r"rd_store::images::|rd_desk::asking::(image|accession|register|look_up)\b")
+OPENING = visits.Case("opening, 100 accessions", "100", None, None, None, for_desks=True)
 NEEDED = ["valgrind", *rooms.C_NEEDED]
 PACKAGES = ["valgrind", *rooms.C_PACKAGES]
 
@@ -112,19 +116,27 @@ def crate_of(symbol):
     return symbol.split("::")[0] if "::" in symbol else "the C library"
 
 
-def profile_of(bench, name, case, folder):
-    """What ten visits take, by the difference of two runs."""
-    profiles = []
-    for count in (MANY, FEW):
-        path = os.path.join(folder, "profile")
-        before = ["valgrind", "--tool=callgrind", f"--callgrind-out-file={path}", "--compress-strings=no",
-                  "--compress-pos=no", "--dump-line=no"]
-        with rooms.Server(bench.commands[name], bench.stores[name, case.shelf], count, before) as server:
-            for number in range(count):
-                bench.visit(server, case, number)
-            server.end()
-        profiles.append(read_profile(path))
-    return profiles[0].minus(profiles[1])
+def profile_at(bench, name, case, count, folder):
+    """What a server takes from its start to its end, which so many visits come to."""
+    path = os.path.join(folder, "profile")
+    before = ["valgrind", "--tool=callgrind", f"--callgrind-out-file={path}", "--compress-strings=no",
+              "--compress-pos=no", "--dump-line=no"]
+    with rooms.Server(bench.commands[name], bench.stores[name, case.shelf], count, before) as server:
+        for number in range(count):
+            bench.visit(server, case, number)
+        server.end()
+    return read_profile(path)
+
+
+def profiles_of(bench, case, folder):
+    """What ten visits take of each program, by the difference of two runs; of a case without visits, what its start
+    takes."""
+    names = bench.names_for(case)
+    if case is OPENING:
+        return {name: profile_at(bench, name, case, 0, folder) for name in names}
+    bench.check(case)
+    return {name: profile_at(bench, name, case, MANY, folder).minus(profile_at(bench, name, case, FEW, folder))
+            for name in names}
 
 
 def by_crate(profile):
@@ -162,6 +174,14 @@ def called_readers(profile):
     return sorted(ran | {symbol for symbol in profile.below_of(answers) if crate_of(symbol) in READERS}), bool(answers)
 
 
+def tell_readers(profile):
+    """Prints which functions of the readers of images a visit calls, and gives them."""
+    readers, has_answer = called_readers(profile)
+    print("    of rd_cpm and rd_cbm " + (", ".join(readers) or "nothing") + " is called" +
+          ("" if has_answer else "; `answer` has no symbol of its own, so whole visits were looked at"))
+    return readers
+
+
 def tell_tree(profile):
     for symbol, cost in profile.own.most_common(60):
         print(f"        {cost:12,} {symbol}")
@@ -189,7 +209,7 @@ def tell_pair(case, profiles):
 def measure(bench, case, folder, shows_tree):
     """Prints what the programs spend at visits of a case, and gives what is missed."""
     missed = []
-    profiles = {name: profile_of(bench, name, case, folder) for name in bench.names_for(case)}
+    profiles = profiles_of(bench, case, folder)
     told = {name: by_crate(profile) for name, profile in profiles.items()}
     beside = told.get(visits.C_NAME)
     if beside is None and not case.for_desks:
@@ -198,9 +218,7 @@ def measure(bench, case, folder, shows_tree):
     for name in desks:
         if tell_desk(case, name, told[name], beside) and name == desks[-1]:
             missed.append(f"{case.title}: the crates of {name} take more than the C program")
-        readers, has_answer = called_readers(profiles[name])
-        print("    of rd_cpm and rd_cbm " + (", ".join(readers) or "nothing") + " is called" +
-              ("" if has_answer else "; `answer` has no symbol of its own, so whole visits were looked at"))
+        readers = [] if case is OPENING else tell_readers(profiles[name])
         if readers and name == desks[-1]:
             missed.append(f"{case.title}: {name} calls {', '.join(readers)}")
         if shows_tree:
@@ -216,13 +234,12 @@ def main():
     parser.add_argument("--tree", action="store_true")
     words = parser.parse_args()
     tools.install(NEEDED, PACKAGES)
-    told = visits.cases(False) + visits.cases_for_desks()
+    told = visits.cases(False) + visits.cases_for_desks() + [OPENING]
     missed = []
     with tempfile.TemporaryDirectory() as folder:
         shelves = list(dict.fromkeys(case.shelf for case in told))
         bench = visits.Bench(rooms.named_programs(words.programs), shelves, folder)
         for case in told:
-            bench.check(case)
             missed += measure(bench, case, folder, words.tree)
     for what in missed:
         print("missed:", what)
