@@ -1,5 +1,5 @@
 -- What a run keeps of its words and of its refusal.
-use Rattle.std.proofs.Common.{◌≡◌, ◌≢◌, ◌≤◌, ℕ, IfSome, List, None, Ok, Option, Some, arith, refl, subst, sym}
+use Rattle.std.proofs.Common.{◌≡◌, ◌≢◌, ◌≤◌, ℕ, IfSome, List, None, Ok, Option, Some, arith, refl, subst, suc, sym, zero}
 use Rattle.std.proofs.KnownBytes.{Keeps-refl}
 use Rattle.rd_commands.specs.declared.beside.Told.{Told}
 use Rattle.rd_commands.specs.declared.done.Done.{Done}

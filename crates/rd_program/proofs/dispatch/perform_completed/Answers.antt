@@ -1,4 +1,4 @@
-use Rattle.std.proofs.Common.{◌≡◌, ◌∙◌, ◌≤◌, ap, arith, inl, inr, subst, sym}
+use Rattle.std.proofs.Common.{◌≡◌, ◌∙◌, ◌≤◌, ap, arith, inl, inr, refl, subst, sym}
 use Rattle.std.specs.Io.KnownBytes.{Keeps}
 use Rattle.std.proofs.KnownBytes.{Keeps-refl}
 use Rattle.std.proofs.lemmas.Result.{IfErr-weaker, IfOk-weaker}
@@ -77,22 +77,22 @@ returns-in-Ok-clause-completed g c =
 
 -- ---- a file that is not read
 
-pub returns-clause-never : goal.returns-clause-never
-returns-clause-never g c = early_never c.in-Err.refused c.in-Err.ensures.refused
+pub returns-in-Err-clause-never : goal.returns-in-Err-clause-never
+returns-in-Err-clause-never g c = early_never c.in-Err.refused c.in-Err.ensures.refused
 
-pub returns-clause-kept : goal.returns-clause-kept
-returns-clause-kept g c = λ one. inl (Keeps-refl _)
+pub returns-in-Err-clause-kept : goal.returns-in-Err-clause-kept
+returns-in-Err-clause-kept g c = λ one. inl (Keeps-refl _)
 
-pub returns-clause-back : goal.returns-clause-back
-returns-clause-back g c =
+pub returns-in-Err-clause-back : goal.returns-in-Err-clause-back
+returns-in-Err-clause-back g c =
     subst (λ machine. GivesBack (g.M.Machine.shows c.args.machine.now) (g.M.Machine.left c.args.machine.now) (g.M.Machine.left machine)) (sym c.read_operands.ensures.same) (λ shows had. had)
 
-pub returns-clause-limit : goal.returns-clause-limit
-returns-clause-limit g c = reads_within _ _ _ _ (omega arith) c.read_operands.ensures.limit
+pub returns-in-Err-clause-limit : goal.returns-in-Err-clause-limit
+returns-in-Err-clause-limit g c = reads_within _ _ _ _ (omega arith) c.read_operands.ensures.limit
 
-pub returns-clause-completed : goal.returns-clause-completed
-returns-clause-completed g c = inr (record {
-  refused = tt;
+pub returns-in-Err-clause-completed : goal.returns-in-Err-clause-completed
+returns-in-Err-clause-completed g c = inr (record {
+  refused = refl;
   why = c.in-Err.ensures.refused;
   same = ap (sight g.M.Machine.shows g.M.Machine.clock g.M.Files.file_bytes g.M.Files.sheet_bytes g.M.Machine.stands g.M.Machine.left g.M.Machine.wanted g.M.Machine.sums g.M.Machine.door g.M.Machine.door_limits g.M.Machine.made g.M.Machine.fresh g.M.Machine.new_stores g.M.Machine.written) c.read_operands.ensures.same;
   kept = Keeps-refl _;

@@ -1,4 +1,4 @@
-use Rattle.std.proofs.Common.{◌≡◌, FitsSigned, IfSome, ap, rules, subst, sym, w32}
+use Rattle.std.proofs.Common.{◌≡◌, ◌∙◌, FitsSigned, IfSome, ap, rules, subst, sym, w32}
 use Rattle.std.proofs.lemmas.Int.{to_z-of_z}
 use Rattle.sha2.specs.Sha256.{sha256}
 use Rattle.rd_program.specs.Leaves.{IsDayAt, moment_of}
@@ -45,11 +45,11 @@ returns-clause-sifted g c =
     let opened = c.day_on_time.new.machine in
     let path = c.args.ask.import.sheet.now in
     let read = subst (λ b. IfSome (g.M.Files.sheet_bytes opened path) (λ sheet. b ≡ sheet)) (sym c.as_slice.ensures.value) c.in-Ok.ensures.bytes in
-    sifted_on g.M.Disk.Store (g.M.Files.file_bytes c.args.machine.now) (g.M.Files.file_bytes opened) (way_asked c.args.ask)
+    sifted_on g.M.Disk.Store (g.M.Files.file_bytes c.args.machine.now) (g.M.Files.file_bytes c.read_sheet.new.self) (way_asked c.args.ask)
     (IsDayAt (moment_of c.args.ask.import.when.seconds (g.M.Machine.clock c.args.machine.now)) c.args.desk.now.zone)
     (g.M.Files.sheet_bytes c.args.machine.now path) (g.W.Write.contents c.args.output.now) (g.W.Write.contents c.sift_rows.new.output) c.ended_by.result
     c.digest-badge.result (sha256 c.args.ask.import.key.now) c.as_slice.result.now _ c.args.desk.now.store c.day_on_time.new.desk.store
-    c.sift_rows.new.desk.store c.in_ok-sift_rows.field-0 c.day_on_time.ensures.files.0
+    c.sift_rows.new.desk.store c.in_ok-sift_rows.field-0 (ap g.M.Files.file_bytes c.read_sheet.ensures.same ∙ c.day_on_time.ensures.files.0)
     (still_same g.M.Disk.Store c.args.desk.now.store c.day_on_time.new.desk.store c.day_on_time.ensures.reads) (λ o. c.sift_rows.ensures.takes.lasts.was_open o)
     (subst (IsDayAt (moment_of c.args.ask.import.when.seconds (g.M.Machine.clock c.args.machine.now)) c.args.desk.now.zone) (sym (to_z-of_z w32 c.in_ok-day.day fits)) c.in_ok-day.ensures.day)
     c.digest-badge.ensures
