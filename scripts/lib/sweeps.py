@@ -43,6 +43,8 @@ class Refusal:
 
 
 NO_STORE = "desk: store"
+# What `serve` says once it listens, where it cannot read the recorded checks to compare its clock with them.
+NO_CHECKS = "desk: clock"
 MEMORY = Refusal("growth of memory", "growths of memory", "refuse.c", "desk: no-memory", False)
 DISK = Refusal("call of the disk", "calls of the disk", "failing-disk.c", NO_STORE, True)
 
@@ -317,10 +319,11 @@ class Over:
         return None if dumps.of(place.now) == known(self.after) else ran.odd()
 
     def is_refused(self, place, ran):
-        """It says that it was refused. Once it has written `first`, it can tell why."""
+        """It says that it was refused. Once it has written `first`, it can tell why, but for the recorded checks."""
         if ran.wrote(""):
             return ran.was_refused(place.refusal)
-        return ran.wrote(place.filled(self.first)) and ran.names(place.refusal)
+        is_told = ran.names(place.refusal) or (ran.status == 3 and ran.errors == in_lines(NO_CHECKS))
+        return ran.wrote(place.filled(self.first)) and is_told
 
     def leaves(self, place, ran, holds):
         """A run that was refused leaves what it may."""
