@@ -21,7 +21,7 @@ struct Visit {
     /// What the visitor sends.
     sent: &'static str,
     /// At how many visits a read fails.
-    read_faults: u64,
+    read_faults: u32,
     /// What the visitor reads.
     reply: &'static str,
     /// For how many milliseconds the desk waits at least, and what is more than it waits. That is less than the usual

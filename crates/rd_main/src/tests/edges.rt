@@ -83,7 +83,7 @@ fn the_machine_makes_files_over_nothing_and_in_folders_alone(rt: HostRuntime) ->
     let written = host.write_new(rt.alloc(), parent.as_str(), "new", b"two");
     assert!(rt; written == Err(WriteFault::Exists));
     let bytes = host.read_file(rt.alloc(), path.as_str());
-    assert!(rt; bytes.is_ok_and(|bytes| bytes.as_slice() == b"one"));
+    assert!(rt; bytes.is_ok_and(|bytes| bytes.as_slice() == b"one".as_slice()));
     assert!(rt; host.is_ordinary(path.as_str()));
     assert!(rt; !host.is_ordinary(parent.as_str()));
     assert!(rt; !host.is_ordinary("/dev/zero"));
