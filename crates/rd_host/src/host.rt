@@ -548,8 +548,8 @@ fn slices_of(alloc: Global, words: &[String]) -> Result<Vec<&str>, AllocError> {
     words.iter().map(|word| word.as_str()).collect(alloc)
 }
 
-/// A machine of the process that remembers for an explanation what the system said of its output.
-trait Hears: Machine {
+/// What remembers for an explanation what the system said of the output of the process.
+trait Hears {
     /// Keeps what the system said when standard output last did not take what was written.
     fn keep_output(&self, said: Said);
 }
@@ -566,7 +566,11 @@ impl<D: Door + Drop, P: Places<D> + Drop> Hears for Host<'_, D, P> {
 /// Runs the program on these words and a machine, on the input and the outputs of the process, and gives its exit status.
 ///
 /// It fails with `NoMemory`.
-fn run_on<M: Hears>(rt: &HostRuntime, words: &[&str], machine: &mut M) -> Result<u8, Refusal> {
+fn run_on<M: Machine + Hears>(
+    rt: &HostRuntime,
+    words: &[&str],
+    machine: &mut M,
+) -> Result<u8, Refusal> {
     let mut stdout = Noted {
         inner: rt.stdout(),
         said: None,
@@ -592,13 +596,24 @@ fn run_on<M: Hears>(rt: &HostRuntime, words: &[&str], machine: &mut M) -> Result
     Ok(status)
 }
 
+/// Runs the program on these words and a machine of the process with doors of any kind, as `run_on` does.
+///
+/// It fails with `NoMemory`.
+fn run_with_doors<D: Door + Drop, P: Places<D> + Drop>(
+    rt: &HostRuntime,
+    words: &[&str],
+    host: &mut Host<'_, D, P>,
+) -> Result<u8, Refusal> {
+    run_on(rt, words, host)
+}
+
 /// Runs the program on the process's words, input and outputs, and gives its exit status.
 ///
 /// It fails as `words_of` does, and with `NoMemory`.
 fn run_here(rt: &HostRuntime) -> Result<u8, Refusal> {
     let words = words_of(rt)?;
     let words = slices_of(rt.alloc(), words.as_slice())?;
-    run_on(rt, words.as_slice(), &mut Host::new(rt))
+    run_with_doors(rt, words.as_slice(), &mut Host::new(rt))
 }
 
 /// Runs the program in the process, writes why if it cannot run, and gives its exit status.
