@@ -28,6 +28,9 @@ from harness import ROOT
 
 # After how many seconds a run is given up.
 LIMIT = 600
+# Asks glibc to take memory in large pages: the system makes these in much less time than small ones, and half of a run
+# would go into them.
+LARGE_PAGES = {"GLIBC_TUNABLES": "glibc.malloc.hugetlb=1:glibc.malloc.top_pad=8388608"}
 
 
 @dataclasses.dataclass(frozen=True)
@@ -73,7 +76,7 @@ class Place:
     def begun(self, words, at=None, more=(), stdin=subprocess.DEVNULL):
         """A command that has begun, with a refusal from the call of number `at` on if there is one, and more variables
         in its environment."""
-        settings = {**os.environ, "TMPDIR": str(self.own), **dict(more)}
+        settings = {**os.environ, **LARGE_PAGES, "TMPDIR": str(self.own), **dict(more)}
         if at is not None:
             library = str(self.work / "refuse.so")
             settings |= {"REFUSE_AT": str(at), "REFUSED_MARK": str(self.mark), "LD_PRELOAD": library}
@@ -140,6 +143,11 @@ def in_lines(text):
 # What a store holds
 
 
+def digests_of(folder):
+    """The names of the files in a folder, and digests of their bytes."""
+    return tuple((path.name, hashlib.sha256(path.read_bytes()).digest()) for path in sorted(folder.iterdir()))
+
+
 class Dumps:
     """The dumps of stores that sqlite3 has made, by the bytes of the store's files and by what these stand for."""
 
@@ -157,16 +165,16 @@ class Dumps:
 
     def of(self, folder):
         """All that the store in a folder holds, as statements."""
+        digests = digests_of(folder)
+        if digests not in self.of_bytes:
+            self.of_bytes[digests] = self.of_other_bytes(folder)
+        return self.of_bytes[digests]
+
+    def of_other_bytes(self, folder):
+        """The same where these bytes have not come before."""
         file, log, others = wal_pages.read(folder)
         if others:
             return self.of_copy(folder)
-        digest = (hashlib.sha256(file).digest(), hashlib.sha256(log).digest())
-        if digest not in self.of_bytes:
-            self.of_bytes[digest] = self.of_other_bytes(folder, file, log)
-        return self.of_bytes[digest]
-
-    def of_other_bytes(self, folder, file, log):
-        """The same where these bytes have not come before."""
         pages, frames = wal_pages.committed(file, log)
         key = (hashlib.sha256(pages).digest(), len(file), len(log), frames)
         if key in self.of_pages:
@@ -307,15 +315,29 @@ class Over:
     def fault(self, place, dumps, at):
         place.take(self.before)
         ran = self.run(place, at)
-        if not self.is_whole(place, ran):
-            holds = dumps.of(place.now)
-            if not self.leaves(place, ran, holds):
-                return ran.odd()
-            if place.refusal.may_be_done and holds == known(self.after) != known(self.before):
-                return None
-            ran = self.run(place)
-            if not self.is_whole(place, ran):
-                return ran.odd()
+        if self.is_whole(place, ran):
+            return self.fault_after(place, dumps, ran)
+        holds = dumps.of(place.now)
+        if not self.leaves(place, ran, holds):
+            return ran.odd()
+        if place.refusal.may_be_done and holds == known(self.after) != known(self.before):
+            return None
+        return self.fault_again(place, dumps)
+
+    def fault_again(self, place, dumps):
+        """What is wrong with a second run. What it does hangs on the bytes of the store alone: over bytes from which it
+        was seen to do all that it has to do, it is not made again."""
+        left = self, digests_of(place.now)
+        if left in AGAIN:
+            return None
+        ran = self.run(place)
+        fault = self.fault_after(place, dumps, ran) if self.is_whole(place, ran) else ran.odd()
+        if fault is None:
+            AGAIN.add(left)
+        return fault
+
+    def fault_after(self, place, dumps, ran):
+        """What is wrong with the store after a run that ended as ever."""
         return None if dumps.of(place.now) == known(self.after) else ran.odd()
 
     def is_refused(self, place, ran):
@@ -397,9 +419,11 @@ def reply_to(request, port):
 
 # The stores that runs begin with and have to make, by their names: what sqlite3 dumps of each.
 DUMPS = {}
-# Of each process: its place, and the dumps that it knows; and how commands end to which nothing is refused.
+# Of each process: its place, and the dumps that it knows; how commands end to which nothing is refused; and from which
+# bytes of a store a command did its work when it ran a second time.
 HERE = {}
 EVER = {}
+AGAIN = set()
 
 
 def known(name):
