@@ -9,9 +9,10 @@ with its standard library alone, gcc with the C library's headers, the shell sql
 crates/rd_policy_tests, crates/rd_disk_tests and crates/rd_tests.
 
 A test has to pass with each growth refused, and a test of plans with each plan by itself: its line has the number of
-the plan, which is its place in PLANS of the test's file, from 00 on. A command has to do its work, or to say that
-memory was refused and leave the store as it was; a second run then does the work. The commands are in
-lib/swept_commands.py."""
+the plan, which is its place in PLANS of the test's file, from 00 on. Tests keep all in memory, so N processes run a
+test: where a growth comes, one of them makes a child, in which it is refused, and which goes on alone. A command has to
+do its work, or to say that memory was refused and leave the store as it was; a second run then does the work. The
+commands are in lib/swept_commands.py."""
 
 import dataclasses
 import os
@@ -28,7 +29,8 @@ CRATES = ("rd_policy_tests", "rd_disk_tests", "rd_tests")
 
 @dataclasses.dataclass(frozen=True)
 class Test:
-    """A test of a crate passes, or one plan of it."""
+    """A test of a crate passes, or one plan of it. It keeps all in memory: so a child of its process, in which a growth
+    is refused, is a run of its own."""
 
     words: tuple
     more: tuple = ()
@@ -51,7 +53,8 @@ def sweep_tests(all_sweeps, tree):
             if not plans:
                 all_sweeps.fails(f"{crate} {name} has no plan")
             for plan in plans:
-                all_sweeps.sweep(" ".join((crate, name, *plan.values())), Test((tests, name), tuple(plan.items())))
+                test = Test((tests, name), tuple(plan.items()))
+                all_sweeps.sweep_children(" ".join((crate, name, *plan.values())), test)
 
 
 def plans_of(tests, name):

@@ -53,8 +53,14 @@ SLOW = [
     check("in-firefox.py", shares="a browser"),
 ]
 
-# What runs the built program. Those that measure times come last, one after the other.
+# What runs the built program: those that take longest first, and those that measure times last, one after the other.
 BUILT = [
+    of_program("refused-memory.py", needs=TESTS),
+    of_program("flipped-bits.py"),
+    of_program("failing-disk.py"),
+    of_program("installed-by-package.py", shares="the small Debian"),
+    of_program("under-systemd.py", shares="the small Debian"),
+    of_program("in-a-browser.py", shares="a browser"),
     of_program("as-a-shell-sees-it.sh"),
     of_program("as-a-client-sees-it.py"),
     of_program("as-strangers-see-it.py"),
@@ -70,16 +76,10 @@ BUILT = [
     of_page("docs/OPERATING.md"),
     of_page("docs/BY-HAND.md"),
     of_program("killed-at-any-moment.py"),
-    of_program("flipped-bits.py"),
     of_program("behind-nginx.py"),
     of_program("journal-is-whole.py"),
     of_program("looks-find-faults.py"),
     of_program("restores-keep-takedowns.py"),
-    of_program("in-a-browser.py", shares="a browser"),
-    of_program("under-systemd.py", shares="the small Debian"),
-    of_program("installed-by-package.py", shares="the small Debian"),
-    of_program("refused-memory.py", needs=TESTS),
-    of_program("failing-disk.py"),
     of_program("no-reply-is-lost.py", shares=MACHINE),
     of_program("no-visitor-stays.py", shares=MACHINE),
     of_program("no-page-stops-the-room.py", shares=MACHINE),

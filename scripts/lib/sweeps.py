@@ -78,21 +78,33 @@ class Place:
         in its environment."""
         settings = {**os.environ, **LARGE_PAGES, "TMPDIR": str(self.own), **dict(more)}
         if at is not None:
-            library = str(self.work / "refuse.so")
-            settings |= {"REFUSE_AT": str(at), "REFUSED_MARK": str(self.mark), "LD_PRELOAD": library}
+            settings |= self.refusing(REFUSE_AT=at)
         words = [self.filled(word) for word in words]
         pipe = subprocess.PIPE
         return subprocess.Popen(words, stdin=stdin, stdout=pipe, stderr=pipe, env=settings)
 
-    def run(self, words, at=None, image=None, more=()):
+    def refusing(self, **told):
+        """The variables that have something refused: these, the file that says so, and what stands before calls."""
+        settings = {name: str(value) for name, value in told.items()}
+        return settings | {"REFUSED_MARK": str(self.mark), "LD_PRELOAD": str(self.work / "refuse.so")}
+
+    def run_children(self, words, lane, lanes, more=()):
+        """How a command ends of whose children each is refused one growth of the lane, and how each child ended, by the
+        growth's number."""
+        told = self.refusing(REFUSE_LANE=lane, REFUSE_LANES=lanes)
+        ran = self.run(words, more=[*told.items(), *more], limit=None)
+        lines = self.mark.read_text().splitlines() if self.mark.exists() else []
+        return ran, {int(number): int(status) for number, status in map(str.split, lines)}
+
+    def run(self, words, at=None, image=None, more=(), limit=LIMIT):
         """How a command ends that has an image as its input, if there is one."""
         stdin = subprocess.DEVNULL if image is None else subprocess.PIPE
-        return self.ended(self.begun(words, at, more, stdin), image)
+        return self.ended(self.begun(words, at, more, stdin), image, limit=limit)
 
-    def ended(self, process, image=None, begins=b"", reply=b""):
+    def ended(self, process, image=None, begins=b"", reply=b"", limit=LIMIT):
         """How a command ends that has begun, and wrote this before it is asked for more."""
         try:
-            output, errors = process.communicate(image, timeout=LIMIT)
+            output, errors = process.communicate(image, timeout=limit)
         except subprocess.TimeoutExpired:
             process.kill()
             process.communicate()
@@ -163,9 +175,9 @@ class Dumps:
         streams = {"stdin": subprocess.DEVNULL, "stdout": subprocess.PIPE, "stderr": subprocess.STDOUT}
         return subprocess.run(words, **streams, timeout=LIMIT).stdout
 
-    def of(self, folder):
-        """All that the store in a folder holds, as statements."""
-        digests = digests_of(folder)
+    def of(self, folder, digests=None):
+        """All that the store in a folder holds, as statements, whose files may be known to have these digests."""
+        digests = digests or digests_of(folder)
         if digests not in self.of_bytes:
             self.of_bytes[digests] = self.of_other_bytes(folder)
         return self.of_bytes[digests]
@@ -317,24 +329,22 @@ class Over:
         ran = self.run(place, at)
         if self.is_whole(place, ran):
             return self.fault_after(place, dumps, ran)
-        holds = dumps.of(place.now)
+        left = digests_of(place.now)
+        holds = dumps.of(place.now, left)
         if not self.leaves(place, ran, holds):
             return ran.odd()
-        if place.refusal.may_be_done and holds == known(self.after) != known(self.before):
+        if (self, left) in AGAIN or (place.refusal.may_be_done and holds == known(self.after) != known(self.before)):
             return None
-        return self.fault_again(place, dumps)
+        fault = self.fault_again(place, dumps)
+        if fault is None:
+            AGAIN.add((self, left))
+        return fault
 
     def fault_again(self, place, dumps):
-        """What is wrong with a second run. What it does hangs on the bytes of the store alone: over bytes from which it
-        was seen to do all that it has to do, it is not made again."""
-        left = self, digests_of(place.now)
-        if left in AGAIN:
-            return None
+        """What is wrong with a second run. What it does hangs on the bytes of the store alone: over those from which one
+        did all that it has to do, `fault` leaves it out."""
         ran = self.run(place)
-        fault = self.fault_after(place, dumps, ran) if self.is_whole(place, ran) else ran.odd()
-        if fault is None:
-            AGAIN.add(left)
-        return fault
+        return self.fault_after(place, dumps, ran) if self.is_whole(place, ran) else ran.odd()
 
     def fault_after(self, place, dumps, ran):
         """What is wrong with the store after a run that ended as ever."""
@@ -446,6 +456,14 @@ def tried(trial, at):
     return place.mark.exists(), fault, dumps.made - before
 
 
+def tried_children(trial, lane, lanes):
+    """The same of all calls of a lane, each refused in a child of one process: how this ended, and each child."""
+    place = HERE["place"]
+    place.mark.unlink(missing_ok=True)
+    ran, children = place.run_children(trial.words, lane, lanes, trial.more)
+    return ran.status, children
+
+
 # All runs
 
 
@@ -475,6 +493,20 @@ class Sweeps(harness.Seen):
         finally:
             for run in waiting:
                 run.cancel()
+
+    def sweep_children(self, name, trial):
+        """The same of a trial that succeeds where its words end with status 0, by children of as many processes as run
+        at a time."""
+        lanes = [self.pool.submit(tried_children, trial, lane, self.jobs) for lane in range(self.jobs)]
+        ended = [lane.result() for lane in lanes]
+        children = {number: status for _, lane in ended for number, status in lane.items()}
+        odd = sorted(number for number, status in children.items() if status)
+        if odd:
+            fault = self.pool.submit(tried, trial, odd[0]).result()[1] or f"status {children[odd[0]]} of a child"
+            return self.fails(f"{name}, with {self.refusal.name} {odd[0]} refused: {fault}")
+        if sorted(children) != list(range(1, len(children) + 1)) or any(status for status, _ in ended):
+            return self.fails(f"{name}: it does not end, or not each {self.refusal.name} was refused")
+        self.ends(name, len(children))
 
     def sweep_all(self, trials):
         for name, trial in trials:
