@@ -18,13 +18,6 @@ fn listened(rt: &HostRuntime, path: &str) -> Result<(), MachineFault> {
     listened
 }
 
-/// Whether a machine listens at a path from now on.
-fn is_open<M: Machine>(machine: &mut M, path: &str) -> bool {
-    machine
-        .listen(Place::Socket(path), TimeLimits::usual())
-        .is_ok()
-}
-
 /// Leaves a socket at a path, at which nobody answers.
 fn leave_socket(rt: &HostRuntime, path: &str) -> Result<(), Fail> {
     let _left = UnixListener::bind(rt, path)?;
@@ -43,7 +36,10 @@ fn a_socket_is_for_owner_and_group_and_goes_with_its_desk(rt: HostRuntime) -> Re
     let path = folder.path("door")?;
     {
         let mut host = Host::new(&rt);
-        assert!(rt; is_open(&mut host, path.as_str()));
+        let is_open = host
+            .listen(Place::Socket(path.as_str()), TimeLimits::usual())
+            .is_ok();
+        assert!(rt; is_open);
         let found = fs::symlink_metadata(&rt, path.as_str())?;
         assert!(rt; found.permissions().mode() & 0o777 == 0o660);
     }
@@ -57,7 +53,10 @@ fn what_has_taken_the_place_of_a_socket_stays(rt: HostRuntime) -> Result<(), Fai
     let path = folder.path("door")?;
     {
         let mut host = Host::new(&rt);
-        assert!(rt; is_open(&mut host, path.as_str()));
+        let is_open = host
+            .listen(Place::Socket(path.as_str()), TimeLimits::usual())
+            .is_ok();
+        assert!(rt; is_open);
         fs::remove_file(&rt, path.as_str())?;
         leave_socket(&rt, path.as_str())?;
     }
@@ -100,8 +99,12 @@ fn nothing_else_gives_way(rt: HostRuntime) -> Result<(), Fail> {
     let folder = Folder::new(&rt)?;
     make_others(&rt, &folder)?;
     let _listener = UnixListener::bind(&rt, folder.path("listener")?.as_str())?;
+    let desk = folder.path("desk")?;
     let mut host = Host::new(&rt);
-    assert!(rt; is_open(&mut host, folder.path("desk")?.as_str()));
+    let is_open = host
+        .listen(Place::Socket(desk.as_str()), TimeLimits::usual())
+        .is_ok();
+    assert!(rt; is_open);
     for name in STAYING {
         assert!(rt; stays(&rt, folder.path(name)?.as_str())?, "{name}");
     }
