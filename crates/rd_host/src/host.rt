@@ -1,3 +1,4 @@
+ghost use Rattle.std.specs.Io.{ReadsAtMost};
 ghost use Rattle.std.specs.Io.KnownBytes.{Keeps};
 ghost use Rattle.std.specs.Prelude.{◌≡◌, IfOk, IsTrue, None, OnOk, false, true};
 ghost use Rattle.rd_messages.specs.Streams.{limits_of};
@@ -23,6 +24,9 @@ use std::{env, fs, io};
 
 /// The most bytes that a sheet may have: 64 MiB.
 const SHEET_LIMIT: u64 = 67_108_864;
+
+/// How many bytes of an image are read at a time.
+const PART: usize = 4_096;
 
 /// How many frames the log of a store has at least when the next command that writes first copies them into the store's
 /// file. With 1 the log alone has no more than the last command, once a command has been given.
@@ -210,13 +214,38 @@ fn seconds_now(rt: &HostRuntime) -> Option<i64> {
     i64::try_from(now.duration_since(UNIX_EPOCH).ok()?.as_secs()).ok()
 }
 
+/// Reads once, and again if the read was interrupted.
+fn read_some(file: &mut File, part: &mut [u8]) -> io::Result<usize>
+    ensures bound { ReadsAtMost result part.new }
+{
+    for _ in 0..u64::MAX {
+        match file.read(part) {
+            Ok(count) => return Ok(count),
+            Err(error) => {
+                if error.kind() != ErrorKind::Interrupted {
+                    return Err(error);
+                }
+            }
+        }
+    }
+    Err(io::Error::from(ErrorKind::Interrupted))
+}
+
 /// The front of a file: at most one byte more than the largest image has, so that a huge file or a device that never
-/// ends does no harm.
+/// ends does no harm. It comes through an array, since `read_to_end` would fill the room of all bytes with zeros first.
 fn front_of_file(rt: &HostRuntime, alloc: Global, path: &str) -> io::Result<Vec<u8>> {
-    let mut bytes = Vec::new(alloc);
-    fs::open(rt, path)?
-        .take(Kind::largest_size() as u64 + 1)
-        .read_to_end(&mut bytes)?;
+    let mut file = fs::open(rt, path)?;
+    let limit = Kind::largest_size() + 1;
+    let mut bytes = Vec::with_capacity(alloc, limit)?;
+    let mut part = [0; PART];
+    while bytes.len() < limit {
+        let room = PART.min(limit - bytes.len());
+        let count = read_some(&mut file, &mut part[..room])?;
+        if count == 0 {
+            return Ok(bytes);
+        }
+        bytes.extend_from_slice(&part[..count])?;
+    }
     Ok(bytes)
 }
 
