@@ -11,9 +11,11 @@
 #include <dlfcn.h>
 #include <errno.h>
 #include <fcntl.h>
+#include <signal.h>
 #include <stdio.h>
 #include <stdlib.h>
 #include <string.h>
+#include <sys/prctl.h>
 #include <sys/wait.h>
 #include <unistd.h>
 
@@ -22,6 +24,13 @@
 
 static long calls;
 static int is_child;
+
+/* A process with a lane ends with the one that has begun it. */
+__attribute__((constructor)) static void ends_too(void)
+{
+    if (getenv("REFUSE_LANE"))
+        prctl(PR_SET_PDEATHSIG, SIGKILL);
+}
 
 static int file_of_marks(void)
 {

@@ -13,9 +13,10 @@ TESTS = tuple(
 
 # A check: its name, its command, its words, in which {program} stands for the program and {tree} for the tree in which
 # its tests lie; the files that have to be built; and what it may not share with another that runs at the same time: a
-# port, or the whole machine, where it measures time.
+# port, or the whole machine, where it measures time. One that takes what others leave of the processors, since it takes
+# longest, may also run beside those that measure time.
 Check = collections.namedtuple("Check", "name command words needs shares")
-MACHINE = "the machine"
+MACHINE, LEFT = "the machine", "what others leave"
 
 
 def check(command, *words, needs=(), shares=None, name=None):
@@ -55,7 +56,7 @@ SLOW = [
 
 # What runs the built program: those that take longest first, and those that measure times last, one after the other.
 BUILT = [
-    of_program("refused-memory.py", needs=TESTS),
+    of_program("refused-memory.py", needs=TESTS, shares=LEFT),
     of_program("flipped-bits.py"),
     of_program("failing-disk.py"),
     of_program("installed-by-package.py", shares="the small Debian"),

@@ -16,6 +16,7 @@ import multiprocessing
 import os
 import pathlib
 import shutil
+import signal
 import subprocess
 import sys
 import tempfile
@@ -442,6 +443,7 @@ def known(name):
 
 def settle(work, room, ports, refusal):
     """Gives a process its place."""
+    signal.signal(signal.SIGTERM, signal.SIG_DFL)
     own = pathlib.Path(tempfile.mkdtemp(dir=room))
     HERE["place"] = Place(work, own, ports.get(), refusal)
     HERE.setdefault("dumps", Dumps())
@@ -545,6 +547,13 @@ def make_stores(stores):
     return None
 
 
+def end(*_):
+    """Ends the processes in which runs go on, and this one."""
+    for process in multiprocessing.active_children():
+        process.terminate()
+    sys.exit(1)
+
+
 def main(usage, refusal, commands, sweep_more=None):
     """Sweeps commands over their stores: a module with `fill`, `STORES` and `OVER_STORES`. More sweeps, of the program
     that is named, come before them."""
@@ -566,6 +575,7 @@ def main(usage, refusal, commands, sweep_more=None):
         commands.fill(work)
         settle(work, room, ports, refusal)
         fault = make_stores(commands.STORES)
+        signal.signal(signal.SIGTERM, end)
         with concurrent.futures.ProcessPoolExecutor(jobs, forks, settle, (work, room, ports, refusal)) as pool:
             sweeps = Sweeps(jobs, pool, refusal)
             if sweep_more:
