@@ -2,6 +2,7 @@
 #![tactic(auto)]
 
 mod explanation;
+mod fault;
 mod fits;
 mod line;
 mod notes;
@@ -11,8 +12,9 @@ mod tests;
 mod words;
 
 pub use explanation::explained;
+pub use fault::Fault;
 pub use fits::kind_that_fits;
 pub use line::Line;
 pub use notes::Notes;
 pub use said::Said;
-pub use words::{Advice, Column, Reason};
+pub use words::{Advice, Column, Reason, Unusable};

@@ -2,8 +2,9 @@
 
 ghost use Rattle.std.specs.Prelude.{Some};
 
+use crate::fault::Fault;
 use crate::said::Said;
-use crate::words::{Advice, Column, Reason};
+use crate::words::{Advice, Column, Reason, Unusable};
 use rd_geometry::Kind;
 use std::fmt;
 
@@ -58,6 +59,15 @@ pub enum Line {
     },
     /// An image of this kind has as many bytes as the file.
     Fits(Kind),
+    /// A file that the words name gives no key or no zone.
+    Operand {
+        /// The path of the file.
+        path: String,
+        /// Why it gives none.
+        unusable: Unusable,
+    },
+    /// A fault of the file that the command names.
+    Fault(Fault),
     /// A field of a sheet is missing or badly written.
     Field {
         /// The number of the row, from 1 for the one after the names.
@@ -79,6 +89,38 @@ pub enum Line {
         /// The system's word.
         said: Said,
     },
+    /// The file of a row has so many bytes, and an image of its kind has another number.
+    RowSize {
+        /// The number of the row.
+        row: u64,
+        /// The path of the file.
+        path: String,
+        /// How many bytes it has.
+        found: usize,
+        /// The kind that the row names.
+        kind: Kind,
+    },
+    /// The file of a row has more bytes than an image of its kind, and was read no further.
+    RowTooLong {
+        /// The number of the row.
+        row: u64,
+        /// The path of the file.
+        path: String,
+        /// The kind that the row names.
+        kind: Kind,
+    },
+    /// An image of this kind has as many bytes as the file of a row.
+    RowFits {
+        /// The number of the row.
+        row: u64,
+        /// The kind.
+        kind: Kind,
+    },
+    /// The file of a row has the size of no kind.
+    RowFitsNone {
+        /// The number of the row.
+        row: u64,
+    },
     /// The desk refuses the image of a row.
     Row {
         /// The number of the row.
@@ -90,6 +132,8 @@ pub enum Line {
     },
     /// So many more rows are not explained.
     More(u64),
+    /// How to put a deed of this number.
+    PutDeed(u32),
     /// What to do next.
     Next(Advice),
 }
@@ -130,14 +174,53 @@ impl fmt::Display for Line {
                     "An image of the kind {word} has as many bytes as this file: is it one?"
                 )
             }
+            Line::Operand { path, unusable } => write!(f, "{path}: {unusable}"),
+            Line::Fault(fault) => {
+                let word = fault.word();
+                write!(f, "{word}: {fault}")
+            }
             Line::Field { row, column } => write!(
                 f,
                 "Row {row}, column {column}: missing or badly written."
             ),
             Line::Length { row } => write!(f, "Row {row} has another number of fields than five."),
             Line::Unread { row, path, said } => write!(f, "Row {row}: {path}: {said}"),
+            Line::RowSize {
+                row,
+                path,
+                found,
+                kind,
+            } => {
+                let wanted = Wanted(*kind);
+                write!(
+                    f,
+                    "Row {row}: {path} has {found} bytes, and an image of the kind {wanted}."
+                )
+            }
+            Line::RowTooLong { row, path, kind } => {
+                let wanted = Wanted(*kind);
+                write!(
+                    f,
+                    "Row {row}: {path} has more bytes than an image of its kind: {wanted}."
+                )
+            }
+            Line::RowFits { row, kind } => {
+                let word = kind.word();
+                write!(
+                    f,
+                    "Row {row}: an image of the kind {word} has as many bytes: write {word} in the row, if it is one."
+                )
+            }
+            Line::RowFitsNone { row } => write!(
+                f,
+                "Row {row}: no kind of disk has images of this size: copy the disk again."
+            ),
             Line::Row { row, acc, reason } => write!(f, "Row {row}, accession {acc}: {reason}"),
             Line::More(count) => write!(f, "And {count} more rows."),
+            Line::PutDeed(deed) => write!(
+                f,
+                "If the deed is new, put it first, to desk serve: curl -X PUT -H 'Desk-Key: KEY' http://127.0.0.1:8041/deeds/{deed} -d '{{\"donor\":\"NAME\",\"signed\":\"2030-01-31\"}}'"
+            ),
             Line::Next(advice) => write!(f, "{advice}"),
         }
     }

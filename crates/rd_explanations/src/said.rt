@@ -17,6 +17,8 @@ pub enum Said {
     Folder,
     /// A part of the path is a file, and no folder.
     NoFolder,
+    /// The folder is not there in which the command is to make something.
+    NoRoom,
     /// Something is at the path already.
     Standing,
     /// The disk is full.
@@ -27,6 +29,8 @@ pub enum Said {
     Taken,
     /// The file has more bytes than it may have, or is of another sort.
     Unfit,
+    /// The file is no database, and so no store.
+    NoStore,
     /// It failed, and the system's word says no more.
     Failed,
 }
@@ -62,11 +66,13 @@ impl fmt::Display for Said {
             Said::Denied => write!(f, "the system does not allow it"),
             Said::Folder => write!(f, "it is a folder"),
             Said::NoFolder => write!(f, "a part of the path is no folder"),
+            Said::NoRoom => write!(f, "the folder for it is not there"),
             Said::Standing => write!(f, "there is one already"),
             Said::Full => write!(f, "the disk is full"),
             Said::Closed => write!(f, "nobody reads what is written there"),
             Said::Taken => write!(f, "another program uses it"),
             Said::Unfit => write!(f, "it is no file of the right sort"),
+            Said::NoStore => write!(f, "it is no store of a desk"),
             Said::Failed => write!(f, "the system failed, and says no more"),
         }
     }

@@ -40,8 +40,12 @@ impl fmt::Display for Column {
 pub enum Advice {
     /// The path may be wrong.
     CheckPath,
-    /// There is no desk at the path.
+    /// A folder is at the path, and the command takes a file.
+    FileInFolder,
+    /// Something that is no desk is at the path.
     InitFirst,
+    /// Nothing is at the path.
+    InitThere,
     /// Something else is at the place where the visitors are to come.
     OtherPlace,
     /// The image has the size of no kind.
@@ -56,21 +60,27 @@ pub enum Advice {
     CheckKey,
     /// The key is known, and is none of the staff.
     StaffKey,
-    /// The moment, or that of the clock, lies outside the years in which clocks have days.
+    /// The clock fails, or its moment lies outside the years in which clocks have days.
     OtherMoment,
+    /// The moment that the words name lies outside those years.
+    MomentLimits,
+    /// The clocks of the zone never show the day that the words name.
+    ShownDay,
     /// The clock is wrong, and no moment can be named.
     SetClock,
     /// The clock is behind a recorded check.
     TrustClock,
     /// The store holds a desk of a version that this program does not know.
     OtherProgram,
-    /// The store is another file, or is damaged.
+    /// The rows of the store are not those of a desk.
     Restore,
+    /// The file is no store.
+    CheckStore,
     /// The store may be in use; else it is another file, or is damaged.
     FirstLook,
-    /// A key file has at most 4,096 bytes.
-    ShortKey,
-    /// The file of a zone is one of the time zone database.
+    /// The file has more than a key.
+    KeyAlone,
+    /// The file gives no zone.
     ZoneFile,
     /// The folder is there before the command.
     MakeFolder,
@@ -78,6 +88,8 @@ pub enum Advice {
     KeepGoing,
     /// Something is at the path already.
     FreshPath,
+    /// Something is in the folder already.
+    FreshFolder,
     /// A new store may be there, without a desk or with the whole desk.
     CopyAnew,
     /// The file is of a type of which desk shows the name alone.
@@ -88,8 +100,8 @@ pub enum Advice {
     SaveFirst,
     /// The file is not sound in this image.
     OtherCopy,
-    /// The size of a row's file is shown by another command.
-    ShowSize,
+    /// The number of a deed in a sheet may be wrong.
+    ShowDeeds,
 }
 
 impl fmt::Display for Advice {
@@ -103,10 +115,12 @@ impl fmt::Display for Advice {
                 f,
                 "Check how the path is written, and that you may read it."
             ),
+            Advice::FileInFolder => write!(f, "Give the path of a file in it."),
             Advice::InitFirst => write!(
                 f,
                 "Make a desk there with desk init, or give the path of one."
             ),
+            Advice::InitThere => write!(f, "For a new desk, make it there with desk init."),
             Advice::OtherPlace => write!(f, "Give another port, or stop what uses this one."),
             Advice::CopyAgain => write!(
                 f,
@@ -114,18 +128,26 @@ impl fmt::Display for Advice {
             ),
             Advice::NameColumns => write!(
                 f,
-                "The first row must be: accession,kind,deed,sha256,file"
+                "The first row must be, in small letters: accession,kind,deed,sha256,file"
             ),
             Advice::UseCommas => write!(f, "Save the sheet as CSV with commas between the fields."),
             Advice::ListSlots => write!(f, "Give a slot as the number that desk list shows first."),
             Advice::CheckKey => write!(
                 f,
-                "Give a key that the desk knows: one of the staff may show all keys."
+                "Check how the key is written, or give the file that holds it by --key-file."
             ),
             Advice::StaffKey => write!(f, "Only the staff may do this: give a key of the staff."),
             Advice::OtherMoment => write!(
                 f,
                 "Set the clock of this machine, or name another moment by --at."
+            ),
+            Advice::MomentLimits => write!(
+                f,
+                "--at takes moments from 0001-01-03 to 9999-12-29 in UTC: give one of these."
+            ),
+            Advice::ShownDay => write!(
+                f,
+                "The clocks of this zone pass over this day: give another day, or a moment in seconds."
             ),
             Advice::SetClock => write!(f, "Set the clock of this machine."),
             Advice::TrustClock => write!(
@@ -134,26 +156,31 @@ impl fmt::Display for Advice {
             ),
             Advice::OtherProgram => write!(f, "Use the desk that made this store, or a newer one."),
             Advice::Restore => write!(f, "Give the file of a store, or bring back a backup of it."),
+            Advice::CheckStore => write!(
+                f,
+                "Check which file you name; if it was a store, bring back a backup of it."
+            ),
             Advice::FirstLook => write!(
                 f,
                 "First look that no other desk or sqlite3 uses it; else give the file of a store, or bring back a backup of it."
             ),
-            Advice::ShortKey => write!(
+            Advice::KeyAlone => write!(
                 f,
-                "Put the key alone into the first line of the file: at most 4096 bytes."
+                "Put the key alone into the first line of a file, and give that."
             ),
             Advice::ZoneFile => write!(
                 f,
-                "Give a file as those below /usr/share/zoneinfo, or a rule by --zone."
+                "Give a file such as /usr/share/zoneinfo/Europe/Prague, or a rule by --zone."
             ),
-            Advice::MakeFolder => write!(f, "Make the folder first, or give the path of one."),
+            Advice::MakeFolder => write!(f, "Make the folder first, or give one that is there."),
             Advice::KeepGoing => write!(
                 f,
                 "Import again: what is done stays, and --keep-going goes past such files."
             ),
-            Advice::FreshPath => write!(
+            Advice::FreshPath => write!(f, "Give the path of a file that is not there yet."),
+            Advice::FreshFolder => write!(
                 f,
-                "Give a path where nothing is yet, or move away what is there."
+                "Nothing is replaced: give a folder that is there and has none of these files, or move them all out of it."
             ),
             Advice::CopyAnew => write!(
                 f,
@@ -173,11 +200,11 @@ impl fmt::Display for Advice {
             ),
             Advice::OtherCopy => write!(
                 f,
-                "The file is damaged in this image: copy the disk again, or look for another copy of it."
+                "desk gives no bytes of a damaged file: desk list shows which files of the disk are sound. Copy the disk again, or look for another copy of it."
             ),
-            Advice::ShowSize => write!(
+            Advice::ShowDeeds => write!(
                 f,
-                "desk list KIND FILE --explain says how many bytes the file of a row has, and which kind fits."
+                "If the number is wrong, correct it in the sheet: desk show deeds shows the deeds that there are."
             ),
         }
     }
@@ -186,10 +213,8 @@ impl fmt::Display for Advice {
 /// Why the desk does not take in the image of a row.
 #[derive(Clone, Copy, Debug, PartialEq, Eq)]
 pub enum Reason {
-    /// No deed of its number stands.
-    NoDeed,
-    /// The file has another size than an image of its kind.
-    Size,
+    /// No deed of this number stands.
+    NoDeed(u32),
     /// The file has another SHA-256 than the sheet says.
     Digest,
     /// An image of another kind, deed or SHA-256 stands at the accession.
@@ -207,12 +232,42 @@ impl fmt::Display for Reason {
 
     fn fmt<W: fmt::Write>(&self, f: &mut fmt::Formatter<W>) -> fmt::Result {
         match self {
-            Reason::NoDeed => write!(f, "no deed of this number stands; put the deed first."),
-            Reason::Size => write!(f, "the file has another size than an image of this kind."),
+            Reason::NoDeed(deed) => write!(f, "the desk has no deed {deed}."),
             Reason::Digest => write!(f, "the file has another SHA-256 than the sheet says."),
             Reason::Conflict => write!(f, "another image stands at this accession."),
             Reason::Key => write!(f, "the key is none of the staff."),
             Reason::Other => write!(f, "the desk refuses it."),
+        }
+    }
+}
+
+/// Why a file that the words name gives no key or no zone.
+#[derive(Clone, Copy, Debug, PartialEq, Eq)]
+pub enum Unusable {
+    /// A file with a key has at most 4,096 bytes.
+    LongKey,
+    /// Standard input has more, or it cannot be read: the system's word is not known.
+    NoKey,
+    /// A file with a zone has at most 65,536 bytes.
+    LongZone,
+    /// It is no file of the time zone database.
+    NoZone,
+    /// It is one, and ends in no rule that holds from now on.
+    NoRule,
+}
+
+impl fmt::Display for Unusable {
+    ghost use Rattle.rd_explanations.specs.Words.{unusable_text};
+
+    ghost output = { λ unusable. Some (unusable_text unusable) };
+
+    fn fmt<W: fmt::Write>(&self, f: &mut fmt::Formatter<W>) -> fmt::Result {
+        match self {
+            Unusable::LongKey => write!(f, "it has more than 4096 bytes."),
+            Unusable::NoKey => write!(f, "it cannot be read, or has more than 4096 bytes."),
+            Unusable::LongZone => write!(f, "it has more than 65536 bytes."),
+            Unusable::NoZone => write!(f, "it is no file of the time zone database."),
+            Unusable::NoRule => write!(f, "it ends in no rule for clocks that desk can use."),
         }
     }
 }
