@@ -1,9 +1,15 @@
 -- What the program writes of an explanation, and the first fault of a row.
-use Rattle.std.specs.Prelude.{◌≡◌, ℕ, List, None, Option}
+use Rattle.std.specs.Prelude.{◌≡◌, ◌≢◌, ℕ, List, None, Option, Some}
+use Rattle.rd_geometry.specs.Kinds.{size_of}
+use Rattle.rd_geometry.specs.declared.kind.Kind.{Kind}
 use Rattle.rd_explanations.specs.Explained.{AreLines}
+use Rattle.rd_explanations.specs.declared.line.Line.{Line}
+use Rattle.rd_explanations.specs.declared.line.Line.TheVariants as line
 use Rattle.rd_explanations.specs.declared.words.Column.{Column}
 use Rattle.rd_explanations.specs.declared.words.Column.TheVariants as column
 use Rattle.rd_commands.specs.Output.{AppendsPart}
+use Rattle.rd_commands.specs.declared.remembered.RowNote.{RowNote}
+use Rattle.rd_commands.specs.declared.remembered.RowNote.TheVariants as note
 use Rattle.rd_commands.specs.Sheets.{digest_at, kind_at, path_at, scope_at}
 
 -- a writer has gained lines, each of which begins with two blanks, or a front part of them
@@ -17,3 +23,15 @@ IsBadAt fields column.Kind = kind_at 1 fields ≡ None
 IsBadAt fields column.Deed = scope_at 2 fields ≡ None
 IsBadAt fields column.Digest = digest_at 3 fields ≡ None
 IsBadAt fields column.File = path_at 4 fields ≡ None
+
+-- the line names a kind whose images have so many bytes, as the file of this row, or says that no kind has such images
+abbrev pub IsFitOf : ℕ → ℕ → Line → Type 0
+IsFitOf row found (line.RowFits number kind) = (number ≡ row) × (size_of kind ≡ found)
+IsFitOf row found (line.RowFitsNone number) = (number ≡ row) × ((kind : Kind) → size_of kind ≢ found)
+IsFitOf row found _ = ⊥
+
+-- a row whose file has another size than an image of its kind has a second line, which says what fits; no other has one
+abbrev pub IsNextLine : ℕ → RowNote → Option Line → Type 0
+IsNextLine row (note.Size file found kind) (Some next) = IsFitOf row found next
+IsNextLine row (note.Size file found kind) None = ⊥
+IsNextLine row _ next = next ≡ None

@@ -8,7 +8,7 @@ help_hint = line_feed ++ (line_feed ++ (codes "For more information, try '--help
 
 -- the text of `--zone` is no rule for clocks
 abbrev pub zone_mistake : List ℕ
-zone_mistake = codes "error: --zone takes a rule as POSIX writes it, as in UTC0 or CET-1CEST,M3.5.0,M10.5.0/3" ++ help_hint
+zone_mistake = codes "error: --zone takes a rule as POSIX writes it, as in UTC0 or CET-1CEST,M3.5.0,M10.5.0/3; for a place, --zone-file /usr/share/zoneinfo/Europe/Prague" ++ help_hint
 
 -- the day does not go with what `show` shows
 abbrev pub day_mistake : List ℕ

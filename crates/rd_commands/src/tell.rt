@@ -31,7 +31,7 @@ use std::process::ExitCode;
 
 /// What it says about a text that is no rule for clocks.
 const ZONE_MISTAKE: &[u8] =
-    b"error: --zone takes a rule as POSIX writes it, as in UTC0 or CET-1CEST,M3.5.0,M10.5.0/3\n\nFor more information, try '--help'.\n";
+    b"error: --zone takes a rule as POSIX writes it, as in UTC0 or CET-1CEST,M3.5.0,M10.5.0/3; for a place, --zone-file /usr/share/zoneinfo/Europe/Prague\n\nFor more information, try '--help'.\n";
 
 /// What it says about a day that does not go with what `show` shows.
 const DAY_MISTAKE: &[u8] =
