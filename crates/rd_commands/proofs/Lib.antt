@@ -7,6 +7,7 @@ mod HelpNames
 pub mod VersionLine
 pub mod ShowWords
 pub mod GetterLemmas
+pub mod OneCommand
 pub mod Together
 pub mod Looks
 pub mod SheetAsks

@@ -3,6 +3,7 @@
 -- ---- what a reader of a public clause believes
 pub mod Words
 pub mod CommandLine
+pub mod OneCommand
 pub mod Zones
 pub mod Beside
 pub mod Serving

@@ -7,7 +7,8 @@ ghost use Rattle.rd_commands.specs.Asks.{EntersByRule, EntersCat, EntersCheck, E
 ghost use Rattle.rd_commands.specs.Asks.{IsExtractAsk, IsSeenFault, IsSiftAsk, IsWithinLimits, IsFaultOf, IsFileAsk, IsFilesAsk, IsForMemory, IsHelp, IsImportAsk, IsInitAsk, IsMistake, IsOneQuestionAsk, IsServeAsk, IsTold, IsVersion, TellsOnOutput};
 ghost use Rattle.rd_commands.specs.Asks.{EntersCopy, EntersStaffKey, EntersSumming, IsCopyAsk, IsStaffKeyAsk, has_sums, is_trusting};
 ghost use Rattle.rd_commands.specs.Beside.{EntersApart, EntersBeside, EntersTogether, FitsTogether, IsApart, IsTakenApart, TellsBeside};
-ghost use Rattle.rd_commands.specs.CommandLine.{IsDeskApp, IsTaken, IsTakenTelling};
+ghost use Rattle.rd_commands.specs.CommandLine.{IsTaken, IsTakenTelling};
+ghost use Rattle.rd_commands.specs.OneCommand.{ReadsAsDesk};
 ghost use Rattle.rd_commands.specs.Commands.{IsAskOf, IsCommand, IsTakenServingNowhere, IsTakenShowingNothing, NamesAPlace, NamesWhatItShows, Sums, TellsARule, Trusts};
 ghost use Rattle.rd_commands.specs.Serving as spec;
 ghost use Rattle.rd_commands.specs.Shown.{IsDayGiven, IsShowable, IsShownAs, NamesAny, NamesShown};
@@ -20,7 +21,7 @@ use crate::asked::{
     serve_asked, sheet_asked, show_asked, staff_key_asked,
 };
 use crate::beside::{Beside, Told, beside_found};
-use crate::command_line::desk_command;
+use crate::command_line::desk_for;
 use crate::serving::{Place, Timeouts, check_place};
 use clap::{ArgMatches, Command, Error};
 use rd_policy::{DateFault, Zone, date_read};
@@ -397,12 +398,12 @@ fn ask_found<'a>(matches: &ArgMatches<'a>, shown: Option<Shown>) -> Option<Ask<'
     }
 }
 
-/// Reads the words of a command by the command line of the program.
+/// Reads the words of a command by a command line that reads them as that of the program.
 ///
 /// It fails as `read_words` does, but says `NoMemory` of no words in which `clap` finds a fault: of these it gives what
 /// `clap` says.
 fn read_by<'a>(alloc: Global, desk: Command<'a>, words: &'a [&'a str]) -> Result<Told<'a>, Unread>
-    requires { IsDeskApp (app_of desk) }
+    requires { ReadsAsDesk (app_of desk) (map (λ word. word.now) words.now) }
     ensures read { IfOk result (λ told. IsAskOf (map (λ word. word.now) words.entry.now) told.ask) }
     ensures written_on_output { IfOk result (λ told. TellsOnOutput told.ask → IsTakenTelling (map (λ word. word.now) words.entry.now)) }
     ensures accession { IfOk result (λ told. IsWithinLimits told.ask) }
@@ -489,6 +490,6 @@ pub fn read_words<'a>(alloc: Global, words: &'a [&'a str]) -> Result<Told<'a>, U
     ensures help { IfErr result (λ fault. AsksHelp (map (λ word. word.now) words.entry.now)
         → (IsForMemory fault) ⊎ IsHelp fault) }
 {
-    let desk: Command<'a> = desk_command(alloc)?;
+    let desk: Command<'a> = desk_for(alloc, words)?;
     read_by(alloc, desk, words)
 }

@@ -3,6 +3,7 @@ use Rattle.clap.specs.Words.{app_of, subcommand_rows_of}
 use Rattle.rd_commands.specs.Asks.{IsForMemory}
 use Rattle.rd_commands.specs.declared.words.Unread.TheVariants.{Day, Place as NoPlace, Usage}
 use Rattle.rd_commands.proofs.GetterLemmas.{GivesRows, ask_given, ask_read, ask_unread, entered_is, fails_for_memory, faultless, names_what_it_shows, no_fault_in, passed_on, sums_read, taken_apart, taken_by, taken_on_output, taken_serving, taken_showing, trust_read, words_at_fault}
+use Rattle.rd_commands.proofs.OneCommand.{gives_kind, gives_matches, gives_memory, gives_no_fault}
 use Rattle.rd_commands.proofs.HelpLine.{help_unread, not_help}
 use Rattle.rd_commands.proofs.Places.{fits_together, look_mistake, look_no_fault, look_not_placed, look_not_shown, look_unread, names_a_place, tells_beside}
 use Rattle.rd_commands.proofs.VersionLine.{not_version, version_unread}
@@ -10,20 +11,20 @@ use Rattle.rd_commands.proofs.words.read_by.Goals as goal
 
 pub returns-clause-unread : goal.returns-clause-unread
 returns-clause-unread c = λ command.
-    fails_for_memory (app_of c.args.desk) _ c.in-Err.error c.requires command c.in-Err.ensures.passes c.in-Err.ensures.kinds
+    fails_for_memory c.requires.whole _ c.in-Err.error c.requires.is_desk command (gives_memory (app_of c.args.desk) _ _ c.requires c.in-Err.ensures.passes) (gives_kind (app_of c.args.desk) _ c.in-Err.error c.requires c.in-Err.ensures.kinds)
 
 pub returns-clause-mistake_in : goal.returns-clause-mistake_in
 returns-clause-mistake_in c =
-    words_at_fault (app_of c.args.desk) _ c.in-Err.error c.requires c.in-Err.ensures.kinds
+    words_at_fault c.requires.whole _ c.in-Err.error c.requires.is_desk (gives_kind (app_of c.args.desk) _ c.in-Err.error c.requires c.in-Err.ensures.kinds)
 
 pub returns-clause-version : goal.returns-clause-version
 returns-clause-version c =
-    version_unread (app_of c.args.desk) _ c.in-Err.error c.requires c.in-Err.ensures.kinds
+    version_unread c.requires.whole _ c.in-Err.error c.requires.is_desk (gives_kind (app_of c.args.desk) _ c.in-Err.error c.requires c.in-Err.ensures.kinds)
 
 pub returns-clause-no_rule : goal.returns-clause-no_rule
 returns-clause-no_rule c =
     let words = map (λ word. word.now) c.args.words.now in
-    let wrong = words_at_fault (app_of c.args.desk) _ c.in-Err.error c.requires c.in-Err.ensures.kinds in
+    let wrong = words_at_fault c.requires.whole _ c.in-Err.error c.requires.is_desk (gives_kind (app_of c.args.desk) _ c.in-Err.error c.requires c.in-Err.ensures.kinds) in
     λ none. elim wrong [
       | inl out ↦ inr out
       | inr found ↦ absurd (none (λ name rows enters clocks. absurd (no_fault_in words name rows _ enters found)))
@@ -35,7 +36,7 @@ returns-clause-day c = λ day. absurd cc
 pub returns-clause-none_shown : goal.returns-clause-none_shown
 returns-clause-none_shown c =
     let words = map (λ word. word.now) c.args.words.now in
-    let wrong = words_at_fault (app_of c.args.desk) _ c.in-Err.error c.requires c.in-Err.ensures.kinds in
+    let wrong = words_at_fault c.requires.whole _ c.in-Err.error c.requires.is_desk (gives_kind (app_of c.args.desk) _ c.in-Err.error c.requires c.in-Err.ensures.kinds) in
     λ none. elim wrong [
       | inl out ↦ inr out
       | inr found ↦ absurd (none (λ rows enters. absurd (no_fault_in words (codes "show") rows _ enters found)))
@@ -55,7 +56,7 @@ returns-clause-mixed c = λ apart. elim apart [
 pub returns-clause-no_place : goal.returns-clause-no_place
 returns-clause-no_place c =
     let words = map (λ word. word.now) c.args.words.now in
-    let wrong = words_at_fault (app_of c.args.desk) _ c.in-Err.error c.requires c.in-Err.ensures.kinds in
+    let wrong = words_at_fault c.requires.whole _ c.in-Err.error c.requires.is_desk (gives_kind (app_of c.args.desk) _ c.in-Err.error c.requires c.in-Err.ensures.kinds) in
     λ none. elim wrong [
       | inl out ↦ inr out
       | inr found ↦ absurd (none (λ rows enters. absurd (no_fault_in words (codes "serve") rows _ enters found)))
@@ -66,7 +67,7 @@ returns-clause-no_place c =
 pub returns-in_err-seen-in-Ok-clause-unread : goal.returns-in_err-seen-in-Ok-clause-unread
 returns-in_err-seen-in-Ok-clause-unread c =
     passed_on c.from_residual.result c.in_err-seen-in-Ok.field-0.0 _ c.from_residual.ensures.1
-    (look_unread (app_of c.args.desk) _ c.in-Ok.matches c.requires c.in-Ok.ensures.matches c.in_err-seen-in-Ok.field-0.0 c.in_err-seen-in-Ok.ensures.failed
+    (look_unread c.requires.whole _ c.in-Ok.matches c.requires.is_desk (gives_matches (app_of c.args.desk) _ c.in-Ok.matches c.requires c.in-Ok.ensures.matches) c.in_err-seen-in-Ok.field-0.0 c.in_err-seen-in-Ok.ensures.failed
     c.in_err-seen-in-Ok.ensures.none c.in_err-seen-in-Ok.ensures.no_place c.in_err-seen-in-Ok.ensures.apart c.in_err-seen-in-Ok.ensures.shown_before
     c.in_err-seen-in-Ok.ensures.placed_before)
 
@@ -83,59 +84,59 @@ returns-in_err-seen-in-Ok-clause-no_rule c =
 pub returns-in_err-seen-in-Ok-clause-none_shown : goal.returns-in_err-seen-in-Ok-clause-none_shown
 returns-in_err-seen-in-Ok-clause-none_shown c =
     passed_on c.from_residual.result c.in_err-seen-in-Ok.field-0.0 _ c.from_residual.ensures.1
-    (look_not_shown (app_of c.args.desk) _ c.in-Ok.matches c.requires c.in-Ok.ensures.matches c.in_err-seen-in-Ok.field-0.0 c.in_err-seen-in-Ok.ensures.failed
+    (look_not_shown c.requires.whole _ c.in-Ok.matches c.requires.is_desk (gives_matches (app_of c.args.desk) _ c.in-Ok.matches c.requires c.in-Ok.ensures.matches) c.in_err-seen-in-Ok.field-0.0 c.in_err-seen-in-Ok.ensures.failed
     c.in_err-seen-in-Ok.ensures.none c.in_err-seen-in-Ok.ensures.no_place c.in_err-seen-in-Ok.ensures.apart c.in_err-seen-in-Ok.ensures.shown_before
     c.in_err-seen-in-Ok.ensures.placed_before)
 
 pub returns-in_err-seen-in-Ok-clause-no_place : goal.returns-in_err-seen-in-Ok-clause-no_place
 returns-in_err-seen-in-Ok-clause-no_place c =
     passed_on c.from_residual.result c.in_err-seen-in-Ok.field-0.0 _ c.from_residual.ensures.1
-    (look_not_placed (app_of c.args.desk) _ c.in-Ok.matches c.requires c.in-Ok.ensures.matches c.in_err-seen-in-Ok.field-0.0 c.in_err-seen-in-Ok.ensures.failed
+    (look_not_placed c.requires.whole _ c.in-Ok.matches c.requires.is_desk (gives_matches (app_of c.args.desk) _ c.in-Ok.matches c.requires c.in-Ok.ensures.matches) c.in_err-seen-in-Ok.field-0.0 c.in_err-seen-in-Ok.ensures.failed
     c.in_err-seen-in-Ok.ensures.none c.in_err-seen-in-Ok.ensures.no_place c.in_err-seen-in-Ok.ensures.apart c.in_err-seen-in-Ok.ensures.shown_before
     c.in_err-seen-in-Ok.ensures.placed_before)
 
 pub returns-in_err-seen-in-Ok-clause-placeless : goal.returns-in_err-seen-in-Ok-clause-placeless
 returns-in_err-seen-in-Ok-clause-placeless c =
     passed_on c.from_residual.result c.in_err-seen-in-Ok.field-0.0 _ c.from_residual.ensures.1
-    (λ place. taken_serving (app_of c.args.desk) _ c.in-Ok.matches c.requires c.in-Ok.ensures.matches c.in-Ok.ensures.kinds (c.in_err-seen-in-Ok.ensures.no_place place))
+    (λ place. taken_serving c.requires.whole _ c.in-Ok.matches c.requires.is_desk (gives_matches (app_of c.args.desk) _ c.in-Ok.matches c.requires c.in-Ok.ensures.matches) (gives_no_fault (app_of c.args.desk) _ c.requires c.in-Ok.ensures.kinds) (c.in_err-seen-in-Ok.ensures.no_place place))
 
 pub returns-in_err-seen-in-Ok-clause-mixed : goal.returns-in_err-seen-in-Ok-clause-mixed
 returns-in_err-seen-in-Ok-clause-mixed c =
     passed_on c.from_residual.result c.in_err-seen-in-Ok.field-0.0 _ c.from_residual.ensures.1
-    (λ apart. taken_apart (app_of c.args.desk) _ c.in-Ok.matches c.requires c.in-Ok.ensures.matches c.in-Ok.ensures.kinds (c.in_err-seen-in-Ok.ensures.apart apart))
+    (λ apart. taken_apart c.requires.whole _ c.in-Ok.matches c.requires.is_desk (gives_matches (app_of c.args.desk) _ c.in-Ok.matches c.requires c.in-Ok.ensures.matches) (gives_no_fault (app_of c.args.desk) _ c.requires c.in-Ok.ensures.kinds) (c.in_err-seen-in-Ok.ensures.apart apart))
 
 pub returns-in_err-seen-in-Ok-clause-day : goal.returns-in_err-seen-in-Ok-clause-day
 returns-in_err-seen-in-Ok-clause-day c =
     passed_on c.from_residual.result c.in_err-seen-in-Ok.field-0.0 _ c.from_residual.ensures.1
-    (λ day. taken_showing (app_of c.args.desk) _ c.in-Ok.matches c.requires c.in-Ok.ensures.matches c.in-Ok.ensures.kinds (c.in_err-seen-in-Ok.ensures.none day))
+    (λ day. taken_showing c.requires.whole _ c.in-Ok.matches c.requires.is_desk (gives_matches (app_of c.args.desk) _ c.in-Ok.matches c.requires c.in-Ok.ensures.matches) (gives_no_fault (app_of c.args.desk) _ c.requires c.in-Ok.ensures.kinds) (c.in_err-seen-in-Ok.ensures.none day))
 
 pub returns-in_err-seen-in-Ok-clause-version : goal.returns-in_err-seen-in-Ok-clause-version
 returns-in_err-seen-in-Ok-clause-version c =
     passed_on c.from_residual.result c.in_err-seen-in-Ok.field-0.0 _ c.from_residual.ensures.1
-    (λ asks. absurd (not_version (app_of c.args.desk) _ c.requires c.in-Ok.ensures.kinds asks))
+    (λ asks. absurd (not_version c.requires.whole _ c.requires.is_desk (gives_no_fault (app_of c.args.desk) _ c.requires c.in-Ok.ensures.kinds) asks))
 
 pub returns-clause-help : goal.returns-clause-help
 returns-clause-help c =
-    help_unread (app_of c.args.desk) _ c.in-Err.error c.requires c.in-Err.ensures.kinds
+    help_unread c.requires.whole _ c.in-Err.error c.requires.is_desk (gives_kind (app_of c.args.desk) _ c.in-Err.error c.requires c.in-Err.ensures.kinds)
 
 pub returns-in_err-seen-in-Ok-clause-help : goal.returns-in_err-seen-in-Ok-clause-help
 returns-in_err-seen-in-Ok-clause-help c =
     passed_on c.from_residual.result c.in_err-seen-in-Ok.field-0.0 _ c.from_residual.ensures.1
-    (λ asks. absurd (not_help (app_of c.args.desk) _ c.requires c.in-Ok.ensures.kinds asks))
+    (λ asks. absurd (not_help c.requires.whole _ c.requires.is_desk (gives_no_fault (app_of c.args.desk) _ c.requires c.in-Ok.ensures.kinds) asks))
 
 -- ---- what `clap` says
 
 pub returns-in_err-seen-in-Ok-clause-of_clap : goal.returns-in_err-seen-in-Ok-clause-of_clap
 returns-in_err-seen-in-Ok-clause-of_clap c =
     passed_on c.from_residual.result c.in_err-seen-in-Ok.field-0.0 _ c.from_residual.ensures.1
-    (λ none. absurd (none (taken_by (app_of c.args.desk) _ c.requires c.in-Ok.ensures.kinds)))
+    (λ none. absurd (none (taken_by c.requires.whole _ c.requires.is_desk (gives_no_fault (app_of c.args.desk) _ c.requires c.in-Ok.ensures.kinds))))
 
 pub returns-in-Some-clause-read : goal.returns-in-Some-clause-read
 returns-in-Some-clause-read c =
     let words = map (λ word. word.now) c.args.words.now in
     let rows : GivesRows (subcommand_rows_of c.in-Ok.matches) c.in_ok-seen-in-Ok.seen.shown (Some c.in-Some.ask) = record { file = c.in-Some.ensures.file; files = c.in-Some.ensures.files; init = c.in-Some.ensures.init; serve = c.in-Some.ensures.serve; timeouts = c.in-Some.ensures.timeouts; import = c.in-Some.ensures.import; export = c.in-Some.ensures.export; check = c.in-Some.ensures.check; show = c.in-Some.ensures.show; sift = c.in-Some.ensures.sift; extract = c.in-Some.ensures.extract; staff_key = c.in-Some.ensures.staff_key; copy = c.in-Some.ensures.copy } in
     ask_read (Some c.in-Some.ask) Usage (Ok c.in-Some.ask) words refl
-    (ask_given (Some c.in-Some.ask) c.in_ok-seen-in-Ok.seen.shown (app_of c.args.desk) words c.in-Ok.matches c.requires c.in-Ok.ensures.matches c.in_ok-seen-in-Ok.ensures.named rows)
+    (ask_given (Some c.in-Some.ask) c.in_ok-seen-in-Ok.seen.shown c.requires.whole words c.in-Ok.matches c.requires.is_desk (gives_matches (app_of c.args.desk) _ c.in-Ok.matches c.requires c.in-Ok.ensures.matches) c.in_ok-seen-in-Ok.ensures.named rows)
 
 pub returns-in-Some-clause-accession : goal.returns-in-Some-clause-accession
 returns-in-Some-clause-accession c = c.in-Some.ensures.accession
@@ -145,28 +146,28 @@ returns-in-Ok-clause-unread c =
     let words = map (λ word. word.now) c.args.words.now in
     let rows : GivesRows (subcommand_rows_of c.in-Ok.matches) c.in_ok-seen-in-Ok.seen.shown None = record { file = c.in-None.ensures.file; files = c.in-None.ensures.files; init = c.in-None.ensures.init; serve = c.in-None.ensures.serve; timeouts = c.in-None.ensures.timeouts; import = c.in-None.ensures.import; export = c.in-None.ensures.export; check = c.in-None.ensures.check; show = c.in-None.ensures.show; sift = c.in-None.ensures.sift; extract = c.in-None.ensures.extract; staff_key = c.in-None.ensures.staff_key; copy = c.in-None.ensures.copy } in
     ask_unread None Usage (Err Usage) words IsForMemory refl
-    (ask_given None c.in_ok-seen-in-Ok.seen.shown (app_of c.args.desk) words c.in-Ok.matches c.requires c.in-Ok.ensures.matches c.in_ok-seen-in-Ok.ensures.named rows)
+    (ask_given None c.in_ok-seen-in-Ok.seen.shown c.requires.whole words c.in-Ok.matches c.requires.is_desk (gives_matches (app_of c.args.desk) _ c.in-Ok.matches c.requires c.in-Ok.ensures.matches) c.in_ok-seen-in-Ok.ensures.named rows)
 
 pub returns-in-Some-clause-taken : goal.returns-in-Some-clause-taken
-returns-in-Some-clause-taken c = taken_by (app_of c.args.desk) _ c.requires c.in-Ok.ensures.kinds
+returns-in-Some-clause-taken c = taken_by c.requires.whole _ c.requires.is_desk (gives_no_fault (app_of c.args.desk) _ c.requires c.in-Ok.ensures.kinds)
 
 pub returns-in-Some-clause-written_on_output : goal.returns-in-Some-clause-written_on_output
 returns-in-Some-clause-written_on_output c =
-    taken_on_output (app_of c.args.desk) _ c.in-Ok.matches c.requires c.in-Ok.ensures.matches c.in-Ok.ensures.kinds (Some c.in-Some.ask) Usage (Ok c.in-Some.ask)
+    taken_on_output c.requires.whole _ c.in-Ok.matches c.requires.is_desk (gives_matches (app_of c.args.desk) _ c.in-Ok.matches c.requires c.in-Ok.ensures.matches) (gives_no_fault (app_of c.args.desk) _ c.requires c.in-Ok.ensures.kinds) (Some c.in-Some.ask) Usage (Ok c.in-Some.ask)
     refl c.in-Some.ensures.written_on_output
 
 pub returns-in-Ok-clause-version : goal.returns-in-Ok-clause-version
-returns-in-Ok-clause-version c = λ asks. absurd (not_version (app_of c.args.desk) _ c.requires c.in-Ok.ensures.kinds asks)
+returns-in-Ok-clause-version c = λ asks. absurd (not_version c.requires.whole _ c.requires.is_desk (gives_no_fault (app_of c.args.desk) _ c.requires c.in-Ok.ensures.kinds) asks)
 
 pub returns-in-Ok-clause-help : goal.returns-in-Ok-clause-help
-returns-in-Ok-clause-help c = λ asks. absurd (not_help (app_of c.args.desk) _ c.requires c.in-Ok.ensures.kinds asks)
+returns-in-Ok-clause-help c = λ asks. absurd (not_help c.requires.whole _ c.requires.is_desk (gives_no_fault (app_of c.args.desk) _ c.requires c.in-Ok.ensures.kinds) asks)
 
 pub returns-in-Some-clause-zone : goal.returns-in-Some-clause-zone
 returns-in-Some-clause-zone c =
     let words = map (λ word. word.now) c.args.words.now in
-    let app = app_of c.args.desk in
+    let app = c.requires.whole in
     λ name rows enters clocks.
-    c.in-Some.ensures.zone name rows (sym (entered_is app words c.in-Ok.matches c.requires c.in-Ok.ensures.matches) ∙ enters.into app c.requires) clocks
+    c.in-Some.ensures.zone name rows (sym (entered_is app words c.in-Ok.matches c.requires.is_desk (gives_matches (app_of c.args.desk) _ c.in-Ok.matches c.requires c.in-Ok.ensures.matches)) ∙ enters.into app c.requires.is_desk) clocks
 
 pub returns-in-Ok-clause-no_rule : goal.returns-in-Ok-clause-no_rule
 returns-in-Ok-clause-no_rule c = λ none. inl (inl refl)
@@ -176,21 +177,21 @@ returns-in-Ok-clause-apart c = λ none. inl (inl refl)
 
 pub returns-in-Some-clause-shown : goal.returns-in-Some-clause-shown
 returns-in-Some-clause-shown c =
-    names_what_it_shows (app_of c.args.desk) _ c.in-Ok.matches c.in_ok-seen-in-Ok.seen.shown c.requires c.in-Ok.ensures.matches c.in_ok-seen-in-Ok.ensures.named
+    names_what_it_shows c.requires.whole _ c.in-Ok.matches c.in_ok-seen-in-Ok.seen.shown c.requires.is_desk (gives_matches (app_of c.args.desk) _ c.in-Ok.matches c.requires c.in-Ok.ensures.matches) c.in_ok-seen-in-Ok.ensures.named
 
 pub returns-in-Ok-clause-none_shown : goal.returns-in-Ok-clause-none_shown
 returns-in-Ok-clause-none_shown c = λ none.
-    absurd (none (names_what_it_shows (app_of c.args.desk) _ c.in-Ok.matches c.in_ok-seen-in-Ok.seen.shown c.requires c.in-Ok.ensures.matches c.in_ok-seen-in-Ok.ensures.named))
+    absurd (none (names_what_it_shows c.requires.whole _ c.in-Ok.matches c.in_ok-seen-in-Ok.seen.shown c.requires.is_desk (gives_matches (app_of c.args.desk) _ c.in-Ok.matches c.requires c.in-Ok.ensures.matches) c.in_ok-seen-in-Ok.ensures.named))
 
 pub returns-in-Ok-clause-day : goal.returns-in-Ok-clause-day
 returns-in-Ok-clause-day c = λ day. let no : Usage ≡ Day = day in absurd (cc no)
 
 pub returns-in-Some-clause-place : goal.returns-in-Some-clause-place
-returns-in-Some-clause-place c = names_a_place (app_of c.args.desk) _ c.in-Ok.matches c.requires c.in-Ok.ensures.matches c.in_ok-seen-in-Ok.ensures.place
+returns-in-Some-clause-place c = names_a_place c.requires.whole _ c.in-Ok.matches c.requires.is_desk (gives_matches (app_of c.args.desk) _ c.in-Ok.matches c.requires c.in-Ok.ensures.matches) c.in_ok-seen-in-Ok.ensures.place
 
 pub returns-in-Ok-clause-no_place : goal.returns-in-Ok-clause-no_place
 returns-in-Ok-clause-no_place c = λ none.
-    absurd (none (names_a_place (app_of c.args.desk) _ c.in-Ok.matches c.requires c.in-Ok.ensures.matches c.in_ok-seen-in-Ok.ensures.place))
+    absurd (none (names_a_place c.requires.whole _ c.in-Ok.matches c.requires.is_desk (gives_matches (app_of c.args.desk) _ c.in-Ok.matches c.requires c.in-Ok.ensures.matches) c.in_ok-seen-in-Ok.ensures.place))
 
 pub returns-in-Ok-clause-placeless : goal.returns-in-Ok-clause-placeless
 returns-in-Ok-clause-placeless c = λ place. let no : Usage ≡ NoPlace = place in absurd (cc no)
@@ -202,29 +203,29 @@ returns-in-Ok-clause-mixed c = λ apart. elim apart [
 ]
 
 pub returns-in-Ok-clause-of_clap : goal.returns-in-Ok-clause-of_clap
-returns-in-Ok-clause-of_clap c = λ none. absurd (none (taken_by (app_of c.args.desk) _ c.requires c.in-Ok.ensures.kinds))
+returns-in-Ok-clause-of_clap c = λ none. absurd (none (taken_by c.requires.whole _ c.requires.is_desk (gives_no_fault (app_of c.args.desk) _ c.requires c.in-Ok.ensures.kinds)))
 
 -- ---- what stands beside
 
 pub returns-in-Some-clause-beside : goal.returns-in-Some-clause-beside
 returns-in-Some-clause-beside c =
-    tells_beside (app_of c.args.desk) _ c.in-Ok.matches c.requires c.in-Ok.ensures.matches c.in_ok-seen-in-Ok.seen.beside c.in_ok-seen-in-Ok.ensures.beside
+    tells_beside c.requires.whole _ c.in-Ok.matches c.requires.is_desk (gives_matches (app_of c.args.desk) _ c.in-Ok.matches c.requires c.in-Ok.ensures.matches) c.in_ok-seen-in-Ok.seen.beside c.in_ok-seen-in-Ok.ensures.beside
 
 pub returns-in-Some-clause-together : goal.returns-in-Some-clause-together
-returns-in-Some-clause-together c = fits_together (app_of c.args.desk) _ c.in-Ok.matches c.requires c.in-Ok.ensures.matches c.in_ok-seen-in-Ok.ensures.together
+returns-in-Some-clause-together c = fits_together c.requires.whole _ c.in-Ok.matches c.requires.is_desk (gives_matches (app_of c.args.desk) _ c.in-Ok.matches c.requires c.in-Ok.ensures.matches) c.in_ok-seen-in-Ok.ensures.together
 
 pub returns-in-Some-clause-all : goal.returns-in-Some-clause-all
 returns-in-Some-clause-all c =
     let words = map (λ word. word.now) c.args.words.now in
-    let app = app_of c.args.desk in
+    let app = c.requires.whole in
     let from = c.in-Some.ensures.from c.in_ok-seen-in-Ok.ensures.named in
     record {
       taken = record {
         app = app;
-        is_desk = c.requires;
-        no_fault = faultless app words c.requires c.in-Ok.ensures.kinds;
+        is_desk = c.requires.is_desk;
+        no_fault = faultless app words c.requires.is_desk (gives_no_fault (app_of c.args.desk) _ c.requires c.in-Ok.ensures.kinds);
         rows = from.0;
-        into = entered_is app words c.in-Ok.matches c.requires c.in-Ok.ensures.matches ∙ from.1;
+        into = entered_is app words c.in-Ok.matches c.requires.is_desk (gives_matches (app_of c.args.desk) _ c.in-Ok.matches c.requires c.in-Ok.ensures.matches) ∙ from.1;
       };
       asks = from.2;
       beside = c.in_ok-seen-in-Ok.ensures.beside _ from.0 from.1;
@@ -233,7 +234,7 @@ returns-in-Some-clause-all c =
 pub returns-clause-apart : goal.returns-clause-apart
 returns-clause-apart c =
     let words = map (λ word. word.now) c.args.words.now in
-    let wrong = words_at_fault (app_of c.args.desk) _ c.in-Err.error c.requires c.in-Err.ensures.kinds in
+    let wrong = words_at_fault c.requires.whole _ c.in-Err.error c.requires.is_desk (gives_kind (app_of c.args.desk) _ c.in-Err.error c.requires c.in-Err.ensures.kinds) in
     λ none. elim wrong [
       | inl out ↦ inr out
       | inr found ↦ absurd (none (λ name rows enters. absurd (no_fault_in words name rows _ enters found)))
@@ -248,10 +249,10 @@ returns-in_err-seen-in-Ok-clause-apart c =
 
 pub returns-in-Some-clause-trust : goal.returns-in-Some-clause-trust
 returns-in-Some-clause-trust c = λ trusted told.
-    trust_read (app_of c.args.desk) _ c.in-Ok.matches (Some c.in-Some.ask) Usage (Ok c.in-Some.ask) trusted c.requires c.in-Ok.ensures.matches refl c.in-Some.ensures.trust told
+    trust_read c.requires.whole _ c.in-Ok.matches (Some c.in-Some.ask) Usage (Ok c.in-Some.ask) trusted c.requires.is_desk (gives_matches (app_of c.args.desk) _ c.in-Ok.matches c.requires c.in-Ok.ensures.matches) refl c.in-Some.ensures.trust told
 
 -- ---- sums
 
 pub returns-in-Some-clause-sums : goal.returns-in-Some-clause-sums
 returns-in-Some-clause-sums c = λ summed told.
-    sums_read (app_of c.args.desk) _ c.in-Ok.matches (Some c.in-Some.ask) Usage (Ok c.in-Some.ask) summed c.requires c.in-Ok.ensures.matches refl c.in-Some.ensures.sums told
+    sums_read c.requires.whole _ c.in-Ok.matches (Some c.in-Some.ask) Usage (Ok c.in-Some.ask) summed c.requires.is_desk (gives_matches (app_of c.args.desk) _ c.in-Ok.matches c.requires c.in-Ok.ensures.matches) refl c.in-Some.ensures.sums told
