@@ -35,7 +35,7 @@ mod command_line;
 use anyhow::Result;
 
 fn show(rt: &HostRuntime, words: &[&str]) -> Result<()> {
-    let desk = command_line::desk_command(rt.alloc())?;
+    let desk = command_line::desk_for(rt.alloc(), words)?;
     if let Err(error) = desk.try_get_matches_from(words) {
         print!(rt; "=== {error}")?;
     }
