@@ -457,7 +457,7 @@ impl<'a, D: Door + Drop, P: Places<D> + Drop> Machine for Host<'a, D, P> {
         match may_be_database(self.rt, path) {
             Ok(true) => {}
             Ok(false) => {
-                self.remembered.keep(path, Said::Unfit);
+                self.remembered.keep(path, Said::NoStore);
                 return Err(MachineFault::Failed);
             }
             Err(error) if makes && error.kind() == ErrorKind::NotFound => {}

@@ -12,6 +12,7 @@ pub mod Doors
 pub mod Visiting
 pub mod Rows
 pub mod Asked
+pub mod Explaining
 pub mod StaffKeys
 pub mod Copying
 pub mod OnTime

@@ -180,8 +180,9 @@ fn import_row<W: Write, M: Machine>(
             return Err(fault.or(Refusal::Device));
         }
     };
+    let found = bytes.len();
     let answer = put_image(alloc, row, bytes, giver, desk);
-    note_answer(number, row.acc, &answer, machine);
+    note_answer(number, row, found, &answer, machine);
     tell_answer::<M, W>(alloc, row.acc, answer, output)
 }
 

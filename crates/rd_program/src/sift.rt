@@ -226,8 +226,9 @@ fn sift_row<W: Write, M: Machine>(
         tell_lost_row::<M, W>(alloc, number, output)?;
         return Ok(Fate::Lost);
     };
+    let found = bytes.len();
     let answer = answer_to_row::<M>(alloc, row, bytes, way, giver, desk, shelf);
-    note_answer(number, row.acc, &answer, machine);
+    note_answer(number, row, found, &answer, machine);
     tell_fate::<M, W>(alloc, row.acc, way.dry_run, answer, output)
 }
 

@@ -16,6 +16,6 @@ returns-clause-silent g c = λ silent.
     ] in
     let quiet = quiet_then c.want.new.self c.note_rows.new.notes c.match-why-2.notes c.note_rows.ensures.quiet refusal in
     let empty : c.want.new.self.lines.items ≡ [] = cc in
-    let all = quiet_then c.want.new.self c.match-why-2.notes c.note_row_sizes.new.notes quiet c.note_row_sizes.ensures.quiet in
-    let none : c.note_row_sizes.new.notes.lines.items ≡ [] = (all (c.want.ensures.wanted ∙ wants)).1 ∙ empty in
+    let all = quiet_then c.want.new.self c.match-why-2.notes c.note_deed.new.notes quiet c.note_deed.ensures.quiet in
+    let none : c.note_deed.new.notes.lines.items ≡ [] = (all (c.want.ensures.wanted ∙ wants)).1 ∙ empty in
     nothing_told _ _ _ (ap (flat_map shown_line) none) c.tell_notes.ensures.written
