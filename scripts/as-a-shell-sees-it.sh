@@ -235,19 +235,22 @@ same "the log beside a text" nothing "$(kind_at "$work/text-wal")"
 
 # With --explain a refusal says what the system said, and what to do next; what is no ordinary file is read once.
 look='Check how the path is written, and that you may read it.'
-make='Make the folder first, or give the path of one.'
+make='Make the folder first, or give one that is there.'
 first='First look that no other desk or sqlite3 uses it; else give the file of a store, or bring back a backup of it.'
-ends 3 "$(said device "$work: it is a folder" "$look")" "$work/nothing" "$desk" list cpm8 "$work" --explain
+ends 3 "$(said device "$work: it is a folder" 'Give the path of a file in it.')" "$work/nothing" "$desk" list cpm8 "$work" --explain
 ends 3 "$(said device 'standard output: the disk is full')" "$work/nothing" into /dev/full "$desk" list cpm8 "$hello" --explain
 ends 3 "$(said device 'standard output: nobody reads what is written there')" "$work/nothing" piped "$desk" list cpm8 "$hello" --explain
-ends 3 "$(said device "$work/missing/socket: there is no such file" "$make")" "$work/nothing" \
+ends 3 "$(said device "$work/missing/socket: the folder for it is not there" "$make")" "$work/nothing" \
     "$desk" serve --store "$work/other" --socket "$work/missing/socket" --count 0 --explain
-ends 3 "$(said store "$work/no-folder/new: there is no such file" "$make")" "$work/nothing" \
+ends 3 "$(said store "$work/no-folder/new: the folder for it is not there" "$make")" "$work/nothing" \
     "$desk" init --store "$work/no-folder/new" --key abc --explain
-ends 3 "$(said not-a-desk "$work/no-store: there is no such file" "$look" 'Make a desk there with desk init, or give the path of one.')" \
+ends 3 "$(said not-a-desk "$work/no-store: there is no such file" "$look" 'For a new desk, make it there with desk init.')" \
     "$work/nothing" "$desk" export --store "$work/no-store" --explain
-ends 3 "$(said store "$work/text: it is no file of the right sort" 'Give the file of a store, or bring back a backup of it.')" \
+ends 3 "$(said store "$work/text: it is no store of a desk" \
+    'Check which file you name; if it was a store, bring back a backup of it.')" \
     "$work/nothing" "$desk" export --store "$work/text" --explain
+ends 1 "$(said exists "$work/other: there is one already" 'Give the path of a file that is not there yet.')" "$work/nothing" \
+    "$desk" init --store "$work/other" --key abc --explain
 port=$(python3 -c 'import socket; s = socket.socket(); s.bind(("127.0.0.1", 0)); print(s.getsockname()[1])')
 serve_at --port "$port"
 ends 3 "$(said device "port $port: another program uses it" 'Give another port, or stop what uses this one.')" "$work/nothing" \
@@ -274,8 +277,8 @@ sums=$(cd "$work/files" && sha256sum -- *)
 ends 1 "desk: exists" "$work/nothing" extract "$work/files"
 same "the files after a second time" "$sums" "$(cd "$work/files" && sha256sum -- *)"
 name=$(head -n 1 "$work/lines" | cut -f 2)
-ends 3 "$(said device "$work/no-folder/$name: there is no such file" "$make")" "$work/nothing" extract "$work/no-folder" --explain
-ends 3 "$(said device "'': there is no such file" "$make")" "$work/nothing" extract '' --explain
+ends 3 "$(said device "$work/no-folder/$name: the folder for it is not there" "$make")" "$work/nothing" extract "$work/no-folder" --explain
+ends 3 "$(said device "'': the folder for it is not there" "$make")" "$work/nothing" extract '' --explain
 same "a file of a folder without a name" nothing "$(kind_at "/$name")"
 ln -s nowhere "$work/linked/$name" || exit 1
 ends 1 "desk: exists" "$work/nothing" extract "$work/linked"
