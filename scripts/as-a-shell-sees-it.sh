@@ -234,7 +234,7 @@ ends 3 "desk: store" "$work/nothing" "$desk" export --store "$work/text"
 same "the log beside a text" nothing "$(kind_at "$work/text-wal")"
 
 # With --explain a refusal says what the system said, and what to do next; what is no ordinary file is read once.
-look='Check how the path is written, and that you may read it.'
+look='Check how the path is written, and what you may do there.'
 make='Make the folder first, or give one that is there.'
 first='First look that no other desk or sqlite3 uses it; else give the file of a store, or bring back a backup of it.'
 ends 3 "$(said device "$work: it is a folder" 'Give the path of a file in it.')" "$work/nothing" "$desk" list cpm8 "$work" --explain

@@ -46,6 +46,6 @@ line_text (Row row acc reason) =
     codes "Row " ++ (decimal row ++ (codes ", accession " ++ (decimal acc ++ (codes ": " ++ reason_text reason))))
 line_text (More count) = codes "And " ++ (decimal count ++ codes " more rows.")
 line_text (PutDeed deed) =
-    codes "If the deed is new, put it first, to desk serve: curl -X PUT -H 'Desk-Key: KEY' http://127.0.0.1:8041/deeds/"
-    ++ (decimal deed ++ codes " -d '{\"donor\":\"NAME\",\"signed\":\"2030-01-31\"}'")
+    codes "If the deed is new, start desk serve, put the deed there, end desk serve, and import again: curl -X PUT -H 'Desk-Key: KEY' http://127.0.0.1:8041/deeds/"
+    ++ (decimal deed ++ codes " -d '{\"donor\":\"NAME\",\"signed\":\"YYYY-MM-DD\"}'")
 line_text (Next advice) = advice_text advice

@@ -24,9 +24,9 @@ column_word column.File = codes "file"
 
 -- what to do next
 abbrev pub advice_text : Advice → List ℕ
-advice_text CheckPath = codes "Check how the path is written, and that you may read it."
+advice_text CheckPath = codes "Check how the path is written, and what you may do there."
 advice_text FileInFolder = codes "Give the path of a file in it."
-advice_text InitFirst = codes "Make a desk there with desk init, or give the path of one."
+advice_text InitFirst = codes "The file holds no desk: give the path of one that does, or make one at a new path with desk init."
 advice_text InitThere = codes "For a new desk, make it there with desk init."
 advice_text OtherPlace = codes "Give another port, or stop what uses this one."
 advice_text CopyAgain = codes "No kind of disk has images of this size: copy the disk again."
@@ -44,7 +44,7 @@ advice_text OtherProgram = codes "Use the desk that made this store, or a newer 
 advice_text Restore = codes "Give the file of a store, or bring back a backup of it."
 advice_text CheckStore = codes "Check which file you name; if it was a store, bring back a backup of it."
 advice_text FirstLook = codes "First look that no other desk or sqlite3 uses it; else give the file of a store, or bring back a backup of it."
-advice_text KeyAlone = codes "Put the key alone into the first line of a file, and give that."
+advice_text KeyAlone = codes "Put nothing but the key into a file, and give that."
 advice_text ZoneFile = codes "Give a file such as /usr/share/zoneinfo/Europe/Prague, or a rule by --zone."
 advice_text MakeFolder = codes "Make the folder first, or give one that is there."
 advice_text KeepGoing = codes "Import again: what is done stays, and --keep-going goes past such files."
@@ -72,6 +72,7 @@ unusable_text unusable.NoKey = codes "it cannot be read, or has more than 4096 b
 unusable_text unusable.LongZone = codes "it has more than 65536 bytes."
 unusable_text unusable.NoZone = codes "it is no file of the time zone database."
 unusable_text unusable.NoRule = codes "it ends in no rule for clocks that desk can use."
+unusable_text unusable.Unknown = codes "desk cannot use what it gives."
 
 -- what the system says
 abbrev pub said_text : Said → List ℕ

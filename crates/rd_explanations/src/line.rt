@@ -219,7 +219,7 @@ impl fmt::Display for Line {
             Line::More(count) => write!(f, "And {count} more rows."),
             Line::PutDeed(deed) => write!(
                 f,
-                "If the deed is new, put it first, to desk serve: curl -X PUT -H 'Desk-Key: KEY' http://127.0.0.1:8041/deeds/{deed} -d '{{\"donor\":\"NAME\",\"signed\":\"2030-01-31\"}}'"
+                "If the deed is new, start desk serve, put the deed there, end desk serve, and import again: curl -X PUT -H 'Desk-Key: KEY' http://127.0.0.1:8041/deeds/{deed} -d '{{\"donor\":\"NAME\",\"signed\":\"YYYY-MM-DD\"}}'"
             ),
             Line::Next(advice) => write!(f, "{advice}"),
         }

@@ -78,7 +78,7 @@ fn rows(rt: HostRuntime) -> Result<(), Fail> {
         "  Row 1: an image of the kind d64 has as many bytes: write d64 in the row, if it is one.\n",
         "  Row 2: long.img has more bytes than an image of its kind: d64e has 175531.\n",
         "  Row 2: no kind of disk has images of this size: copy the disk again.\n",
-        "  If the deed is new, put it first, to desk serve: curl -X PUT -H 'Desk-Key: KEY' http://127.0.0.1:8041/deeds/9 -d '{\"donor\":\"NAME\",\"signed\":\"2030-01-31\"}'\n",
+        "  If the deed is new, start desk serve, put the deed there, end desk serve, and import again: curl -X PUT -H 'Desk-Key: KEY' http://127.0.0.1:8041/deeds/9 -d '{\"donor\":\"NAME\",\"signed\":\"YYYY-MM-DD\"}'\n",
     );
     assert_eq!(rt; bytes.as_slice(), text.as_bytes());
     Ok(())

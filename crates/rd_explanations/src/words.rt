@@ -113,12 +113,12 @@ impl fmt::Display for Advice {
         match self {
             Advice::CheckPath => write!(
                 f,
-                "Check how the path is written, and that you may read it."
+                "Check how the path is written, and what you may do there."
             ),
             Advice::FileInFolder => write!(f, "Give the path of a file in it."),
             Advice::InitFirst => write!(
                 f,
-                "Make a desk there with desk init, or give the path of one."
+                "The file holds no desk: give the path of one that does, or make one at a new path with desk init."
             ),
             Advice::InitThere => write!(f, "For a new desk, make it there with desk init."),
             Advice::OtherPlace => write!(f, "Give another port, or stop what uses this one."),
@@ -164,10 +164,7 @@ impl fmt::Display for Advice {
                 f,
                 "First look that no other desk or sqlite3 uses it; else give the file of a store, or bring back a backup of it."
             ),
-            Advice::KeyAlone => write!(
-                f,
-                "Put the key alone into the first line of a file, and give that."
-            ),
+            Advice::KeyAlone => write!(f, "Put nothing but the key into a file, and give that."),
             Advice::ZoneFile => write!(
                 f,
                 "Give a file such as /usr/share/zoneinfo/Europe/Prague, or a rule by --zone."
@@ -254,6 +251,8 @@ pub enum Unusable {
     NoZone,
     /// It is one, and ends in no rule that holds from now on.
     NoRule,
+    /// It is no ordinary file, such as a pipe, and cannot be read a second time.
+    Unknown,
 }
 
 impl fmt::Display for Unusable {
@@ -268,6 +267,7 @@ impl fmt::Display for Unusable {
             Unusable::LongZone => write!(f, "it has more than 65536 bytes."),
             Unusable::NoZone => write!(f, "it is no file of the time zone database."),
             Unusable::NoRule => write!(f, "it ends in no rule for clocks that desk can use."),
+            Unusable::Unknown => write!(f, "desk cannot use what it gives."),
         }
     }
 }
