@@ -246,10 +246,17 @@ ends 3 "$(said store "$work/no-folder/new: the folder for it is not there" "$mak
     "$desk" init --store "$work/no-folder/new" --key abc --explain
 ends 3 "$(said not-a-desk "$work/no-store: there is no such file" "$look" 'For a new desk, make it there with desk init.')" \
     "$work/nothing" "$desk" export --store "$work/no-store" --explain
+ends 3 "$(said not-a-desk "$work/no-store: there is no such file" "$look" 'For a new desk, make it there with desk init.')" \
+    "$work/nothing" "$desk" serve --store "$work/no-store" --socket "$work/no-store" --count 0 --explain
+ends 3 "$(said device "$work/no-key: there is no such file" "$look")" "$work/nothing" \
+    "$desk" init --store "$work/no-key" --key-file "$work/no-key" --explain
+fresh='Give the path of a file that is not there yet.'
+ends 3 "$(said device "$work/text: there is one already" "$fresh")" "$work/nothing" \
+    "$desk" serve --store "$work/other" --socket "$work/text" --count 0 --explain
 ends 3 "$(said store "$work/text: it is no store of a desk" \
     'Check which file you name; if it was a store, bring back a backup of it.')" \
     "$work/nothing" "$desk" export --store "$work/text" --explain
-ends 1 "$(said exists "$work/other: there is one already" 'Give the path of a file that is not there yet.')" "$work/nothing" \
+ends 1 "$(said exists "$work/other: there is one already" "$fresh")" "$work/nothing" \
     "$desk" init --store "$work/other" --key abc --explain
 port=$(python3 -c 'import socket; s = socket.socket(); s.bind(("127.0.0.1", 0)); print(s.getsockname()[1])')
 serve_at --port "$port"

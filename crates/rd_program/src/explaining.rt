@@ -33,18 +33,41 @@ enum Heard {
     Advice,
 }
 
-/// Whether a command makes something new at a path: a file in a folder, a store, or a socket.
-fn is_new(ask: &Ask, path: &str) -> bool {
+/// Whether a refused command was to serve at a socket of this path.
+fn is_socket(ask: &Ask, refused: Refusal, path: &str) -> bool {
     match ask {
-        Ask::Extract(ask) => path != ask.image.image && path.starts_with(ask.folder),
-        Ask::Init(ask) => path == ask.store,
-        Ask::Copy(ask) => path != ask.store && path == ask.target,
         Ask::Serve(ask) => match ask.place {
-            Place::Socket(socket) => path == socket,
+            Place::Socket(socket) => refused == Refusal::Device && path == socket,
             Place::Port(_) => false,
         },
         _ => false,
     }
+}
+
+/// Whether a refused command makes something new at a path: a file in a folder, a store, or a socket.
+fn is_new(ask: &Ask, refused: Refusal, path: &str) -> bool {
+    match ask {
+        Ask::Extract(ask) => path != ask.image.image && path.starts_with(ask.folder),
+        Ask::Init(ask) => refused == Refusal::Store && path == ask.store,
+        Ask::Copy(ask) => path != ask.store && path == ask.target,
+        ask => is_socket(ask, refused, path),
+    }
+}
+
+/// Whether a path is the one that an option names.
+fn is_named(named: Option<&str>, path: &str) -> bool {
+    match named {
+        Some(named) => named == path,
+        None => false,
+    }
+}
+
+/// Whether a refused command was to make something at a path, and reads no key and no zone there.
+fn is_made(told: &Told, refused: Refusal, path: &str) -> bool {
+    if is_named(told.beside.key_file, path) || is_named(told.beside.zone_file, path) {
+        return false;
+    }
+    is_new(&told.ask, refused, path)
 }
 
 /// Whether a command serves at a port, and what a machine was asked for is that place.
@@ -58,20 +81,23 @@ fn is_port(ask: &Ask, path: &str) -> bool {
     }
 }
 
-/// What the system said of a path: that its folder is missing, where a command makes something new there.
-fn said_of(ask: &Ask, path: &str, said: Said) -> Said {
+/// What the system said of a path: that its folder is missing, where a command makes something new there, and that
+/// something stands there already, where it was to be a socket.
+fn said_of(told: &Told, refused: Refusal, path: &str, said: Said) -> Said {
     match said {
-        Said::Missing if is_new(ask, path) => Said::NoRoom,
+        Said::Missing if is_made(told, refused, path) => Said::NoRoom,
+        Said::Taken if is_socket(&told.ask, refused, path) => Said::Standing,
         said => said,
     }
 }
 
 /// What to do after what the system said of a path or a place.
-fn advice_on(ask: &Ask, path: &str, said: Said) -> Option<Advice> {
+fn advice_on(told: &Told, refused: Refusal, path: &str, said: Said) -> Option<Advice> {
     match said {
         Said::NoRoom => Some(Advice::MakeFolder),
-        Said::NoFolder if is_new(ask, path) => Some(Advice::MakeFolder),
-        Said::Denied if is_port(ask, path) => Some(Advice::OtherPlace),
+        Said::NoFolder if is_made(told, refused, path) => Some(Advice::MakeFolder),
+        Said::Denied if is_port(&told.ask, path) => Some(Advice::OtherPlace),
+        Said::Standing if is_socket(&told.ask, refused, path) => Some(Advice::FreshPath),
         Said::Missing | Said::Denied | Said::NoFolder => Some(Advice::CheckPath),
         Said::Folder => Some(Advice::FileInFolder),
         Said::Taken => Some(Advice::OtherPlace),
@@ -80,29 +106,32 @@ fn advice_on(ask: &Ask, path: &str, said: Said) -> Option<Advice> {
 }
 
 /// What to do after what the system said of the path of a store.
-fn advice_on_store(ask: &Ask, path: &str, said: Said) -> Option<Advice> {
+fn advice_on_store(told: &Told, path: &str, said: Said) -> Option<Advice> {
+    let makes_it = is_made(told, Refusal::Store, path);
     match said {
         Said::Missing | Said::NoRoom | Said::Denied | Said::Folder | Said::NoFolder => {
-            advice_on(ask, path, said)
+            advice_on(told, Refusal::Store, path, said)
         }
-        Said::Unfit | Said::NoStore if is_new(ask, path) => Some(Advice::FreshPath),
+        Said::Unfit | Said::NoStore if makes_it => Some(Advice::FreshPath),
         Said::Unfit | Said::NoStore => Some(Advice::CheckStore),
-        _ if is_new(ask, path) => None,
+        Said::Taken => Some(Advice::FirstLook),
+        Said::Full => None,
+        _ if makes_it => None,
         _ => Some(Advice::FirstLook),
     }
 }
 
 /// Notes what the system said last, if the machine remembers it.
-fn note_system<M: Files>(ask: &Ask, refused: Refusal, machine: &M, notes: &mut Notes) -> Heard
+fn note_system<M: Files>(told: &Told, refused: Refusal, machine: &M, notes: &mut Notes) -> Heard
     ensures quiet { IsQuiet notes.old notes.new }
 {
     let Some(SystemFault { path, said }) = machine.last_fault() else {
         return Heard::Nothing;
     };
-    let said = said_of(ask, path.as_str(), said);
+    let said = said_of(told, refused, path.as_str(), said);
     let advised = match refused {
-        Refusal::Store => advice_on_store(ask, path.as_str(), said),
-        _ => advice_on(ask, path.as_str(), said),
+        Refusal::Store => advice_on_store(told, path.as_str(), said),
+        _ => advice_on(told, refused, path.as_str(), said),
     };
     notes.add(Line::Path { path, said });
     match advised {
@@ -210,17 +239,35 @@ fn note_sheet<M: Machine>(alloc: Global, ask: &ImportAsk, machine: &mut M, notes
     }
 }
 
-/// Whether a file with a key is too long. It reads it once more, if it is an ordinary file; of a pipe it takes that for the
-/// reason where nothing else is known.
-fn is_long_key<M: Machine>(alloc: Global, path: &str, is_all_unknown: bool, machine: &mut M) -> bool
+/// What is known of a file that the words name.
+#[derive(Clone, Copy, PartialEq, Eq)]
+enum Known {
+    /// It is not named, or nothing is wrong with its bytes.
+    Fine,
+    /// It gives no key, or no zone.
+    Faulty(Unusable),
+    /// Its bytes came once, as from a pipe, and nobody knows them.
+    Nothing,
+}
+
+/// What is known of a file with a key. It reads it once more, if it is an ordinary file.
+fn known_key<M: Machine>(alloc: Global, path: Option<&str>, machine: &mut M) -> Known
     ensures same { machine.new ≡ machine.old }
 {
-    if !machine.is_ordinary(path) {
-        return is_all_unknown;
+    let Some(path) = path else {
+        return Known::Fine;
+    };
+    if path == "-" || !machine.is_ordinary(path) {
+        return Known::Nothing;
     }
-    machine
+    let is_long = machine
         .read_file(alloc, path)
-        .is_ok_and(|bytes| bytes.len() > KEY_FILE_LIMIT)
+        .is_ok_and(|bytes| bytes.len() > KEY_FILE_LIMIT);
+    if is_long {
+        Known::Faulty(Unusable::LongKey)
+    } else {
+        Known::Fine
+    }
 }
 
 /// Why bytes give no zone.
@@ -234,27 +281,22 @@ fn no_zone_of(bytes: &[u8]) -> Unusable {
     }
 }
 
-/// Why a file gives no zone; `None` if it gives one, or cannot be read. It reads it once more, if it is an ordinary file; a
-/// pipe it takes for one without a rule where nothing else is known.
-fn unusable_zone<M: Machine>(
-    alloc: Global,
-    path: &str,
-    is_all_unknown: bool,
-    machine: &mut M,
-) -> Option<Unusable>
+/// What is known of a file with a zone. It reads it once more, if it is an ordinary file.
+fn known_zone<M: Machine>(alloc: Global, path: Option<&str>, machine: &mut M) -> Known
     ensures same { machine.new ≡ machine.old }
 {
+    let Some(path) = path else {
+        return Known::Fine;
+    };
     if !machine.is_ordinary(path) {
-        return if is_all_unknown {
-            Some(Unusable::NoRule)
-        } else {
-            None
-        };
+        return Known::Nothing;
     }
-    let bytes = machine.read_file(alloc, path).ok()?;
+    let Ok(bytes) = machine.read_file(alloc, path) else {
+        return Known::Fine;
+    };
     match zone_in_file(alloc, bytes.as_slice()) {
-        Err(ZoneFileFault::NoRule) => Some(no_zone_of(bytes.as_slice())),
-        _ => None,
+        Err(ZoneFileFault::NoRule) => Known::Faulty(no_zone_of(bytes.as_slice())),
+        _ => Known::Fine,
     }
 }
 
@@ -262,6 +304,7 @@ fn unusable_zone<M: Machine>(
 fn advice_on_operand(unusable: Unusable) -> Advice {
     match unusable {
         Unusable::LongKey | Unusable::NoKey => Advice::KeyAlone,
+        Unusable::Unknown => Advice::SaveFirst,
         Unusable::LongZone | Unusable::NoZone | Unusable::NoRule => Advice::ZoneFile,
     }
 }
@@ -276,30 +319,58 @@ fn note_operand(alloc: Global, path: &str, unusable: Unusable, notes: &mut Notes
     notes.add(Line::Next(advice_on_operand(unusable)));
 }
 
-/// Notes that a file with a key is too long, or that standard input gives none where nothing else is known.
-fn note_key<M: Machine>(
-    alloc: Global,
-    path: Option<&str>,
-    is_all_unknown: bool,
-    machine: &mut M,
-    notes: &mut Notes,
-)
+/// Notes what is wrong with a file, if that is known, and says whether it is.
+fn note_known(alloc: Global, path: Option<&str>, known: Known, notes: &mut Notes) -> bool
     ensures quiet { IsQuiet notes.old notes.new }
-    ensures same { machine.new ≡ machine.old }
+{
+    let Known::Faulty(unusable) = known else {
+        return false;
+    };
+    if let Some(path) = path {
+        note_operand(alloc, path, unusable, notes);
+    }
+    true
+}
+
+/// Notes that a key could not be taken from standard input or a pipe: a pipe that was read had too many bytes.
+fn note_unknown_key(alloc: Global, path: Option<&str>, notes: &mut Notes)
+    ensures quiet { IsQuiet notes.old notes.new }
 {
     let Some(path) = path else {
         return;
     };
-    if path == "-" {
-        if is_all_unknown {
-            note_operand(alloc, "standard input", Unusable::NoKey, notes);
-        }
-    } else if is_long_key(alloc, path, is_all_unknown, machine) {
-        note_operand(alloc, path, Unusable::LongKey, notes);
+    match path {
+        "-" => note_operand(alloc, "standard input", Unusable::NoKey, notes),
+        path => note_operand(alloc, path, Unusable::LongKey, notes),
     }
 }
 
-/// Notes that a file with a key is too long, and that a file with a zone is none.
+/// Notes that a zone could not be taken from a file that is no ordinary one.
+fn note_unknown_zone(alloc: Global, path: Option<&str>, notes: &mut Notes)
+    ensures quiet { IsQuiet notes.old notes.new }
+{
+    if let Some(path) = path {
+        note_operand(alloc, path, Unusable::Unknown, notes);
+    }
+}
+
+/// Notes which files may be wrong, where nothing else is known. It blames neither of two.
+fn note_unknown(alloc: Global, beside: &Beside, key: Known, zone: Known, notes: &mut Notes)
+    ensures quiet { IsQuiet notes.old notes.new }
+{
+    match (key, zone) {
+        (Known::Nothing, Known::Nothing) => {
+            notes.add(Line::Next(Advice::KeyAlone));
+            notes.add(Line::Next(Advice::ZoneFile));
+        }
+        (Known::Nothing, _) => note_unknown_key(alloc, beside.key_file, notes),
+        (_, Known::Nothing) => note_unknown_zone(alloc, beside.zone_file, notes),
+        _ => {}
+    }
+}
+
+/// Notes that a file with a key is too long, and that a file with a zone is none; or, where nothing else is known, that
+/// one may be so which cannot be read again.
 fn note_operands<M: Machine>(
     alloc: Global,
     beside: &Beside,
@@ -310,17 +381,12 @@ fn note_operands<M: Machine>(
     ensures quiet { IsQuiet notes.old notes.new }
     ensures same { machine.new ≡ machine.old }
 {
-    let is_silent = heard == Heard::Nothing;
-    let Some(path) = beside.zone_file else {
-        note_key(alloc, beside.key_file, is_silent, machine, notes);
-        return;
-    };
-    match unusable_zone(alloc, path, is_silent, machine) {
-        Some(unusable) => {
-            note_key(alloc, beside.key_file, false, machine, notes);
-            note_operand(alloc, path, unusable, notes);
-        }
-        None => note_key(alloc, beside.key_file, is_silent, machine, notes),
+    let key = known_key(alloc, beside.key_file, machine);
+    let zone = known_zone(alloc, beside.zone_file, machine);
+    let has_no_key = note_known(alloc, beside.key_file, key, notes);
+    let has_no_zone = note_known(alloc, beside.zone_file, zone, notes);
+    if heard == Heard::Nothing && !has_no_key && !has_no_zone {
+        note_unknown(alloc, beside, key, zone, notes);
     }
 }
 
@@ -361,6 +427,7 @@ const LAST_DAY: i32 = 2_932_893;
 fn advice_on_moment(day: Option<i32>) -> Advice
     ensures limits { day ≡ None → result ≡ advice.MomentLimits }
     ensures shown { IfSome day (λ day. spec.IsSureDay day → result ≡ advice.ShownDay) }
+    ensures far { IfSome day (λ day. ¬ spec.IsSureDay day → result ≡ advice.MomentLimits) }
 {
     match day {
         Some(day) if (FIRST_DAY..=LAST_DAY).contains(&day) => Advice::ShownDay,
@@ -372,6 +439,7 @@ fn advice_on_moment(day: Option<i32>) -> Advice
 fn advice_on_clock(told: &Told) -> Advice
     ensures moment { IfSome (spec.seconds_named told.now.ask) (λ _. told.now.beside.day ≡ None → result ≡ advice.MomentLimits) }
     ensures day { IfSome told.now.beside.day (λ day. spec.IsSureDay day → result ≡ advice.ShownDay) }
+    ensures far { IfSome told.now.beside.day (λ day. ¬ spec.IsSureDay day → result ≡ advice.MomentLimits) }
 {
     let day = told.beside.day;
     if day.is_some() || seconds_named(&told.ask).is_some() {
@@ -411,10 +479,13 @@ fn advice_of(refused: Refusal) -> Option<Advice> {
     }
 }
 
-/// Notes what each fault of a file means.
-fn note_faults(kind: Kind, faults: u8, notes: &mut Notes)
+/// Notes what each fault of a file means, if a command was refused for them.
+fn note_faults(refused: Refusal, notes: &mut Notes)
     ensures quiet { IsQuiet notes.old notes.new }
 {
+    let Refusal::Faulty(kind, faults) = refused else {
+        return;
+    };
     for word in fault_words(kind, faults) {
         if let Some(fault) = Fault::from_word(word) {
             notes.add(Line::Fault(fault));
@@ -457,7 +528,6 @@ fn note_files<M: Machine>(
         (Ask::Extract(ask), Refusal::WrongSize) => note_size(alloc, &ask.image, machine, notes),
         (Ask::Import(ask), Refusal::BadSheet) => note_sheet(alloc, ask, machine, notes),
         (Ask::Sift(ask), Refusal::BadSheet) => note_sheet(alloc, &ask.import, machine, notes),
-        (_, Refusal::Faulty(kind, faults)) => note_faults(kind, faults, notes),
         _ => {}
     }
 }
@@ -467,6 +537,7 @@ fn advice_after(ask: &Ask, refused: Refusal, heard: Heard) -> Option<Advice> {
     match (ask, refused, heard) {
         (Ask::Extract(_), Refusal::Exists, _) => Some(Advice::FreshFolder),
         (_, Refusal::NotADesk, Heard::Advice) => Some(Advice::InitThere),
+        (_, Refusal::Store, Heard::Fault) => None,
         _ => advice_of(refused),
     }
 }
@@ -523,8 +594,13 @@ fn note_deed(notes: &mut Notes)
 
 /// Whether an import ended at a row whose file could not be read.
 fn is_cut_short(ask: &Ask, notes: &Notes) -> bool {
-    match (ask, notes.lines.as_slice().last()) {
-        (Ask::Import(_), Some(Line::Unread { .. })) => true,
+    let keeps_going = match ask {
+        Ask::Import(_) => false,
+        Ask::Sift(ask) => ask.keep_going,
+        _ => return false,
+    };
+    match notes.lines.as_slice().last() {
+        Some(Line::Unread { .. }) => !keeps_going,
         _ => false,
     }
 }
@@ -542,8 +618,9 @@ fn note_refusal<M: Machine>(
 {
     // Where rows were taken, the files that the words name had been read.
     let has_rows = !notes.lines.is_empty();
-    let heard = note_system(&told.ask, refused, machine, notes);
+    let heard = note_system(told, refused, machine, notes);
     note_files(alloc, &told.ask, refused, machine, notes);
+    note_faults(refused, notes);
     if refused == Refusal::Exists && heard == Heard::Nothing {
         note_standing(alloc, &told.ask, notes);
     }
