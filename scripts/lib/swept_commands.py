@@ -244,6 +244,20 @@ WITHOUT_STORE = [
         "desk list of another size that says why",
         Explains(("{desk}", "list", "cpm8", "{work}/program.d64", "--explain"), b"desk: wrong-size\n  ", status=1),
     ),
+    (
+        "desk export by a zone file that is none, which says why",
+        Explains(
+            ("{desk}", "export", "--store", "f", "--zone-file", "{work}/program.d64", "--explain"),
+            b"desk: device\n  ", status=3,
+        ),
+    ),
+    (
+        "desk show with a key file that is too long, which says why",
+        Explains(
+            (*SHOW, "keys", "--store", "f", "--key-file", "{work}/program.d64", "--explain"),
+            b"desk: device\n  ", status=3,
+        ),
+    ),
     ("desk files of two files", Makes(("{desk}", "files", "cpm8", "-", "--to", "{folder}"), MADE_FILES, TWO_FILES)),
     (
         "desk show of keys where no store is",
