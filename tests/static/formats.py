@@ -1,0 +1,47 @@
+"""The tables of docs/FORMATS.md, and the refusals of the code with their statuses."""
+
+import functools
+import re
+
+from static.rattle import text_of
+
+PAGE = "docs/FORMATS.md"
+PROGRAM, DESK = "crates/rd_commands/src/refusal.rt", "crates/rd_protocol/src/refusal.rt"
+VISIT = "crates/rd_messages/src/fault.rt"
+# Replies and lines that stand in the code by themselves.
+UNAVAILABLE = "crates/rd_protocol/src/reply_text.rt", r'fixed_reply\((\d+), "\{\\"error\\":\\"(unavailable)\\"\}"\)'
+BAD_ROW = "crates/rd_program/src/import.rt", r'"row \{number\} (bad-row)\\n"'
+
+
+def rows(heading):
+    """The cells of the rows of the first table under a heading of the page."""
+    lines = re.search(r"(?m)(?:^\|.*\n)+", text_of(PAGE).partition(f"\n{heading}\n")[2])[0].splitlines()
+    return [[cell.strip() for cell in line.strip("|").split(" | ")] for line in lines[2:]]
+
+
+def quoted(text):
+    """The names of refusals in a cell."""
+    return re.findall(r"`([a-z-]+)`", text)
+
+
+def arms(code, function):
+    """What stands behind each case of a function's match."""
+    body = re.search(rf"(?s)fn {function}\(.*?\n    }}\n", code)[0]
+    found = re.findall(r"((?:\|?\s*\w+::\w+(?:\([^)]*\))?\s*)+)=> ([^,]+),", body)
+    return {case: value for cases, value in found for case in re.findall(r"\w+::(\w+)", cases)}
+
+
+def by_name(path, function, pattern):
+    """The statuses of a source's refusals, by their names. A function gives each name, in a pattern."""
+    statuses = arms(text_of(path), "status")
+    named = arms(text_of(path), function)
+    return {re.search(pattern, value)[1]: statuses.get(case) for case, value in named.items()}
+
+
+@functools.cache
+def in_code():
+    """All refusals of the code by their names: the statuses over HTTP, and those with which the program ends."""
+    status, unavailable = re.search(UNAVAILABLE[1], text_of(UNAVAILABLE[0])).groups()
+    replied = by_name(VISIT, "body", r'\\"error\\":\\"([a-z-]+)\\"') | by_name(DESK, "name", r'"([a-z-]+)"')
+    ends = by_name(PROGRAM, "name", r'"([a-z-]+)(?: [A-Z]0)?"')
+    return replied | {unavailable: status}, ends | {re.search(BAD_ROW[1], text_of(BAD_ROW[0]))[1]: "1"}
