@@ -1,5 +1,5 @@
 #compdef desk
-# Completion of desk in zsh. scripts/pages-of-help.py writes it.
+# Completion of desk in zsh. tools/make-help writes it.
 _desk() {
     local -a commands
     commands=(

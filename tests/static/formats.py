@@ -5,23 +5,18 @@ import re
 
 from static.rattle import text_of
 
-PAGE = "docs/FORMATS.md"
 PROGRAM, DESK = "crates/rd_commands/src/refusal.rt", "crates/rd_protocol/src/refusal.rt"
 VISIT = "crates/rd_messages/src/fault.rt"
-# Replies and lines that stand in the code by themselves.
+# A reply and a line that stand in the code by themselves.
 UNAVAILABLE = "crates/rd_protocol/src/reply_text.rt", r'fixed_reply\((\d+), "\{\\"error\\":\\"(unavailable)\\"\}"\)'
 BAD_ROW = "crates/rd_program/src/import.rt", r'"row \{number\} (bad-row)\\n"'
 
 
 def rows(heading):
     """The cells of the rows of the first table under a heading of the page."""
-    lines = re.search(r"(?m)(?:^\|.*\n)+", text_of(PAGE).partition(f"\n{heading}\n")[2])[0].splitlines()
+    text = text_of("docs/FORMATS.md").partition(f"\n{heading}\n")[2]
+    lines = re.search(r"(?m)(?:^\|.*\n)+", text)[0].splitlines()
     return [[cell.strip() for cell in line.strip("|").split(" | ")] for line in lines[2:]]
-
-
-def quoted(text):
-    """The names of refusals in a cell."""
-    return re.findall(r"`([a-z-]+)`", text)
 
 
 def arms(code, function):
@@ -33,8 +28,7 @@ def arms(code, function):
 
 def by_name(path, function, pattern):
     """The statuses of a source's refusals, by their names. A function gives each name, in a pattern."""
-    statuses = arms(text_of(path), "status")
-    named = arms(text_of(path), function)
+    statuses, named = arms(text_of(path), "status"), arms(text_of(path), function)
     return {re.search(pattern, value)[1]: statuses.get(case) for case, value in named.items()}
 
 

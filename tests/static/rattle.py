@@ -8,55 +8,54 @@ import re
 
 ROOT = pathlib.Path(__file__).parents[2]
 CRATES = ROOT / "crates"
-HEAD = re.compile(r"(?m)^(?= *(?:pub(?:\([^)]*\))? )?(?:const |unsafe |final )*fn \w)")
+# What begins a function, or a constant that stands in none.
+PUBLIC = r"(?:pub(?:\([^)]*\))? )?"
+HEAD = rf"(?: *{PUBLIC}(?:const |unsafe |final )*(fn)|{PUBLIC}(?:const|static)) (\w+)"
 EDIT = re.compile(r"(?:file: .*\n(?:old: .*\nnew:.*\n)+)+")
-DECLARED = re.compile(r"\b(?:fn|ensures|requires|ghost|struct|enum|trait|type|const|static) (\w+)")
-VARIANT = re.compile(r"(?m)^ +([A-Z]\w*)\b[^;=\n]*[,{]$")
-DEFINED = re.compile(r"(?m)^ *(?:(?:abbrev|unfoldable) )?pub (?:record |data )?([^\s:(]+)")
 # What begins a definition, and what a module hands to all of its own.
 ITEM = re.compile(r" *(?:(?:abbrev|unfoldable) pub|abbrev|unfoldable|pub record|pub data|record|data|pub) ([^\s:(]+)")
 MODULE = re.compile(r"( *)module _(.*) where$")
 USE = re.compile(r"use Rattle\.(\w+)\.specs\.([\w.]+?)(?:\.\{([^}]*)\}| as (\w+))?;?$")
 NAME = re.compile(r"[A-Za-z_][\w'-]*(?:\.[A-Za-z_][\w'-]*)?")
 
+# A named clause: what it belongs to (none where the name is that of a function), its name and its file.
+Clause = collections.namedtuple("Clause", "owner name path")
 # A file with definitions: those that it has by their names, and where other names come from.
 Spec = collections.namedtuple("Spec", "items uses")
-# A named clause: what it belongs to (None where the name is that of a function), its name and its file.
-Clause = collections.namedtuple("Clause", "owner name path")
 
 
 @functools.cache
 def text_of(path):
     """The text of a file of the repository, empty where there is none."""
-    file = ROOT / path
-    return file.read_text(encoding="utf-8") if file.is_file() else ""
+    return (ROOT / path).read_text(encoding="utf-8") if (ROOT / path).is_file() else ""
 
 
 @functools.cache
 def lines_of(path):
-    return text_of(path).splitlines()
+    return text_of(path).split("\n")
 
 
 def parts_of(path):
     """The crate of a path, the folder in it, and the rest; empty parts where it is none in a crate."""
-    parts = path.split("/")
-    return (parts[1], parts[2], "/".join(parts[3:])) if len(parts) > 3 and parts[0] == "crates" else ("", "", "")
-
-
-# Functions, names and wrong bodies
+    found = re.fullmatch(r"crates/(\w+)/([\w-]+)/(.+)", path)
+    return found.groups() if found else ("", "", "")
 
 
 @functools.cache
-def functions(path):
-    """The functions of a file by their names: of all that have it the text up to the next one."""
-    found = collections.defaultdict(list)
-    for part in HEAD.split(text_of(path))[1:]:
-        found[re.search(r"fn (\w+)", part)[1]].append(part)
+def items(path):
+    """The functions and constants of a file by their names: the texts from each head with the name to the next one."""
+    found, name = collections.defaultdict(str), ""
+    for line in lines_of(path):
+        head = re.match(HEAD, line)
+        name = head[2] if head else name
+        found[name] += f"{line}\n"
     return found
 
 
-def constants(path, name):
-    return re.findall(rf"(?ms)^[^\n]*\b(?:const|static) {re.escape(name)}\b.*?;$", text_of(path))
+def item_at(path, line):
+    """Whether a function or a constant stands at a line, counted from 0, and its name."""
+    found = (re.match(HEAD, text) for text in reversed(lines_of(path)[: line + 1]))
+    return next(((bool(head[1]), head[2]) for head in found if head), (False, ""))
 
 
 @functools.cache
@@ -73,107 +72,76 @@ def proof_folders(path, name):
     file has and another declares."""
     crate, _, inside = parts_of(path)
     types = re.findall(r"(?m)^impl(?:<[^>]*>)? (\w+)", text_of(path))
-    roots = {CRATES / crate / "proofs" / inside.removesuffix(".rt")}
-    roots.update(folder for each in types for folder in proofs_of(crate)[each])
+    roots = {CRATES / crate / "proofs" / inside[:-3], *(folder for each in types for folder in proofs_of(crate)[each])}
     return [str(found.relative_to(ROOT)) for found in proofs_of(crate)[name] if roots.intersection(found.parents)]
-
-
-@functools.cache
-def names():
-    """The names of crates, functions, clauses, types and their cases, and definitions, with their files and fields."""
-    found = {folder.name for folder in CRATES.iterdir()}
-    for file in CRATES.glob("*/src/**/*.rt"):
-        text = file.read_text(encoding="utf-8")
-        found.update(DECLARED.findall(text), VARIANT.findall(text))
-    for file in CRATES.glob("*/specs/*.antt"):
-        found.update([file.stem], DEFINED.findall(file.read_text(encoding="utf-8")))
-    return found
 
 
 def pairs_of(path):
     """The changes of a wrong body, one after the other: the file, the old text and the new one of each. None where it
     has another form."""
     text, folder, found = text_of(path), "/".join(path.split("/")[:2]), []
-    for part in text.split("file: ")[1:] if EDIT.fullmatch(text) else ():
+    for part in re.split(r"(?m)^file: ", text)[1:] if EDIT.fullmatch(text) else ():
         file = f"{folder}/{part.splitlines()[0].strip()}"
         found += [(file, old, new) for old, new in re.findall(r"old: (.*)\nnew: ?(.*)\n", part)]
     return found
 
 
-# Definitions and clauses
+# Definitions, clauses, and what they rest on
 
 
-def has_definition(path, name):
-    """Whether specs have a definition of this name, or a record with this field (`NAME.FIELD`)."""
-    text, (record, _, field) = text_of(path), name.partition(".")
-    if field:
-        of_record = re.search(rf"(?m)^( *)pub record {re.escape(record)}\b.*\n((?:\1 +.*\n|\n)*)", text)
-        return bool(of_record and re.search(rf"(?m)^ +pub {re.escape(field)} :", of_record[2]))
-    head = rf"(?m)^(?: *(?:abbrev|unfoldable) pub| *pub (?:record|data)|pub) {re.escape(name)}(?=[ :])"
-    return bool(re.search(head, text))
-
-
-def first(lines, begin, *patterns):
-    """The index of the first line from some line on that one of the patterns matches, or how many lines there are."""
-    found = (at for at in range(begin, len(lines)) if any(re.match(pattern, lines[at]) for pattern in patterns))
-    return next(found, len(lines))
-
-
-@functools.cache
-def span(path, owner):
-    """Where a signature, a trait, a trait of a type or a record begins and ends, as indices of lines. It is empty where
-    there is none."""
-    lines = lines_of(path)
-    kind, _, name = owner.rpartition("::")
-    trait, _, ty = owner.rpartition(" for ")
-    if trait:
-        at = first(lines, 0, rf"impl\b.*\b{trait}\b.* for {ty}\b")
-        return at, first(lines, at + 1, r"\}")
-    begin = first(lines, 0, rf"(impl|pub trait)\b.*\b{kind}\b") if kind else 0
-    at = first(lines, begin, rf"\s*(pub )?(fn|trait|record) {name}\b")
-    is_function = at < len(lines) and re.match(r"\s*(pub )?fn ", lines[at])
-    return at, first(lines, at + 1, *((r"\s*\{", r".*;$") if is_function else (r"\S",)))
+def owner_text(clause):
+    """The text of the function, trait, trait of a type or record that a clause belongs to."""
+    text, owner = text_of(clause.path), clause.owner or clause.name
+    (trait, _, ty), (kind, _, name) = owner.rpartition(" for "), owner.rpartition("::")
+    if kind and not trait:
+        text = (re.search(rf"(?ms)^(?:impl|pub trait)\b[^\n]*\b{kind}\b.*", text) or [""])[0]
+    pattern = rf"(?m)^ *(?:pub )?fn {name}\b(?:.*\n)+?(?= *\{{|.*;$)"
+    pattern += rf"|^ *(?:pub )?(?:trait|record) {name}\b(?:.*\n)+?(?=\S|\Z)"
+    pattern = rf"(?ms)^impl\b[^\n]*\b{trait}\b[^\n]* for {ty}\b.*?^\}}" if trait else pattern
+    return (re.search(pattern, text) or [""])[0]
 
 
 @functools.cache
 def clause_text(clause):
-    """The lines of a clause, up to the next one of the same function, trait or record; empty where it is not there."""
-    begin, end = span(clause.path, clause.owner or clause.name)
-    lines, name = lines_of(clause.path)[:end], re.escape(clause.name)
-    begins = rf"\s*(ensures {name} \{{|ghost {name}(:| =)|pub {name} :)" if clause.owner else r"\s*ensures \{"
-    at = first(lines, begin, begins)
-    return "\n".join(lines[at : first(lines, at + 1, r"\s*(ensures|requires|ghost|fn|pub|//)")])
+    """The lines of a clause, up to the next one of what it belongs to; empty where it is not there."""
+    name = re.escape(clause.name)
+    begin = rf"ensures {name} \{{|ghost {name}(?::| =)|pub {name} :" if clause.owner else r"ensures \{"
+    found = re.search(rf"(?m)^ *(?:{begin}).*\n(?:(?! *(?:ensures|requires|ghost|fn|pub|//)).*\n)*", owner_text(clause))
+    return found[0] if found else ""
 
 
-# What a clause rests on
+def has_definition(path, name):
+    """Whether specs have a definition of this name, or a record with this field (`NAME.FIELD`)."""
+    owner, _, field = name.rpartition(".")
+    head = rf"(?m)^(?: *(?:abbrev|unfoldable) pub| *pub (?:record|data)|pub) {re.escape(name)}(?=[ :])"
+    return bool(clause_text(Clause(owner, field, path)) if owner else re.search(head, text_of(path)))
 
 
-def note_use(line, uses):
-    """Takes in where a line says that names come from: each as crate, file and name, the name of a whole file empty."""
-    crate, file, names_there, alias = USE.search(line).groups()
-    if alias:
-        uses[alias] = crate, file, ""
-    for name in (names_there or "").split(","):
-        there, _, here = name.strip().partition(" as ")
-        uses[here or there] = crate, file, there
+def uses_in(lines):
+    """Where lines say that names come from: each as crate, file and name, the name of a whole file empty."""
+    uses = {}
+    for crate, file, names, alias in (found.groups() for found in map(USE.search, lines) if found):
+        for name in (names or "").split(",") if not alias else ():
+            there, _, here = name.strip().partition(" as ")
+            uses[here or there] = crate, file, there
+        uses |= {alias: (crate, file, "")} if alias else {}
+    return uses
 
 
 def read_spec(path):
     """The definitions of a spec file. What a module hands to its definitions counts as a part of each."""
-    items, uses, item, handed, depth = {}, {}, None, "", 0
-    for line in path.read_text(encoding="utf-8").splitlines():
-        code = line.partition("--")[0].rstrip()
-        indent = len(code) - len(code.lstrip())
-        if "use Rattle." in code and USE.search(code):
-            note_use(code, uses)
-        elif module := MODULE.match(code):
+    items, item, handed, depth = {}, None, "", 0
+    lines = [line.partition("--")[0].rstrip() for line in path.read_text(encoding="utf-8").splitlines()]
+    for line in lines:
+        indent = len(line) - len(line.lstrip())
+        if module := MODULE.match(line):
             item, depth, handed = None, len(module[1]) + 2, module[2]
-        elif code and indent in (0, depth) and (begins := ITEM.match(code)):
+        elif line and indent in (0, depth) and (begins := ITEM.match(line)):
             item, depth = begins[1], indent
             items[item] = handed * (indent > 0)
         if item:
-            items[item] += f"\n{code}"
-    return Spec(items, uses)
+            items[item] += f"\n{line}"
+    return Spec(items, uses_in(lines))
 
 
 @functools.cache
@@ -189,12 +157,12 @@ def spec_of(path):
     return crate, inside.removesuffix(".antt")
 
 
-def named(text, uses, here=None):
+def named(text, uses, here):
     """The definitions that a text names, each as crate, file and name."""
     found, known = set(), specs()
     for word in set(NAME.findall(text)):
         begin, _, rest = word.partition(".")
-        crate, file, name = uses.get(begin, (*(here or ("", "")), begin))
+        crate, file, name = uses.get(begin, (*here, begin))
         if (crate, file) in known and ((crate, file) != here or name in known[here].items):
             found.add((crate, file, name or rest))
     return found
@@ -205,31 +173,23 @@ def named_by(crate, file, name):
     """The definitions that a definition names, and the file that has it. A file may hand on a name of another; a name
     that begins no definition is that of a case of one."""
     spec = specs()[crate, file]
-    if name not in spec.items and name in spec.uses and spec.uses[name][:2] in specs():
+    if name not in spec.items and spec.uses.get(name, ("", ""))[:2] in specs():
         return named_by(*spec.uses[name])
     case = re.compile(rf"^ +{re.escape(name)} :", re.M)
     text = spec.items.get(name) or next((text for text in spec.items.values() if case.search(text)), "")
     return named(text, spec.uses, (crate, file)), (crate, file)
 
 
-@functools.cache
-def seen_by(path):
-    """Where the names in a clause come from: what its file uses, and for a record's field its own file too."""
-    if path.endswith(".antt"):
-        return specs()[spec_of(path)].uses, spec_of(path)
-    uses = {}
-    for line in lines_of(path):
-        if line.strip().startswith("ghost use") and USE.search(line):
-            note_use(line, uses)
-    return uses, None
-
-
 def rests_on(clauses):
     """The spec files with the definitions on which clauses rest, each as crate and name. Of a record of which they name
     fields, only these count."""
+    files, to_do, done = set(), set(), set()
+    for clause in clauses:
+        is_field, here = clause.path.endswith(".antt"), spec_of(clause.path)
+        ghost = [line for line in lines_of(clause.path) if line.strip().startswith("ghost use")]
+        to_do |= named(clause_text(clause), *((specs()[here].uses, here) if is_field else (uses_in(ghost), ("", ""))))
+        files |= {here} if is_field else set()
     fields = {clause.owner for clause in clauses if clause.path.endswith(".antt")}
-    files = {spec_of(clause.path) for clause in clauses if clause.path.endswith(".antt")}
-    to_do, done = {one for clause in clauses for one in named(clause_text(clause), *seen_by(clause.path))}, set()
     while to_do:
         one = to_do.pop()
         found, file = named_by(*one)

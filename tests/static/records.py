@@ -35,8 +35,7 @@ class Record:
 
     def clauses(self):
         """The clauses of a promise; the owner of each stands before a colon."""
-        parts = [(path, text.rpartition(": ")) for path, text in self.named("clause")]
-        return [Clause(owner or None, name, path) for path, (owner, _, name) in parts]
+        return [Clause(*text.rpartition(": ")[::2], path) for path, text in self.named("clause")]
 
 
 @functools.cache

@@ -1,0 +1,186 @@
+"""The pages say what is there: links, paths, names, crates, ways and promises; and files have a layout."""
+
+import functools
+import os
+import re
+
+import pytest
+from static import rattle, records
+from static.faults import is_free_of_faults
+from static.rattle import ROOT, text_of
+
+LINK = re.compile(r"(?<!!)\[[^\]]*\]\(([^)\s]+)\)")
+# A path in a page's text, as far as it is that of a file: no part of it in capitals stands for another word.
+PATH = re.compile(r"(?<![\w./-])((?:scripts|tests|tools|docs|operate|web|images|bench|crates|records)/[\w.*/-]*\w/?)")
+NO_PATH = re.compile(r"/out(/|$)|\*|(^|/)(NAME|CRATE|PROGRAM|PAGE|SUITE)")
+HYPHENS = re.compile(r"(\|:?-+:?)+\|")
+COUNTED = re.compile(r"\.(md|py|sh|rt|record|js|css|c)$|^(tools|tests)/[\w-]+$")
+# A name in backquotes, with what it belongs to; those that are not in Rattle; and the commands of desk.
+CODED = re.compile(r"`([A-Za-z_]\w*(?:(?:::|\.)\w+)*)`")
+STEP = re.compile(r"`(\w+(?:::\w+)?)`")
+KIT = ("clap", "csv", "hex", "httparse", "itoa", "jiff", "matchit", "serde", "serde_json", "sha2", "sqlite")
+OTHER_NAMES = ("HasCleanDisk", "UTC0", "Wary", "id", "inconsistent", "requires", "sqlite3", "u8")
+ASKED = {"cat", "check", "export", "import", "init", "list", "serve", "show"}
+ARCHITECTURE, PROMISES, WAY = "docs/ARCHITECTURE.md", "docs/PROMISES.md", "The way of "
+FOLDERS = ("README.md", "records/README.md", "docs/*.md", "crates/*/README.md")
+PAGES = sorted(str(page.relative_to(ROOT)) for pages in FOLDERS for page in ROOT.glob(pages))
+of_each_page = pytest.mark.parametrize("page", PAGES)
+
+
+@functools.cache
+def shown(page):
+    """The text of a page; lines of code are empty."""
+    return re.sub(r"(?ms)^```.*?^```$", lambda code: "\n" * code[0].count("\n"), text_of(page))
+
+
+def headings(page):
+    return [(len(level), text.replace("`", "")) for level, text in re.findall(r"(?m)^(#+) (.*)", shown(page))]
+
+
+def anchors(page):
+    """The names by which links lead to a page's headings."""
+    found = []
+    for _, heading in headings(page):
+        name = re.sub(r"[^\w\- ]", "", heading.lower()).replace(" ", "-")
+        found.append(f"{name}-{found.count(name)}" if name in found else name)
+    return found
+
+
+def sections(page):
+    """The parts of a page, by the texts of their headings."""
+    return {part.partition("\n")[0].replace("`", ""): part for part in re.split(r"(?m)^## ", text_of(page))}
+
+
+@functools.cache
+def words_of_sources():
+    """The words of all sources in Rattle, without those of comments, and the names of crates and files."""
+    files = [*rattle.CRATES.glob("*/src/**/*.rt"), *rattle.CRATES.glob("*/specs/*.antt")]
+    texts = [re.sub(r"(?m)(//|--).*", "", file.read_text(encoding="utf-8")) for file in files]
+    return {name for file in files for name in (*file.parts, file.stem)}.union(re.findall(r"\w+", "\n".join(texts)))
+
+
+@of_each_page
+@is_free_of_faults
+def test_links_lead_somewhere(page):
+    """A link names no line, since each change of a file moves its lines."""
+    for link in LINK.findall(shown(page)):
+        path, _, part = link.partition("#")
+        leads = os.path.normpath(os.path.join(os.path.dirname(page), path)) if path else page
+        is_there = (ROOT / leads).exists() and not re.fullmatch(r"L\d+(-L\d+)?", part)
+        if not re.match(r"[a-z]+:", link) and not (is_there and (not part or part in anchors(leads))):
+            yield f"{page}: the link {link} leads to no file or heading, or it names a line"
+
+
+@of_each_page
+@is_free_of_faults
+def test_paths_are_there(page):
+    for path in PATH.findall(shown(page)):
+        if not NO_PATH.search(path) and not (ROOT / path).exists():
+            yield f"{page}: nothing is at {path}"
+
+
+@of_each_page
+@is_free_of_faults
+def test_layout_of_pages(page):
+    """One title, headings one level at a time, no blanks at the end of a line, text of 120 characters and lines of 400;
+    tables of a row, a line of hyphens and more rows, with as many cells in each."""
+    levels = [level for level, _ in headings(page)]
+    if levels[:1] != [1] or levels.count(1) > 1 or any(after > one + 1 for one, after in zip(levels, levels[1:])):
+        yield f"{page}: it has not one title, or a heading is a level too deep"
+    if "```" in shown(page):
+        yield f"{page}: code does not end"
+    for number, (line, text) in enumerate(zip(text_of(page).splitlines(), shown(page).splitlines()), 1):
+        most = 120 if text and not text.startswith("|") and not LINK.search(text) else 400
+        if line != line.rstrip() or "\t" in text or len(line) > most:
+            yield f"{page}:{number}: a blank at its end, a tab, or {len(line)} characters"
+    for table in re.findall(r"(?m)(?:^\|.*\n?)+", shown(page)):
+        rows = table.splitlines()
+        cells = {len(re.findall(r"(?<!\\)\|", row)) for row in rows}
+        hyphens = [number for number, row in enumerate(rows) if HYPHENS.fullmatch(row)]
+        if hyphens != [1] or len(rows) < 3 or len(cells) > 1:
+            yield f"{page}: no whole table: {rows[0]}"
+
+
+@is_free_of_faults
+def test_files_are_short():
+    """No file has more than 800 lines, and no line of tests and tools more than 120 characters."""
+    for at, folders, names in os.walk(ROOT):
+        folders[:] = [name for name in folders if name not in (".git", "out", "__pycache__")]
+        for path in (os.path.relpath(os.path.join(at, name), ROOT) for name in names):
+            lines = text_of(path).splitlines() if COUNTED.search(path) else []
+            wide = [number for number, line in enumerate(lines, 1) if len(line) > 120]
+            if len(lines) > 800 or wide and path.startswith(("tests/", "tools/")):
+                yield f"{path}: {len(lines)} lines, too long are {wide}"
+
+
+@pytest.mark.parametrize("page", [page for page in PAGES if page == PROMISES or page.startswith("crates/")])
+@is_free_of_faults
+def test_names_in_backquotes_are_in_rattle(page):
+    for name in CODED.findall(shown(page)):
+        parts = re.split(r"::|\.", name)
+        if name not in KIT + OTHER_NAMES and not set(parts) <= words_of_sources() and parts[-1] != "rt":
+            yield f"{page}: nothing has the name {name}"
+
+
+# Promises, crates and ways
+
+
+@is_free_of_faults
+def test_promises_are_those_of_the_records():
+    """Each item of the list names clauses of the records, and the page has their number and their premises."""
+    text, promises = text_of(PROMISES), records.of_kind("promise")
+    clauses = [clause for record in promises for clause in record.clauses()]
+    known = ASKED | {path.split("/")[1] for _, _, path in clauses}
+    known |= {word for owner, name, _ in clauses for word in re.split(r"::| for ", f"{owner or name}::{name}")}
+    for item in re.findall(r"(?m)^\d+\. .*(?:\n {3}.*)*", text):
+        names = [name for name in CODED.findall(item) if name not in OTHER_NAMES]
+        yield from (f"no promise has the clause {name}" for name in names if not set(name.split("::")) <= known)
+        if not names and "the prover checks this" not in item:
+            yield f"no clause is behind {item[:30]!r}"
+    if f"All {len(promises)} promises are records" not in text:
+        yield f"it does not say that all {len(promises)} promises are records"
+    for name in {record.title for record in records.of_kind("premise")} ^ set(re.findall(r"(?m)^- \*([^*]+)\*:", text)):
+        yield f"the premise {name} is not both here and in the records"
+
+
+def edges():
+    """The crates of ARCHITECTURE's graph and of the table below it, each after one that stands on it, or none."""
+    part, above, found = sections(ARCHITECTURE)["The crates"], [], []
+    for line in part.split("```")[1].splitlines():
+        if crate := re.search(r"rd_\w+", line):
+            above = [(depth, name) for depth, name in above if depth < crate.start()]
+            found.append((above[-1][1] if above else "", crate[0]))
+            above.append((crate.start(), crate[0]))
+    for row in re.findall(r"(?m)^\| (.*`rd_.*) \|.*\| (.*) \|$", part):
+        crates, below = (re.findall(r"`(\w+)`", cell) for cell in row)
+        found += [(name, each) for name in crates for each in below]
+    return found
+
+
+@is_free_of_faults
+def test_crates_are_those_of_the_list():
+    stands = {name: below.split() for name, below in re.findall(r"(?m)^(\w+):(.*)", text_of("crates.txt"))}
+    for name in {name for edge in edges() for name in edge if name.startswith("rd_")} ^ set(stands):
+        yield f"{name} is not both in {ARCHITECTURE} and in crates.txt"
+    for name, below in edges():
+        if name in stands and below not in stands[name]:
+            yield f"{name} does not stand on {below}"
+
+
+@is_free_of_faults
+def test_ways_are_those_of_the_records():
+    """The names in a step of ARCHITECTURE are functions of that step in the way's record, in this order."""
+    ways = {record.title: record for record in records.of_kind("way")}
+    told = {heading.removeprefix(WAY) for _, heading in headings(ARCHITECTURE) if heading.startswith(WAY)}
+    yield from (f"the way of {name} is not both here and in the records" for name in told ^ set(ways))
+    for title in told & set(ways):
+        due, number = {}, None
+        for word, line in ways[title].lines:
+            number = line.split()[0] if word == "step" else number
+            due.setdefault(number, []).extend([line.partition(" ")[2]] * (word == "coded"))
+        found = dict(re.findall(r"(?m)^(\d+)\. (.*(?:\n {3,}.*)*)", sections(ARCHITECTURE)[WAY + title]))
+        yield from (f"{title}: step {number} is not in both" for number in set(found) ^ set(filter(str.isdigit, due)))
+        for number in set(found) & set(due):
+            names, left = [name for name in STEP.findall(found[number]) if name not in KIT], iter(due[number])
+            if not all(name in left for name in names) or due[number] and not names:
+                yield f"{title}: {names} of step {number} are not functions of its record, in this order"
