@@ -28,7 +28,6 @@ import sys
 import tempfile
 
 import rooms
-import tools
 import visits
 
 FEW, MANY = 2, 12
@@ -233,7 +232,7 @@ def main():
     parser.add_argument("programs", nargs="+")
     parser.add_argument("--tree", action="store_true")
     words = parser.parse_args()
-    tools.install(NEEDED, PACKAGES)
+    rooms.install(NEEDED, PACKAGES)
     told = visits.cases(False) + visits.cases_for_desks() + [OPENING]
     missed = []
     with tempfile.TemporaryDirectory() as folder:

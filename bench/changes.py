@@ -20,7 +20,6 @@ import time
 
 import rooms
 import shelves
-import tools
 from shelves import Question
 
 OPENINGS, TRACED = 11, 5
@@ -148,7 +147,7 @@ def main():
     parser.add_argument("--size", type=int, default=100)
     parser.add_argument("--visits", type=int, default=20)
     words = parser.parse_args()
-    tools.install(["strace"], ["strace"])
+    rooms.install(["strace"], ["strace"])
     programs, asked = rooms.named_programs(words.programs), questions(words.size)
     with tempfile.TemporaryDirectory() as folder:
         stores = {name: (program, os.path.join(folder, f"{name}.sqlite")) for name, program in programs.items()}

@@ -4,6 +4,7 @@ import ctypes
 import hashlib
 import json
 import os
+import shutil
 import socket
 import sqlite3
 import subprocess
@@ -11,9 +12,9 @@ import sys
 import time
 
 HERE = os.path.dirname(os.path.abspath(__file__))
-sys.path.insert(0, os.path.join(HERE, "..", "scripts", "lib"))
-import cbm_image
+sys.path.insert(0, os.path.join(HERE, "..", "tests"))
 import images
+from support import cbm_image
 
 HOST = "127.0.0.1"
 STAFF = "open sesame"
@@ -27,6 +28,15 @@ C_NEEDED = ["gcc", "/usr/include/stdio.h", "/usr/include/sqlite3.h"]
 # disk the accession.
 LONG, SHORT, DENIED, CROWD = (1, 0), (2, 0), (2, 1), 3
 LONG_SIZE, SHORT_SIZE = 168656, 258
+
+
+def install(needed, packages):
+    """Installs Debian's packages where a program or a file of theirs is missing, and says which where it may not."""
+    missing = [name for name in needed if not (os.path.exists(name) if os.path.isabs(name) else shutil.which(name))]
+    if missing and os.geteuid():
+        sys.exit(f"missing: {' '.join(missing)}; run as root: apt-get install {' '.join(packages)}")
+    if missing:
+        subprocess.run(["apt-get", "install", "-y", "-qq", "--no-install-recommends", *packages], check=True)
 
 
 # Images

@@ -22,10 +22,8 @@ import sys
 import tempfile
 
 import images
-
-HERE = os.path.dirname(os.path.abspath(__file__))
-sys.path.insert(0, os.path.join(HERE, "..", "scripts", "lib"))
-import tools
+import rooms
+from rooms import HERE
 
 NEEDED = ["cpmcp", "cbmconvert", "cc1541", "valgrind", "gcc", "/usr/include/stdio.h"]
 PACKAGES = ["cpmtools", "cbmconvert", "cc1541", "valgrind", "gcc", "libc6-dev"]
@@ -160,8 +158,10 @@ def bench_case(bench, case):
 
 
 def main():
-    desk, kinds = tools.arguments(__doc__)
-    tools.install(NEEDED, PACKAGES)
+    if sys.argv[1:2] in ([], ["--help"]):
+        sys.exit(__doc__)
+    desk, kinds = os.path.abspath(sys.argv[1]), sys.argv[2:] or ["cpm8", "d64", "d64e"]
+    rooms.install(NEEDED, PACKAGES)
     memory = MEMORY if os.access(MEMORY, os.W_OK) else None
     missed = []
     with tempfile.TemporaryDirectory() as built, tempfile.TemporaryDirectory(dir=memory) as written:

@@ -27,7 +27,6 @@ import sys
 import tempfile
 
 import rooms
-import tools
 
 C_NAME = "C program"
 
@@ -237,7 +236,7 @@ def main():
     parser.add_argument("--part", type=int, default=1)
     parser.add_argument("--thousand", action="store_true")
     words = parser.parse_args()
-    tools.install(rooms.C_NEEDED, rooms.C_PACKAGES)
+    rooms.install(rooms.C_NEEDED, rooms.C_PACKAGES)
     told = cases(words.thousand)
     with tempfile.TemporaryDirectory() as folder:
         bench = Bench(rooms.named_programs(words.programs), list(dict.fromkeys(case.shelf for case in told)), folder)

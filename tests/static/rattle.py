@@ -18,10 +18,9 @@ MODULE = re.compile(r"( *)module _(.*) where$")
 USE = re.compile(r"use Rattle\.(\w+)\.specs\.([\w.]+?)(?:\.\{([^}]*)\}| as (\w+))?;?$")
 NAME = re.compile(r"[A-Za-z_][\w'-]*(?:\.[A-Za-z_][\w'-]*)?")
 
-# A named clause: what it belongs to (none where the name is that of a function), its name and its file.
-Clause = collections.namedtuple("Clause", "owner name path")
-# A file with definitions: those that it has by their names, and where other names come from.
-Spec = collections.namedtuple("Spec", "items uses")
+# A clause: what it belongs to (none where the name is that of a function), its name and its file. And a file with
+# definitions: those that it has by their names, and where other names come from.
+Clause, Spec = collections.namedtuple("Clause", "owner name path"), collections.namedtuple("Spec", "items uses")
 
 
 @functools.cache
@@ -49,7 +48,7 @@ def items(path):
         head = re.match(HEAD, line)
         name = head[2] if head else name
         found[name] += f"{line}\n"
-    return found
+    return dict(found)
 
 
 def item_at(path, line):

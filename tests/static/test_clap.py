@@ -1,6 +1,6 @@
 """The texts of help in rd_commands are those that `clap` makes of the command line; and the line of one command, which
-the program builds, answers as that of all does. `rt try` runs `clap` on it, with no proof, in minutes. What help.rt would
-be by it is then in out/help.rt: `rt fmt` lays that out."""
+the program builds, answers as that of all does. `rt try` runs `clap`, with no proof, in a minute or two; what help.rt
+would be by it is then in out/help.rt, and `rt fmt` lays that out."""
 
 import re
 import subprocess
@@ -9,6 +9,7 @@ import pytest
 from static.faults import is_free_of_faults
 from static.rattle import CRATES, ROOT, text_of
 
+pytestmark = pytest.mark.timeout(1200)
 LINE, HELP = text_of("crates/rd_commands/src/command_line.rt"), text_of("crates/rd_commands/src/help.rt")
 TEXT = re.compile(r'pub const (\w+)_HELP: &str =\s+"([^"]*)";')
 TEXTS = dict(TEXT.findall(HELP))
@@ -17,11 +18,9 @@ NAMES = {**{name: name.upper().replace("-", "_") for name in COMMANDS}, "help": 
 # The words that ask for a text of help.
 ASKS = {"DESK": ["--help", "-h", "help", "--help cat", "-h cat"], "HELP": ["help help"]}
 ASKS |= {NAMES[name]: [f"{name} --help", f"{name} -h", f"help {name}"] for name in COMMANDS}
-OPERANDS = {
-    "cat": "d64 disk.d64 0", "list": "d64 disk.d64", "files": "d64 disk.d64 --to folder", "show": "deeds --store f",
-    "serve": "--store f --port 8041", "import": "--store f --sheet s", "check": "--store f --acc 12",
-    "copy": "--store f --to g",
-}
+OPERANDS = {"cat": "d64 disk.d64 0", "list": "d64 disk.d64", "files": "d64 disk.d64 --to folder"}
+OPERANDS |= {"serve": "--store f --port 8041", "import": "--store f --sheet s", "check": "--store f --acc 12"}
+OPERANDS |= {"show": "deeds --store f", "copy": "--store f --to g"}
 # What is wrong behind the operands of a command, and in their place.
 MISTAKES = "--explian|--nothing=1|-x|more and more|--explain --explain|--explain=1|--help=1|--store".split("|")
 WRONG = [f"{name} {OPERANDS.get(name, '--store f')} {mistake}" for name in COMMANDS for mistake in MISTAKES]
@@ -36,15 +35,11 @@ fn main(rt: HostRuntime) -> Result<()> {
     for line in rt.lines(rt.alloc()) {
         let line = line?;
         let mut words = Vec::new(rt.alloc());
-        for word in line.as_str().split(' ') {
-            words.push(word)?;
-        }
-        if let Err(error) = command_line::desk_for(rt.alloc(), words.as_slice())?.try_get_matches_from(words.as_slice()) {
-            print!(rt; "=== {error}")?;
-        }
-        if let Err(error) = command_line::desk_command(rt.alloc())?.try_get_matches_from(words.as_slice()) {
-            print!(rt; "=== {error}")?;
-        }
+        for word in line.as_str().split(' ') { words.push(word)?; }
+        if let Err(error) = command_line::desk_for(rt.alloc(), words.as_slice())?
+            .try_get_matches_from(words.as_slice()) { print!(rt; "=== {error}")?; }
+        if let Err(error) = command_line::desk_command(rt.alloc())?
+            .try_get_matches_from(words.as_slice()) { print!(rt; "=== {error}")?; }
     }
     Ok(())
 }
@@ -70,8 +65,8 @@ def answers(tmp_path_factory):
     (crate.parent.parent / "crates.txt").write_text("helps: anyhow clap\n")
     (crate / "src" / "main.rt").write_text(MAIN)
     (crate / "src" / "command_line.rt").write_text(source.replace("\nfn desk_command", "\npub(crate) fn desk_command"))
-    words = ["rt", "try", "--seconds", "900"]
-    ran = subprocess.run(words, cwd=crate, input="\n".join([*asked, ""]), capture_output=True, text=True)
+    how = {"cwd": crate, "input": "\n".join([*asked, ""]), "capture_output": True, "text": True}
+    ran = subprocess.run(["rt", "try", "--seconds", "900"], **how)
     parts = ran.stdout.split("=== ")[1:]
     assert ran.returncode == 0 and len(parts) == 2 * len(asked), ran.stdout + ran.stderr
     found = {words: (one, all_) for words, one, all_ in zip(asked, parts[::2], parts[1::2])}
@@ -87,7 +82,6 @@ def test_each_command_has_a_text():
     assert set(TEXTS) == {"DESK", *NAMES.values()}
 
 
-@pytest.mark.timeout(1200)
 @is_free_of_faults
 def test_texts_are_those_of_clap(answers):
     for name, words in ((name, words) for name in TEXTS for words in ASKS[name]):
@@ -95,7 +89,6 @@ def test_texts_are_those_of_clap(answers):
             yield f"{words}: help.rt has another text"
 
 
-@pytest.mark.timeout(1200)
 @is_free_of_faults
 def test_line_of_one_command_answers_as_that_of_all(answers):
     yield from (f"{words}: {one!r}, and not {every!r}" for words, (one, every) in answers.items() if one != every)

@@ -17,11 +17,11 @@ HYPHENS = re.compile(r"(\|:?-+:?)+\|")
 COUNTED = re.compile(r"\.(md|py|sh|rt|record|js|css|c)$|^(tools|tests)/[\w-]+$")
 # A name in backquotes, with what it belongs to; those that are not in Rattle; and the commands of desk.
 CODED = re.compile(r"`([A-Za-z_]\w*(?:(?:::|\.)\w+)*)`")
-STEP = re.compile(r"`(\w+(?:::\w+)?)`")
+STEP = r"(?m)^\d+\. .*(?:\n {3,}.*)*"
 KIT = ("clap", "csv", "hex", "httparse", "itoa", "jiff", "matchit", "serde", "serde_json", "sha2", "sqlite")
 OTHER_NAMES = ("HasCleanDisk", "UTC0", "Wary", "id", "inconsistent", "requires", "sqlite3", "u8")
 ASKED = {"cat", "check", "export", "import", "init", "list", "serve", "show"}
-ARCHITECTURE, PROMISES, WAY = "docs/ARCHITECTURE.md", "docs/PROMISES.md", "The way of "
+ARCHITECTURE, PROMISES = "docs/ARCHITECTURE.md", "docs/PROMISES.md"
 FOLDERS = ("README.md", "records/README.md", "docs/*.md", "crates/*/README.md")
 PAGES = sorted(str(page.relative_to(ROOT)) for pages in FOLDERS for page in ROOT.glob(pages))
 of_each_page = pytest.mark.parametrize("page", PAGES)
@@ -132,7 +132,7 @@ def test_promises_are_those_of_the_records():
     clauses = [clause for record in promises for clause in record.clauses()]
     known = ASKED | {path.split("/")[1] for _, _, path in clauses}
     known |= {word for owner, name, _ in clauses for word in re.split(r"::| for ", f"{owner or name}::{name}")}
-    for item in re.findall(r"(?m)^\d+\. .*(?:\n {3}.*)*", text):
+    for item in re.findall(STEP, text):
         names = [name for name in CODED.findall(item) if name not in OTHER_NAMES]
         yield from (f"no promise has the clause {name}" for name in names if not set(name.split("::")) <= known)
         if not names and "the prover checks this" not in item:
@@ -169,18 +169,15 @@ def test_crates_are_those_of_the_list():
 
 @is_free_of_faults
 def test_ways_are_those_of_the_records():
-    """The names in a step of ARCHITECTURE are functions of that step in the way's record, in this order."""
-    ways = {record.title: record for record in records.of_kind("way")}
-    told = {heading.removeprefix(WAY) for _, heading in headings(ARCHITECTURE) if heading.startswith(WAY)}
-    yield from (f"the way of {name} is not both here and in the records" for name in told ^ set(ways))
-    for title in told & set(ways):
-        due, number = {}, None
-        for word, line in ways[title].lines:
-            number = line.split()[0] if word == "step" else number
-            due.setdefault(number, []).extend([line.partition(" ")[2]] * (word == "coded"))
-        found = dict(re.findall(r"(?m)^(\d+)\. (.*(?:\n {3,}.*)*)", sections(ARCHITECTURE)[WAY + title]))
-        yield from (f"{title}: step {number} is not in both" for number in set(found) ^ set(filter(str.isdigit, due)))
-        for number in set(found) & set(due):
-            names, left = [name for name in STEP.findall(found[number]) if name not in KIT], iter(due[number])
-            if not all(name in left for name in names) or due[number] and not names:
-                yield f"{title}: {names} of step {number} are not functions of its record, in this order"
+    """The steps of a way of ARCHITECTURE name functions of its record, in their order there."""
+    ways = {f"The way of {record.title}": record for record in records.of_kind("way")}
+    told = {heading for _, heading in headings(ARCHITECTURE) if heading.startswith("The way of ")}
+    yield from (f"{way} is not both in {ARCHITECTURE} and in the records" for way in told ^ set(ways))
+    for way in told & set(ways):
+        due, steps = [name for _, name in ways[way].named("coded")], re.findall(STEP, sections(ARCHITECTURE)[way])
+        if len(steps) != sum(step[:1].isdigit() for step in ways[way].texts("step")):
+            yield f"{way}: it has not the steps of its record"
+        for name in re.findall(r"`(\w+(?:::\w+)?)`", "\n".join(steps)):
+            if name not in due and name not in KIT:
+                yield f"{way}: {name} is no function of its record, or is there before"
+            due = due[due.index(name) :] if name in due else due

@@ -28,32 +28,23 @@ def named(word, *kinds):
 
 
 def is_coded(path, name):
-    return parts_of(path)[1] == "src" and name.rpartition("::")[2] in rattle.items(path)
+    return name.rpartition("::")[2] in rattle.items(path)
 
 
-def is_coded_or_whole_file(path, name):
-    return is_coded(path, name) if name else parts_of(path)[1] == "src" and text_of(path)
-
-
-def is_defined(path, name):
-    return parts_of(path)[1] == "specs" and name and rattle.has_definition(path, name)
-
-
-def is_edit(path, name):
-    return parts_of(path)[1] in ("must-fail", "more-edits") and text_of(path) and not name
-
-
-def is_file_of_definitions(path, name):
-    return parts_of(path)[1] == "specs" and rattle.spec_of(path) in rattle.specs() and not name
-
-
-def is_there(path, name):
-    return (ROOT / path).exists() and not name
+# In which folders of crates it has to be what is named behind a word, and whether it is there. Of what is unproved a
+# whole file may be named.
+THERE = {
+    "defined": ("specs", lambda path, name: rattle.has_definition(path, name)),
+    "coded": ("src", is_coded),
+    "refused": ("must-fail more-edits", lambda path, name: text_of(path) and not name),
+    "file": ("specs", lambda path, name: rattle.spec_of(path) in rattle.specs() and not name),
+    "look": ("", lambda path, name: (ROOT / path).exists() and not name),
+}
 
 
 def is_in_python(path, name):
     """Whether a file of tests/ is one that pytest runs, with a test of this name, or any where none is named."""
-    if path.startswith("scripts/"): return is_there(path, name)  # goes with the last script
+    if path.startswith("scripts/"): return text_of(path) and not name  # goes with the last script
     found = re.findall(r"(?m)^ *def (test_\w+)", text_of(path))
     return re.fullmatch(r"tests/\w+/test_\w+\.py", path) and (name in found if name else found)
 
@@ -92,15 +83,14 @@ def test_titles_stand_once():
     yield from (f"{kind} {title}: it is there twice" for (kind, title), count in titles.items() if count > 1)
 
 
-@pytest.mark.parametrize("kind, word, look", [
-    ("rule", "defined", is_defined), ("rule", "coded", is_coded), ("unproved", "coded", is_coded_or_whole_file),
-    ("way", "coded", is_coded), ("rule", "refused", is_edit), ("promise", "refused", is_edit),
-    ("unproved", "refused", is_edit), ("definitions", "file", is_file_of_definitions), ("change", "look", is_there),
-])
+@pytest.mark.parametrize("word", THERE)
 @is_free_of_faults
-def test_definitions_functions_and_wrong_bodies_are_there(kind, word, look):
-    lost = [found for found in named(word, kind) if not look(*found[1:])]
-    yield from (f"{record}: no such `{word}`: {path} {name}" for record, path, name in lost)
+def test_names_are_there(word):
+    folders, is_there = THERE[word]
+    for record, path, name in named(word, *records.WORDS):
+        is_whole = record.kind == "unproved" and word == "coded" and text_of(path) and not name
+        if folders and parts_of(path)[1] not in folders.split() or not (is_whole or is_there(path, name)):
+            yield f"{record}: no such `{word}`: {path} {name}"
 
 
 @is_free_of_faults
@@ -151,7 +141,7 @@ def test_functions_of_a_way_are_called_by_others_of_it():
     for record in ways:
         called = collections.defaultdict(set)
         for place in {place for way in (ways[0], record) for place in way.named("coded")}:
-            for found in re.findall(r"(?<!fn )\b(\w+)(?=\(|::<)", rattle.items(place[0])[place[1]]):
+            for found in re.findall(r"(?<!fn )\b(\w+)(?=\(|::<)", rattle.items(place[0]).get(place[1], "")):
                 called[found].add(place)
         for path, name in record.named("coded")[1:]:
             if not called[name] - {(path, name)}:
