@@ -6,7 +6,7 @@ import re
 import subprocess
 
 import pytest
-from static.faults import is_free_of_faults
+from static import is_free_of_faults
 from static.rattle import CRATES, ROOT, text_of
 
 pytestmark = pytest.mark.timeout(1200)

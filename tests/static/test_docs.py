@@ -5,8 +5,7 @@ import os
 import re
 
 import pytest
-from static import rattle, records
-from static.faults import is_free_of_faults
+from static import is_free_of_faults, rattle, records
 from static.rattle import ROOT, text_of
 
 LINK = re.compile(r"(?<!!)\[[^\]]*\]\(([^)\s]+)\)")

@@ -5,8 +5,7 @@ import collections
 import re
 
 import pytest
-from static import formats, rattle, records
-from static.faults import is_free_of_faults
+from static import formats, is_free_of_faults, rattle, records
 from static.rattle import ROOT, parts_of, text_of
 
 # What a record has to have: of each item one of the words. A note says why there is none.

@@ -1,6 +1,6 @@
 """Each wrong body in must-fail/ and more-edits/ can be tried: its old texts stand once in src/ of its crate."""
 
-from static.faults import is_free_of_faults
+from static import is_free_of_faults
 from static.rattle import ROOT, pairs_of, parts_of, text_of
 
 EDITS = sorted(str(edit.relative_to(ROOT)) for edit in ROOT.glob("crates/*/m*/*.edit"))

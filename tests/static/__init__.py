@@ -1,4 +1,4 @@
-"""A check that yields a line for each fault, as a test."""
+"""Tests of sources, pages and records, which need no program. A check that yields a line for each fault makes one."""
 
 import functools
 
