@@ -1,7 +1,4 @@
 """The static suite reads all sources, pages, records and files of nginx and of the package. It needs no program."""
 
-INPUTS = (
-    ".ci", "README.md", "bench", "crates", "crates.txt", "desk", "docs", "images", "operate", "records", "tests", "tools",
-    "web",
-)
+INPUTS = ("README.md", "bench", "crates", "crates.txt", "docs", "images", "operate", "records", "tests", "tools", "web")
 NEEDS_PROGRAM = False

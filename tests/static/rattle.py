@@ -117,82 +117,74 @@ def has_definition(path, name):
 
 
 def uses_in(lines):
-    """Where lines say that names come from: each as crate, file and name, the name of a whole file empty."""
+    """Where lines say that names come from: each as a spec file and a name there, the name of a whole file empty."""
     uses = {}
     for crate, file, names, alias in (found.groups() for found in map(USE.search, lines) if found):
-        for name in (names or "").split(",") if not alias else ():
-            there, _, here = name.strip().partition(" as ")
-            uses[here or there] = crate, file, there
-        uses |= {alias: (crate, file, "")} if alias else {}
+        path = f"crates/{crate}/specs/{file}.antt"
+        pairs = [name.strip().partition(" as ")[::2] for name in (names or "").split(",")]
+        uses |= {alias: (path, "")} if alias else {here or there: (path, there) for there, here in pairs}
     return uses
 
 
 def read_spec(path):
     """The definitions of a spec file. What a module hands to its definitions counts as a part of each."""
-    items, item, handed, depth = {}, None, "", 0
-    lines = [line.partition("--")[0].rstrip() for line in path.read_text(encoding="utf-8").splitlines()]
+    found, item, handed, depth = {}, None, "", 0
+    lines = [line.partition("--")[0].rstrip() for line in lines_of(path)]
     for line in lines:
         indent = len(line) - len(line.lstrip())
         if module := MODULE.match(line):
             item, depth, handed = None, len(module[1]) + 2, module[2]
         elif line and indent in (0, depth) and (begins := ITEM.match(line)):
             item, depth = begins[1], indent
-            items[item] = handed * (indent > 0)
+            found[item] = handed * (indent > 0)
         if item:
-            items[item] += f"\n{line}"
-    return Spec(items, uses_in(lines))
+            found[item] += f"\n{line}"
+    return Spec(found, uses_in(lines))
 
 
 @functools.cache
 def specs():
-    """All files with definitions, by crate and name."""
-    files = sorted(CRATES.glob("*/specs/*.antt"))
-    return {(file.parts[-3], file.stem): read_spec(file) for file in files if file.stem != "Lib"}
-
-
-def spec_of(path):
-    """A spec file as crate and name."""
-    crate, _, inside = parts_of(path)
-    return crate, inside.removesuffix(".antt")
+    """All files with definitions."""
+    paths = [str(file.relative_to(ROOT)) for file in CRATES.glob("*/specs/*.antt") if file.stem != "Lib"]
+    return {path: read_spec(path) for path in paths}
 
 
 def named(text, uses, here):
-    """The definitions that a text names, each as crate, file and name."""
+    """The definitions that a text names, each as file and name."""
     found, known = set(), specs()
     for word in set(NAME.findall(text)):
         begin, _, rest = word.partition(".")
-        crate, file, name = uses.get(begin, (*here, begin))
-        if (crate, file) in known and ((crate, file) != here or name in known[here].items):
-            found.add((crate, file, name or rest))
+        path, name = uses.get(begin, (here, begin))
+        if path in known and (path != here or name in known[here].items):
+            found.add((path, name or rest))
     return found
 
 
 @functools.cache
-def named_by(crate, file, name):
+def named_by(path, name):
     """The definitions that a definition names, and the file that has it. A file may hand on a name of another; a name
     that begins no definition is that of a case of one."""
-    spec = specs()[crate, file]
-    if name not in spec.items and spec.uses.get(name, ("", ""))[:2] in specs():
+    spec = specs()[path]
+    if name not in spec.items and spec.uses.get(name, [""])[0] in specs():
         return named_by(*spec.uses[name])
     case = re.compile(rf"^ +{re.escape(name)} :", re.M)
     text = spec.items.get(name) or next((text for text in spec.items.values() if case.search(text)), "")
-    return named(text, spec.uses, (crate, file)), (crate, file)
+    return named(text, spec.uses, path), path
 
 
 def rests_on(clauses):
-    """The spec files with the definitions on which clauses rest, each as crate and name. Of a record of which they name
-    fields, only these count."""
-    files, to_do, done = set(), set(), set()
+    """The spec files with the definitions on which clauses rest. Of a record of which they name fields, only these
+    count."""
+    files = {clause.path for clause in clauses if clause.path in specs()}
+    fields, to_do, done = {clause.owner for clause in clauses if clause.path in files}, set(), set()
     for clause in clauses:
-        is_field, here = clause.path.endswith(".antt"), spec_of(clause.path)
         ghost = [line for line in lines_of(clause.path) if line.strip().startswith("ghost use")]
-        to_do |= named(clause_text(clause), *((specs()[here].uses, here) if is_field else (uses_in(ghost), ("", ""))))
-        files |= {here} if is_field else set()
-    fields = {clause.owner for clause in clauses if clause.path.endswith(".antt")}
+        uses = specs()[clause.path].uses if clause.path in files else uses_in(ghost)
+        to_do |= named(clause_text(clause), uses, clause.path)
     while to_do:
         one = to_do.pop()
         found, file = named_by(*one)
         done.add(one)
         files.add(file)
-        to_do |= found - done if one[2] not in fields else set()
-    return files & set(specs())
+        to_do |= found - done if one[1] not in fields else set()
+    return files

@@ -36,7 +36,7 @@ THERE = {
     "defined": ("specs", lambda path, name: rattle.has_definition(path, name)),
     "coded": ("src", is_coded),
     "refused": ("must-fail more-edits", lambda path, name: text_of(path) and not name),
-    "file": ("specs", lambda path, name: rattle.spec_of(path) in rattle.specs() and not name),
+    "file": ("specs", lambda path, name: path in rattle.specs() and not name),
     "look": ("", lambda path, name: (ROOT / path).exists() and not name),
 }
 
@@ -163,7 +163,7 @@ def test_promises_rest_on_the_sets_that_they_name():
     """Each file of definitions is in one set."""
     sets = {}
     for record, path, _ in named("file", "definitions"):
-        if sets.setdefault(rattle.spec_of(path), record.title) != record.title:
+        if sets.setdefault(path, record.title) != record.title:
             yield f"{record}: {path} is in another set too"
     for record in records.of_kind("promise"):
         rests = {sets.get(file, f"{file}, which is in no set") for file in rattle.rests_on(record.clauses())}
