@@ -59,20 +59,17 @@ def item_at(path, line):
 
 @functools.cache
 def proofs_of(crate):
-    """The folders with proofs of a crate, by the name of their function."""
-    found = collections.defaultdict(list)
-    for folder in (CRATES / crate / "proofs").rglob("*/"):
-        found[folder.name.removeprefix("+")].append(folder)
-    return found
+    """The folders with proofs of a crate, each with the names of what it is a proof of and in."""
+    folders = [str(folder.relative_to(ROOT)) for folder in (CRATES / crate / "proofs").rglob("*/")]
+    return [(folder, [part.removeprefix("+") for part in folder.split("/")]) for folder in folders]
 
 
 def proof_folders(path, name):
     """The folders with proofs of a function of a file in src/: below that of the file, or of a type whose methods the
     file has and another declares."""
-    crate, _, inside = parts_of(path)
-    types = re.findall(r"(?m)^impl(?:<[^>]*>)? (\w+)", text_of(path))
-    roots = {CRATES / crate / "proofs" / inside[:-3], *(folder for each in types for folder in proofs_of(crate)[each])}
-    return [str(found.relative_to(ROOT)) for found in proofs_of(crate)[name] if roots.intersection(found.parents)]
+    module, types = path[:-3].replace("/src/", "/proofs/"), re.findall(r"(?m)^impl(?:<[^>]*>)? (\w+)", text_of(path))
+    found = [(folder, parts[:-1]) for folder, parts in proofs_of(parts_of(path)[0]) if parts[-1] == name]
+    return [folder for folder, parts in found if folder.startswith(f"{module}/") or {*types} & {*parts}]
 
 
 def pairs_of(path):
