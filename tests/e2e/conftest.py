@@ -30,14 +30,21 @@ def store(filled, tmp_path):
 
 @pytest.fixture
 def server(serving, store):
-    """A desk that serves the copy at a port."""
-    with serving(store) as served:
+    """A desk that serves the copy at a port, and may open few files: a connection that stays open is one too many."""
+    with serving(store, few_files=clients.OPEN_FILES) as served:
         yield served
 
 
 @pytest.fixture(scope="module")
+def reading(serving, filled, tmp_path_factory):
+    """The same for all tests of a module, none of which changes it."""
+    with serving(shutil.copy(filled, tmp_path_factory.mktemp("reading") / "desk.sqlite")) as served:
+        yield served
+
+
+@pytest.fixture(scope="session")
 def long_store(filled, program, tmp_path_factory):
-    """The filled store with disks that are full of one file."""
+    """The filled store with a disk that is full of one file."""
     store = shutil.copy(filled, tmp_path_factory.mktemp("long") / "desk.sqlite")
     with clients.Serving(program, store, len(samples.LONG)) as served:
         served.listens()

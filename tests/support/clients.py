@@ -1,23 +1,17 @@
-"""Clients that visit a desk, and a desk that serves them with few files open."""
+"""Clients of a desk, a desk that serves them with few files open, and the rules of clocks that show a wished hour."""
 
 import contextlib
 import datetime
-import http.client
 import socket
 import struct
-import subprocess
 import time
 
-from support import server as harness
+from support import server
+from support.samples import head, raw
+from support.server import HOST, LIMIT
 
-from support.samples import ENDS, OPEN_FILES, PAUSE, head
-from support.server import HOST, LIMIT, free_port
-
-# Clients: each gives what comes of a visit
-
-
-class Lost(Exception):
-    """Nobody answers."""
+# What a client does that has sent its parts, how long it waits between them, and how many files a desk may open.
+ENDS, PAUSE, OPEN_FILES = "ends its sending", 0.3, 32
 
 
 def curl(port, path, *words):
@@ -26,24 +20,10 @@ def curl(port, path, *words):
     return ["curl", *always, *words, f"http://{HOST}:{port}{path}"]
 
 
-def by_curl(port, asked):
-    """The bytes that curl shows, or how it failed."""
-    words = ["-X", asked.method]
-    if asked.key is not None:
-        words += ["-H", f"Desk-Key: {asked.key}"]
-    if asked.body is not None:
-        words += ["--data-binary", "@-"]
-    ran = subprocess.run(curl(port, asked.path, *words), input=asked.body or b"", capture_output=True)
-    # no connection, and no end in time
-    if ran.returncode in (7, 28):
-        raise Lost(ran.stderr.decode(errors="replace").strip())
-    return (ran.stderr, ran.stdout) if ran.returncode else ran.stdout
-
-
-def by_client(port, asked):
+def by_client(place, asked):
     """The bytes of what http.client tells of a reply."""
     fields = {} if asked.key is None else {"Desk-Key": asked.key}
-    with contextlib.closing(http.client.HTTPConnection(HOST, port, timeout=LIMIT)) as connection:
+    with contextlib.closing(server.client_at(place)) as connection:
         connection.request(asked.method, asked.path, asked.body, fields)
         response = connection.getresponse()
         version = f"HTTP/{response.version // 10}.{response.version % 10}"
@@ -83,9 +63,9 @@ def read_all(connection):
         came += part
 
 
-def by_socket(port, parts, then):
+def by_socket(place, parts, then=None):
     """The bytes that come, and how they end. A desk that closes early is heard all the same."""
-    with connected(port) as connection:
+    with connected(place) as connection:
         for number, part in enumerate(parts):
             time.sleep(PAUSE if number else 0)
             with contextlib.suppress(BrokenPipeError, ConnectionResetError):
@@ -95,46 +75,36 @@ def by_socket(port, parts, then):
         return read_all(connection)
 
 
-def leave(port, sent, resets):
+def ask(place, asked):
+    """The bytes of the reply to a request, which have to end with an end."""
+    came, ending = by_socket(place, [raw(asked)])
+    assert ending == "an end", (ending, came[:1000])
+    return came
+
+
+def reset(connection):
+    """Has the connection end with a reset when it is closed."""
+    connection.setsockopt(socket.SOL_SOCKET, socket.SO_LINGER, struct.pack("ii", 1, 0))
+
+
+def leave(place, sent, resets):
     """Sends bytes and goes."""
-    with connected(port) as connection:
+    with connected(place) as connection:
         connection.sendall(sent)
         if resets:
-            connection.setsockopt(socket.SOL_SOCKET, socket.SO_LINGER, struct.pack("ii", 1, 0))
+            reset(connection)
 
 
-def tried(visit, *words):
-    """What a visit gives, or the fault by which it broke."""
-    try:
-        return visit(*words)
-    except (socket.timeout, ConnectionRefusedError) as fault:
-        raise Lost(repr(fault)) from fault
-    except (OSError, http.client.HTTPException) as fault:
-        return repr(fault)
-
-
-# Zones
-
-
-def zone_of(minutes):
-    """The rule of clocks that are so many minutes ahead of UTC; a rule counts how far they are behind it."""
-    return f"<DAY>{'-' if minutes >= 0 else ''}{abs(minutes) // 60}:{abs(minutes) % 60:02}"
-
-
-def minutes_to_noon():
-    """How far a clock has to be ahead of UTC to show about noon of the day that UTC has."""
-    now = datetime.datetime.now(datetime.timezone.utc)
-    return 720 - 60 * now.hour - now.minute
+def zone_of(seconds):
+    """The rule of clocks that are so many seconds ahead of UTC; a rule counts how far they are behind it."""
+    return f"<DAY>{'-' if seconds >= 0 else ''}{datetime.timedelta(seconds=abs(seconds))}"
 
 
 def noon_zone():
-    """The rule of such a clock: it shows one day for eleven hours and more."""
-    return zone_of(minutes_to_noon())
-
-
-# The desk
+    """The rule of a clock that shows about noon of the day that UTC has, so one day for eleven hours and more."""
+    return zone_of(43200 - int(time.time()) % 86400)
 
 
 def Serving(program, store, count, words=(), environment=None):
-    """A desk that serves at a free port, and may open few files."""
-    return harness.Serving(program, store, count, words, environment, few_files=OPEN_FILES)
+    """A desk that serves at a free port, and may open few files: a connection that stays open is soon one too many."""
+    return server.Serving(program, store, count, words, environment, few_files=OPEN_FILES)

@@ -6,25 +6,21 @@ describes, and not how it reads a disk."""
 
 import collections
 import datetime
-import hashlib
+import functools
+import json
 import os
 import subprocess
 
-from support import cbm_image
-from support import cpm_image
-from support import model_requests as requests_by_hand
-from support import model_rules as rules_by_hand
-from support.samples import (
-    BAD_BODY, CONFLICT, DIFFERS, DIGEST_DIFFERS, DONE, LISTED_ONLY, NO_ACCESSION, NO_DEED, NO_FILE, SOUND, STAFF,
-    STAFF_ONLY, UNKNOWN_KEY, WRONG_SIZE, content, denied, faulty, get, listed, put, put_image, table, told,
-    write,
-)
-from support.model_requests import NoBody, Refused
+from support import cbm_image, cpm_image, model_requests, model_rules
 from support.clients import Serving, by_client
+from support.model_requests import Refused
+from support.samples import (
+    CONFLICT, DIFFERS, DIGEST_DIFFERS, DONE, LISTED_ONLY, NO_ACCESSION, NO_DEED, NO_FILE, SOUND, STAFF, STAFF_ONLY,
+    UNKNOWN_KEY, WRONG_SIZE, content, denied, digest, faulty, listed, put, put_image, survey, table, told,
+)
+from support.server import write
 
 SIZES = {"cpm8": cpm_image.SIZE, "d64": cbm_image.SIZE, "d64e": cbm_image.MARKED_SIZE}
-# The number of each kind in the table of images, where a disk stands without its error bytes.
-CODES = {"cpm8": 0, "d64": 1, "d64e": 1}
 # What a survey tells of the desk, and not of the disk.
 OF_DESK = ("accession", "deed", "donor", "kind", "signed")
 AUDIENCES = ("public", "room", "staff")
@@ -36,25 +32,20 @@ Image = collections.namedtuple("Image", "kind deed digest bytes")
 Due = collections.namedtuple("Due", "reply change", defaults=(None,))
 
 
-class Refusal(Exception):
-    """The reply of a refusal."""
-
-
 def refuse_if(holds, reply_):
     if holds:
-        raise Refusal(reply_)
+        raise Refused(reply_)
 
 
 class Disks:
-    """What the program tells of a disk."""
+    """What the program tells of a disk, asked once."""
 
     def __init__(self, program, folder):
-        self.program = program
-        self.folder = folder
-        self.told = {}
+        self.program, self.folder = program, folder
+        self.files, self.contents, self.report = map(functools.cache, (self.listed, self.read, self.surveyed))
 
     def path(self, image):
-        path = os.path.join(self.folder, f"{hashlib.sha256(image).hexdigest()}.img")
+        path = os.path.join(self.folder, f"{digest(image)}.img")
         if not os.path.exists(path):
             write(path, image)
         return path
@@ -62,44 +53,22 @@ class Disks:
     def run(self, *words):
         return subprocess.run([self.program, *words], capture_output=True, check=True, stdin=subprocess.DEVNULL).stdout
 
-    def once(self, key, ask):
-        """What was told before, or is asked for now."""
-        if key not in self.told:
-            self.told[key] = ask()
-        return self.told[key]
+    def listed(self, kind, image):
+        return model_rules.files_told(self.run("list", kind, self.path(image)).decode().splitlines()[:-1])
 
-    def files(self, kind, image):
-        def ask():
-            return rules_by_hand.files_told(self.run("list", kind, self.path(image)).decode().splitlines()[:-1])
-
-        return self.once((kind, image), ask)
-
-    def contents(self, kind, image, slot):
-        return self.once((kind, image, slot), lambda: self.run("cat", kind, self.path(image), slot))
-
-    def report(self, kind, image):
-        """What a survey tells of a disk that is alone in a desk."""
-        return self.once(("survey", kind, image), lambda: self.surveyed(kind, image))
+    def read(self, kind, image, slot):
+        return self.run("cat", kind, self.path(image), slot)
 
     def surveyed(self, kind, image):
-        store = self.path(image) + ".sqlite"
+        """What a survey tells of a disk that is alone in a desk."""
+        store = f"{self.path(image)}.{kind}.sqlite"
         self.run("init", "--store", store, "--key", STAFF)
-        asked = [
-            put("/deeds/1", {"donor": "D", "signed": "2000-01-01"}), put_image(1, kind, 1, image),
-            get("/images/1/survey", STAFF),
-        ]
-        with Serving(self.program, store, len(asked)) as serving:
+        deed = put("/deeds/1", {"donor": "D", "signed": "2000-01-01"})
+        with Serving(self.program, store, 3) as serving:
             serving.listens()
-            replies = [by_client(serving.port, one) for one in asked]
-        keys = requests_by_hand.object_of(replies[-1].partition(b"\r\n\r\n")[2], OF_DESK, ANY)
+            *_, came = [by_client(serving.port, one) for one in (deed, put_image(1, kind, 1, image), survey(1))]
+        keys = json.loads(came.partition(b"\r\n\r\n")[2])
         return {name: value for name, value in keys.items() if name not in OF_DESK}
-
-
-ANY = ("directory", "faulty", "files", "label", "map", "served", "size_differs")
-
-
-def is_served(kind, file):
-    return kind == "cpm8" or file["type"] in SERVED
 
 
 def number_or_none(text):
@@ -110,28 +79,23 @@ class Desk:
     """What a desk holds, and the day that it is there."""
 
     def __init__(self, disks, day):
-        self.disks = disks
-        self.day = day
+        self.disks, self.day = disks, day
         self.deeds, self.images, self.checked = {}, {}, {}
         # by "T" and an accession, or "R" and a deed: the rules by their rank
         self.rules = collections.defaultdict(dict)
-        self.badges = {hashlib.sha256(STAFF.encode()).hexdigest(): "staff"}
+        self.badges = {digest(STAFF.encode()): "staff"}
 
     # What is due
 
     def due(self, data):
         """What is due to the bytes of a visit."""
         try:
-            return self.answer(requests_by_hand.asked_by(data))
-        except (Refused, Refusal) as fault:
+            return self.answer(model_requests.asked_by(data))
+        except Refused as fault:
             return Due(fault.args[0])
-        except NoBody:
-            return Due(BAD_BODY)
 
     def answer(self, asked):
-        audience = "public"
-        if asked.key is not None:
-            audience = self.badges.get(hashlib.sha256(asked.key).hexdigest())
+        audience = "public" if asked.key is None else self.badges.get(digest(asked.key))
         refuse_if(audience is None, UNKNOWN_KEY)
         numbers = [int(part) if part.isdigit() and len(part) < 7 else part for part in asked.parts]
         if asked.what in QUESTIONS:
@@ -151,7 +115,7 @@ class Desk:
 
     def verdict(self, acc, audience, file):
         bands = [(label, self.by_rank(label)) for label in (f"T{acc}", f"R{self.images[acc].deed}")]
-        return rules_by_hand.verdict(bands, audience, self.day, file)
+        return model_rules.verdict(bands, audience, self.day, file)
 
     def by_rank(self, label):
         return [self.rules[label][rank] for rank in sorted(self.rules[label])]
@@ -162,8 +126,7 @@ class Desk:
 
     def ask_images(self, audience):
         counts = [(acc, len(list(self.lines(acc, audience)))) for acc in sorted(self.images)]
-        lines = [{**self.heading(acc), "files": count} for acc, count in counts if count]
-        return Due(told(images=lines))
+        return Due(told(images=[{**self.heading(acc), "files": count} for acc, count in counts if count]))
 
     def heading(self, acc):
         return {"accession": acc, "deed": self.images[acc].deed, "kind": self.images[acc].kind}
@@ -171,16 +134,14 @@ class Desk:
     def cells(self, file, label, effect):
         """A file as it is listed."""
         size, user = number_or_none(file["size"]), number_or_none(file["user"])
-        words = file["faults"].split()
-        return listed(int(file["slot"]), file["name"], file["type"], size, label, effect, words, user)
+        return listed(int(file["slot"]), file["name"], file["type"], size, label, effect, file["faults"].split(), user)
 
     def ask_listing(self, audience, acc):
         return Due(told(files=[self.cells(*line) for line in self.lines(acc, audience)], **self.heading(acc)))
 
     def ask_catalogue(self, audience):
-        rows = [{**self.cells(*line), **self.heading(acc)} for acc in sorted(self.images)
-                for line in self.lines(acc, audience)]
-        return Due(table(rows))
+        lines = ((acc, line) for acc in sorted(self.images) for line in self.lines(acc, audience))
+        return Due(table({**self.cells(*line), **self.heading(acc)} for acc, line in lines))
 
     def ask_bytes(self, audience, acc, slot):
         image = self.image(acc)
@@ -188,7 +149,7 @@ class Desk:
         refuse_if(not files, NO_FILE)
         label, effect = self.verdict(acc, audience, files[0])
         refuse_if(effect != "read", denied(label))
-        refuse_if(not is_served(image.kind, files[0]), LISTED_ONLY)
+        refuse_if(image.kind != "cpm8" and files[0]["type"] not in SERVED, LISTED_ONLY)
         refuse_if(files[0]["faults"], faulty(*files[0]["faults"].split()))
         return Due(content(self.disks.contents(image.kind, image.bytes, str(slot))))
 
@@ -202,15 +163,15 @@ class Desk:
 
     def check(self, _, acc):
         image = self.image(acc)
-        sound = hashlib.sha256(image.bytes).hexdigest() == image.digest
-        return Due(SOUND if sound else DIFFERS, lambda: self.checked.update({acc: not sound}))
+        differs = digest(image.bytes) != image.digest
+        return Due(DIFFERS if differs else SOUND, lambda: self.checked.update({acc: differs}))
 
     def put_deed(self, body, num):
-        deed = requests_by_hand.deed_of(body)
+        deed = model_requests.deed_of(body)
         return Due(DONE, lambda: self.deeds.update({num: deed}))
 
     def put_rule(self, body, num, rank):
-        rule = requests_by_hand.rule_of(body, rank, ("deny", "list", "read"))
+        rule = model_requests.rule_of(body, rank, ("deny", "list", "read"))
         refuse_if(num not in self.deeds, NO_DEED)
         return Due(DONE, lambda: self.rules[f"R{num}"].update({rank: rule}))
 
@@ -219,7 +180,7 @@ class Desk:
         return Due(DONE, lambda: self.rules[f"R{num}"].pop(rank, None))
 
     def put_takedown(self, body, acc, rank):
-        rule = requests_by_hand.rule_of(body, rank, ("deny", "list"))
+        rule = model_requests.rule_of(body, rank, ("deny", "list"))
         self.image(acc)
         return Due(DONE, lambda: self.rules[f"T{acc}"].update({rank: rule}))
 
@@ -227,52 +188,48 @@ class Desk:
         self.image(acc)
         return Due(DONE, lambda: self.rules[f"T{acc}"].pop(rank, None))
 
-    def put_image(self, body, acc, kind, deed, digest):
-        image = Image(kind, deed, digest.lower(), body)
+    def put_image(self, body, acc, kind, deed, sha256):
+        image = Image(kind, deed, sha256.lower(), body)
         refuse_if(deed not in self.deeds, NO_DEED)
         refuse_if(len(body) != SIZES[kind], WRONG_SIZE)
-        refuse_if(hashlib.sha256(body).hexdigest() != image.digest, DIGEST_DIFFERS)
+        refuse_if(digest(body) != image.digest, DIGEST_DIFFERS)
         stands = self.images.get(acc, image)
         refuse_if(stands[:3] != image[:3], CONFLICT)
         return Due(DONE, lambda: self.images.update({acc: stands}))
 
-    def is_last_staff(self, digest):
-        staff = [one for one, audience in self.badges.items() if audience == "staff"]
-        return staff == [digest]
+    def is_last_staff(self, key):
+        return [one for one, audience in self.badges.items() if audience == "staff"] == [key]
 
-    def put_key(self, body, digest):
-        digest, audience = digest.lower(), requests_by_hand.audience_of(body)
-        refuse_if(audience != "staff" and self.is_last_staff(digest), CONFLICT)
-        return Due(DONE, lambda: self.badges.update({digest: audience}))
+    def put_key(self, body, key):
+        key, audience = key.lower(), model_requests.audience_of(body)
+        refuse_if(audience != "staff" and self.is_last_staff(key), CONFLICT)
+        return Due(DONE, lambda: self.badges.update({key: audience}))
 
-    def drop_key(self, _, digest):
-        digest = digest.lower()
-        refuse_if(self.is_last_staff(digest), CONFLICT)
-        return Due(DONE, lambda: self.badges.pop(digest, None))
+    def drop_key(self, _, key):
+        refuse_if(self.is_last_staff(key.lower()), CONFLICT)
+        return Due(DONE, lambda: self.badges.pop(key.lower(), None))
 
     # What the tables hold
 
     def rows(self):
         """The rows of each table, in the order of their keys."""
+        images = sorted(self.images.items())
         return {
             "deed": sorted((num, donor, day_number(signed)) for num, (donor, signed) in self.deeds.items()),
-            "image": sorted(
-                (acc, CODES[image.kind], image.deed, bytes.fromhex(image.digest), disk_and_marks(image)[0])
-                for acc, image in self.images.items()
-            ),
-            "marks": sorted(
-                (acc, disk_and_marks(image)[1]) for acc, image in self.images.items() if image.kind == "d64e"
-            ),
+            "image": [
+                (acc, int(image.kind != "cpm8"), image.deed, bytes.fromhex(image.digest), disk_of(image))
+                for acc, image in images
+            ],
+            "marks": [(acc, image.bytes[cbm_image.SIZE :]) for acc, image in images if image.kind == "d64e"],
             "rule": sorted(rule_row(label, rule) for label in self.rules for rule in self.by_rank(label)),
-            "badge": sorted((bytes.fromhex(digest), AUDIENCES.index(word)) for digest, word in self.badges.items()),
+            "badge": sorted((bytes.fromhex(key), AUDIENCES.index(word)) for key, word in self.badges.items()),
             "checked": sorted((acc, day_number(self.day), int(differs)) for acc, differs in self.checked.items()),
         }
 
 
-def disk_and_marks(image):
-    """The bytes of a disk, and the error bytes behind them, of which most kinds have none."""
-    length = cbm_image.SIZE if image.kind == "d64e" else len(image.bytes)
-    return image.bytes[:length], image.bytes[length:]
+def disk_of(image):
+    """The bytes of a disk without its error bytes, which have a table of their own."""
+    return image.bytes[: cbm_image.SIZE] if image.kind == "d64e" else image.bytes
 
 
 def day_number(date):
@@ -280,19 +237,14 @@ def day_number(date):
     return date and (datetime.date.fromisoformat(date) - datetime.date(1970, 1, 1)).days
 
 
-SELECTORS = ("all", "slot", "prefix", "user", "type")
-
-
 def rule_row(label, rule):
     """A rule as its row."""
     [(how, value)] = rule["select"].items()
-    number = value if how in ("slot", "user") else 0
-    word = value if how in ("prefix", "type") else ""
+    number, word = (value if how in ("slot", "user") else 0), (value if how in ("prefix", "type") else "")
     audiences = sum(1 << AUDIENCES.index(audience) for audience in rule["audiences"])
     days = day_number(rule["from"]), day_number(rule["until"])
-    effect = ("deny", "list", "read").index(rule["effect"])
-    band = "TR".index(label[0])
-    return band, int(label[1:]), rule["rank"], audiences, *days, SELECTORS.index(how), number, word, effect
+    select, effect = list(model_requests.SELECTORS).index(how), ("deny", "list", "read").index(rule["effect"])
+    return "TR".index(label[0]), int(label[1:]), rule["rank"], audiences, *days, select, number, word, effect
 
 
 QUESTIONS = {

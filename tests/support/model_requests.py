@@ -1,17 +1,18 @@
-"""What the bytes of a visit ask, read by plain functions of their own: the head and its framing, the path, and the
-bodies of commands.
-
-The grammar of a head is not told here whole: a head that `parted` takes may still be none, by a byte that has no place
-in it."""
+"""What the bytes of a visit ask, by plain functions: the head and its framing, the path, and the bodies of commands."""
 
 import collections
 import datetime
 import json
 import re
 
-from support.samples import BAD_HEAD, FRAMING, NO_ROUTE, allows
+from support.samples import BAD_BODY, BAD_HEAD, FRAMING, NO_ROUTE, allows
 
-HEAD_LIMIT, FIELD_LIMIT, BODY_LIMIT = 8192, 64, 262144
+HEAD_LIMIT, BODY_LIMIT = 8192, 262144
+TOKEN = rb"[!#$%&'*+.^_`|~0-9A-Za-z-]+"
+# A head with the empty lines before it: its method, its target, and its fields.
+HEAD = re.compile(
+    rb"(?:\r?\n)*(%b) ([!-~\x80-\xff]+) HTTP/1\.[01]\r?\n((?:%b:[\t -~\x80-\xff]*\r?\n){0,64})\r?\n" % (TOKEN, TOKEN)
+)
 
 # The bytes of a visit in their parts: the method, the target, the fields, and what follows the head.
 Parts = collections.namedtuple("Parts", "method target fields rest")
@@ -40,40 +41,29 @@ ROUTES = [
 
 
 class Refused(Exception):
-    """The reply that is due to bytes which are no request."""
+    """The reply that is due in place of an answer."""
 
 
-class NoBody(Exception):
+class NoBody(Refused):
     """A body that cannot be read."""
+
+    def __init__(self):
+        super().__init__(BAD_BODY)
 
 
 # Heads
 
 
-def bounds(data):
-    """Where a head begins, after empty lines, and the match of the empty line that ends it, or None."""
-    begin = re.match(rb"(\r?\n)*", data).end()
-    return begin, re.compile(rb"\n\r?\n").search(data, begin)
-
-
 def parted(data):
     """The parts of the bytes of a visit; None where they begin with no head."""
-    begin, end = bounds(data)
-    if not end or end.end() > HEAD_LIMIT:
-        return None
-    first, *lines = (line.removesuffix(b"\r") for line in data[begin : end.start()].split(b"\n"))
-    words = first.split(b" ")
-    fields = [line.split(b":", 1) for line in lines]
-    if len(words) != 3 or not words[1] or words[2] not in (b"HTTP/1.0", b"HTTP/1.1"):
-        return None
-    if len(fields) > FIELD_LIMIT or any(len(field) != 2 for field in fields):
-        return None
+    found = HEAD.match(data, 0, HEAD_LIMIT)
     try:
-        target = words[1].decode()
-    except UnicodeDecodeError:
+        method, target = found[1].decode(), found[2].decode()
+    except (TypeError, UnicodeDecodeError):
         return None
-    named = [(name.lower(), value.strip(b" \t")) for name, value in fields]
-    return Parts(words[0].decode("latin-1"), target, named, data[end.end() :])
+    lines = [line.partition(b":") for line in found[3].splitlines()]
+    fields = [(name.lower(), value.strip(b" \t")) for name, _, value in lines]
+    return Parts(method, target, fields, data[found.end() :])
 
 
 def values(parts, name):
@@ -85,27 +75,17 @@ def length_of(parts):
     told = values(parts, b"content-length") or [b"0"]
     if len(told) > 1 or not re.fullmatch(rb"[0-9]+", told[0]) or values(parts, b"transfer-encoding"):
         return None
-    digits = told[0].lstrip(b"0")
-    return int(digits or b"0") if len(digits) <= 6 and int(digits or b"0") <= BODY_LIMIT else None
+    digits = told[0].lstrip(b"0") or b"0"
+    return int(digits) if len(digits) <= 6 and int(digits) <= BODY_LIMIT else None
 
 
 def is_waited_for(data):
     """Whether a desk that has these bytes waits for more."""
     parts = parted(data)
     if parts is None:
-        return not bounds(data)[1] and len(data) < HEAD_LIMIT
+        return len(data) < HEAD_LIMIT and not re.search(rb"\n\r?\n", data.lstrip(b"\r\n"))
     length = length_of(parts)
     return length is not None and length > len(parts.rest)
-
-
-def bytes_beyond(data):
-    """Whether there are bytes that a desk need not read: beyond the request, or beyond what shows that there is
-    none."""
-    parts = parted(data)
-    if parts is None:
-        return not is_waited_for(data)
-    length = length_of(parts)
-    return len(parts.rest) > (length or 0)
 
 
 def asked_by(data):
@@ -116,12 +96,9 @@ def asked_by(data):
     length, keys = length_of(parts), values(parts, b"desk-key")
     if length is None or len(keys) > 1 or length > len(parts.rest):
         raise Refused(FRAMING)
-    path = parts.target.split("?")[0]
-    for pattern, methods in ROUTES:
-        found = pattern.fullmatch(path)
-        if found:
-            break
-    else:
+    matched = ((pattern.fullmatch(parts.target.split("?")[0]), methods) for pattern, methods in ROUTES)
+    found, methods = next((route for route in matched if route[0]), (None, None))
+    if not found:
         raise Refused(NO_ROUTE)
     if parts.method not in methods:
         raise Refused(allows(", ".join(methods)))
@@ -131,6 +108,11 @@ def asked_by(data):
 # Bodies
 
 
+def need(holds):
+    if not holds:
+        raise NoBody
+
+
 class Other:
     """A number that is not written in digits alone."""
 
@@ -138,19 +120,13 @@ class Other:
 def whole_number(text):
     if not text.isdigit():
         return Other()
-    if len(text) > 300:
-        raise NoBody
+    need(len(text) <= 300)
     return int(text)
 
 
 def other_number(text):
-    if float(text) in (float("inf"), float("-inf")):
-        raise NoBody
+    need(abs(float(text)) < float("inf"))
     return Other()
-
-
-def no_value(_):
-    raise NoBody
 
 
 def texts_in(value):
@@ -172,19 +148,13 @@ def members(pairs):
 
 def object_of(body, needed, optional=()):
     """The object of a body, with these keys and no others."""
-    reading = {"parse_int": whole_number, "parse_float": other_number, "parse_constant": no_value}
+    reading = {"parse_int": whole_number, "parse_float": other_number, "parse_constant": lambda _: need(False)}
     try:
         value = json.loads(body.decode(), object_pairs_hook=members, **reading)
     except (ValueError, RecursionError) as fault:
         raise NoBody from fault
-    if not isinstance(value, dict) or not set(needed) <= set(value) <= {*needed, *optional}:
-        raise NoBody
+    need(isinstance(value, dict) and set(needed) <= set(value) <= {*needed, *optional})
     return value
-
-
-def need(holds):
-    if not holds:
-        raise NoBody
 
 
 def date_of(value):
@@ -210,30 +180,28 @@ def word_of(value, words):
     return value
 
 
-def printed(value, limit):
-    need(isinstance(value, str) and len(value) <= limit and all(" " <= sign <= "~" for sign in value))
-    return value
+def is_printed(value, limit):
+    return isinstance(value, str) and len(value) <= limit and all(" " <= sign <= "~" for sign in value)
 
 
-def number_to(value, limit):
-    need(type(value) is int and value <= limit)
-    return value
+def is_number(value, limit):
+    return type(value) is int and value <= limit
 
 
 SELECTORS = {
-    "all": lambda value: need(value is True) or True,
-    "slot": lambda value: number_to(value, 9999),
-    "prefix": lambda value: printed(value, 64),
-    "user": lambda value: number_to(value, 15),
-    "type": lambda value: printed(value, 16),
+    "all": lambda value: value is True,
+    "slot": lambda value: is_number(value, 9999),
+    "prefix": lambda value: is_printed(value, 64),
+    "user": lambda value: is_number(value, 15),
+    "type": lambda value: is_printed(value, 16),
 }
 
 
 def select_of(value):
     need(isinstance(value, dict) and len(value) == 1)
     [(how, what)] = value.items()
-    need(how in SELECTORS)
-    return {how: SELECTORS[how](what)}
+    need(how in SELECTORS and SELECTORS[how](what))
+    return value
 
 
 def rule_of(body, rank, effects):

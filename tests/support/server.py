@@ -18,25 +18,17 @@ PROGRAM = os.path.join(ROOT, "crates", "rd_main", "out", "rd_main")
 HOST = "127.0.0.1"
 # Ports from this one on are nobody's by custom, and no browser refuses them.
 FIRST_PORT = 10240
-# After how many seconds a client or the program is given up.
-LIMIT = 60
-# A number of visits that no desk here reaches.
-ENDLESS = 1_000_000
-
-
-# Files
+# After how many seconds a client or the program is given up, and a number of visits that no desk here reaches.
+LIMIT, ENDLESS = 60, 1_000_000
 
 
 def bytes_of(*parts):
     """The bytes of a file of this repository, or of one that is named by its whole path."""
-    with open(os.path.join(ROOT, *parts), "rb") as file:
-        return file.read()
+    return pathlib.Path(ROOT, *parts).read_bytes()
 
 
 def write(path, data):
-    """Makes a file of these bytes."""
-    with open(path, "wb") as file:
-        file.write(data)
+    pathlib.Path(path).write_bytes(data)
 
 
 # Places: a port of this machine, or the path of a Unix socket
@@ -100,20 +92,19 @@ def client_at(place, timeout=LIMIT):
     return SocketConnection(place, timeout)
 
 
-# A desk that serves
-
-
 class Serving:
     """The program while it serves visits of a store, at a place or at a free port. With few_files it may open no more
-    than so many files: a connection that is not closed is soon one too many."""
+    than so many files. Words before it, such as those of strace, run it."""
 
-    def __init__(self, program, store, count=ENDLESS, words=(), environment=None, place=None, few_files=None):
+    def __init__(
+        self, program, store, count=ENDLESS, words=(), environment=None, place=None, few_files=None, before=()
+    ):
         self.place = free_port() if place is None else place
         self.port = self.place if isinstance(self.place, int) else None
         self.has_told = False
         where = ["--port" if self.port else "--socket", str(self.place)]
         self.process = subprocess.Popen(
-            [program, "serve", "--store", str(store), *where, "--count", str(count), *words],
+            [*before, program, "serve", "--store", str(store), *where, "--count", str(count), *words],
             bufsize=0,
             env={**os.environ, **(environment or {})},
             stdin=subprocess.DEVNULL,

@@ -1,0 +1,112 @@
+"""Mutated visits beside a desk of plain functions: each reply, and each row of the store, has to be the one due."""
+
+import collections
+import contextlib
+import datetime
+import json
+import shutil
+import socket
+import sqlite3
+import tempfile
+
+import hypothesis
+import pytest
+from hypothesis import stateful
+from support import clients, model, model_requests, mutations, samples
+
+# The names of refusals, and the sorts of answers, that have to come at least once.
+NAMES = set("""
+    bad-head framing no-route method unknown-key staff-only bad-body no-accession no-file no-deed denied listed-only
+    faulty wrong-size digest-differs conflict images files directory text/csv application/octet-stream sound changed
+    done
+""".split())
+TABLES = {
+    "deed": "num, donor, signed",
+    "image": "acc, kind, deed, digest, bytes",
+    "marks": "acc, bytes",
+    "rule": "band, scope, rank, audiences, day_from, day_until, how, number, word, effect",
+    "badge": "digest, audience",
+    "checked": "acc, day, outcome",
+}
+# One byte of the file of accession 12.
+ONE_BYTE = "CAST(substr(bytes, 1, 86018) || x'42' || substr(bytes, 86020) AS BLOB)"
+
+
+def name_of(reply):
+    """What a reply is called: the name of the refusal or of the outcome, or the sort of the answer."""
+    first, _, body = reply.partition(b"\r\n\r\n")
+    kind = first.split(b"\r\n")[1].decode().removeprefix("Content-Type: ")
+    if kind != "application/json":
+        return kind
+    keys = json.loads(body)
+    return keys.get("error") or keys.get("outcome") or (keys.keys() & NAMES - {"files"} or {"files"}).pop()
+
+
+def send(port, visit):
+    """The bytes that come, and how they end. Where the desk waits for more, the sending is ended."""
+    step = -(-len(visit.data) // visit.parts) or 1
+    with clients.connected(port) as connection:
+        with contextlib.suppress(BrokenPipeError, ConnectionResetError):
+            for at in range(0, len(visit.data), step):
+                connection.sendall(visit.data[at : at + step])
+            if model_requests.is_waited_for(visit.data):
+                connection.shutdown(socket.SHUT_WR)
+        return clients.read_all(connection)
+
+
+@pytest.fixture(scope="module")
+def disks(program, tmp_path_factory):
+    return model.Disks(program, tmp_path_factory.mktemp("disks"))
+
+
+@pytest.fixture
+def machine(serving, disks, filled, tmp_path):
+    """A desk over a copy of the filled store in which a byte of an image is changed, with its model beside it."""
+    origin, names = shutil.copy(filled, tmp_path / "origin.sqlite"), collections.Counter()
+    with contextlib.closing(sqlite3.connect(origin)) as connection, connection:
+        connection.execute(f"UPDATE image SET bytes = {ONE_BYTE} WHERE acc = 12")
+        [(changed,)] = connection.execute("SELECT bytes FROM image WHERE acc = 12")
+
+    class Machine(stateful.RuleBasedStateMachine):
+        def __init__(self):
+            super().__init__()
+            self.folder, self.opened = tempfile.TemporaryDirectory(dir=tmp_path), contextlib.ExitStack()
+            self.store = shutil.copy(origin, self.folder.name)
+            self.served = self.opened.enter_context(serving(self.store, "--zone", clients.noon_zone(), few_files=32))
+            self.desk = model.Desk(disks, datetime.datetime.now(datetime.timezone.utc).date().isoformat())
+            for _, asked, _ in (*samples.FIRST, *samples.MORE):
+                self.desk.due(samples.raw(asked)).change()
+            self.desk.images[12] = self.desk.images[12]._replace(bytes=changed)
+
+        @stateful.rule(visit=mutations.visits())
+        def visit(self, visit):
+            due, came = self.desk.due(visit.data), send(self.served.port, visit)
+            assert came == (due.reply, "an end")
+            names[name_of(due.reply)] += 1
+            if due.change:
+                due.change()
+
+        def teardown(self):
+            with self.folder:
+                with self.opened:
+                    for asked in [samples.get("/catalogue"), *(samples.survey(acc) for acc in self.desk.images)]:
+                        self.visit(mutations.Visit(samples.raw(asked)))
+                with contextlib.closing(sqlite3.connect(self.store)) as connection:
+                    for table, rows in self.desk.rows().items():
+                        assert sorted(connection.execute(f"SELECT {TABLES[table]} FROM {table}")) == rows, table
+                    assert connection.execute("PRAGMA integrity_check").fetchall() == [("ok",)]
+
+    Machine.names = names
+    return Machine
+
+
+@pytest.mark.parametrize("stories", [60, pytest.param(2000, marks=pytest.mark.long)])
+@pytest.mark.timeout(3600)
+def test_mutated_visits_have_the_replies_that_are_due(machine, seed, stories):
+    checks = hypothesis.settings(
+        max_examples=stories, stateful_step_count=80, deadline=None, database=None,
+        suppress_health_check=list(hypothesis.HealthCheck), print_blob=False,
+    )
+    stateful.run_state_machine_as_test(hypothesis.seed(seed)(machine), settings=checks)
+    print(machine.names.total(), machine.names.most_common())
+    assert set(machine.names) == NAMES
