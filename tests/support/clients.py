@@ -4,7 +4,9 @@ import contextlib
 import datetime
 import socket
 import struct
+import threading
 import time
+from concurrent import futures
 
 from support import server
 from support.samples import head, raw
@@ -93,6 +95,24 @@ def leave(place, sent, resets):
         connection.sendall(sent)
         if resets:
             reset(connection)
+
+
+@contextlib.contextmanager
+def beside(act, client):
+    """Has a client act until the block ends. It is no fault that the desk ends the connection; others are handed on."""
+    ended = threading.Event()
+
+    def run():
+        with contextlib.suppress(BrokenPipeError, ConnectionResetError):
+            act(client, ended)
+
+    with futures.ThreadPoolExecutor() as pool:
+        running = pool.submit(run)
+        try:
+            yield
+        finally:
+            ended.set()
+        running.result(LIMIT)
 
 
 def zone_of(seconds):
