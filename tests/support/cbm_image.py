@@ -1,7 +1,6 @@
 """Reads and writes images of Commodore 1541 disks.
 
-It shares no code with the program: blocks are placed by counting the sectors of the tracks.
-"""
+It shares no code with the program: blocks are placed by counting the sectors of the tracks."""
 
 SECTORS = {track: 21 if track < 18 else 19 if track < 25 else 18 if track < 31 else 17 for track in range(1, 36)}
 SIDE_ROOM = 120
@@ -9,11 +8,17 @@ BLOCKS = sum(SECTORS.values())
 SIZE = 256 * BLOCKS
 # That of an image with an error byte for each block behind it.
 MARKED_SIZE = SIZE + BLOCKS
+# The blocks that files can have beside a directory that has a track of its own, and those of its entries.
+DATA_BLOCKS = [(track, sector) for track in SECTORS if track != 18 for sector in range(SECTORS[track])]
+ENTRY_BLOCKS = [(18, sector) for sector in range(1, SECTORS[18])]
 
 
 def place(track, sector):
     """The byte of the image at which a block begins."""
     return 256 * (sum(SECTORS[t] for t in range(1, track)) + sector)
+
+
+MAP = place(18, 0) + 4
 
 
 def mark_place(track, sector):
@@ -60,55 +65,35 @@ def put_file(image, free, track, data):
 
 
 def put_directory(image, free, label, entries):
-    """Writes a directory of at most eight entries, each a type, a first block, a name and a size, and the map of the
-    free blocks, with the disk's name."""
-    directory = b"".join(
-        b"\x00\x00" + bytes([kind, *first]) + padded(name) + bytes(9) + size.to_bytes(2, "little")
-        for kind, first, name, size in entries
-    )
-    image[place(18, 1) : place(18, 1) + len(directory)] = b"\x00\xff" + directory[2:]
-    head = b"\x12\x01A\x00" + free_map(free) + padded(label) + b"\xa0\xa0RR\xa02A"
+    """Writes a directory of entries, each a type, a first block, a name and a size, and the map of the free blocks,
+    with the disk's name."""
+    groups = [entries[at : at + 8] for at in range(0, len(entries), 8)] or [[]]
+    blocks = ENTRY_BLOCKS[: len(groups)]
+    for here, after, group in zip(blocks, [*blocks[1:], None], groups):
+        rows = b"".join(
+            b"\x00\x00" + bytes([kind, *first]) + padded(name) + bytes(9) + size.to_bytes(2, "little")
+            for kind, first, name, size in group
+        )
+        image[place(*here) : place(*here) + max(2, len(rows))] = (bytes(after) if after else b"\x00\xff") + rows[2:]
+    head = b"\x12\x01A\x00" + free_map(set(free) - set(blocks)) + padded(label) + b"\xa0\xa0RR\xa02A"
     image[place(18, 0) : place(18, 0) + len(head)] = head
-
-
-# The blocks that files can have beside a directory that has a track of its own, and those of its entries.
-DATA_BLOCKS = [(track, sector) for track in SECTORS if track != 18 for sector in range(SECTORS[track])]
-ENTRY_BLOCKS = [(18, sector) for sector in range(1, SECTORS[18])]
 
 
 def filled(label, files):
     """An image with files, each the byte of its type, its name and its bytes: block after block, and at most 144."""
-    image, free = bytearray(SIZE), list(DATA_BLOCKS)
-    entries = []
+    image, free, entries = bytearray(SIZE), DATA_BLOCKS, []
     for kind, name, data in files:
         parts = parts_of(data)
         blocks, free = free[: len(parts)], free[len(parts) :]
         put_chain(image, blocks, parts)
-        entries.append(bytes([kind, *blocks[0]]) + padded(name) + bytes(9) + len(parts).to_bytes(2, "little"))
-    groups = [entries[at : at + 8] for at in range(0, len(entries), 8)] or [[]]
-    for here, after, group in zip(ENTRY_BLOCKS, [*ENTRY_BLOCKS[1 : len(groups)], None], groups):
-        at = place(*here)
-        image[at : at + 2] = bytes(after) if after else b"\x00\xff"
-        for number, entry in enumerate(group):
-            image[at + 32 * number + 2 : at + 32 * number + 32] = entry
-    unused = {*free, *ENTRY_BLOCKS[len(groups) :]}
-    head = b"\x12\x01A\x00" + free_map(unused) + padded(label) + b"\xa0\xa0RR\xa02A"
-    image[place(18, 0) : place(18, 0) + len(head)] = head
+        entries.append((kind, blocks[0], name, len(parts)))
+    put_directory(image, {*free, *ENTRY_BLOCKS}, label, entries)
     return bytes(image)
 
 
 def new_free():
     """The blocks of an empty disk that files can have."""
-    return {(track, sector) for track in SECTORS for sector in range(SECTORS[track])} - {(18, 0), (18, 1)}
-
-
-def chain(image, block):
-    """The blocks from one on along their links, up to the last."""
-    blocks = []
-    while block[0]:
-        blocks.append(block)
-        block = tuple(image[place(*block) : place(*block) + 2])
-    return blocks
+    return {*DATA_BLOCKS, *ENTRY_BLOCKS[1:]}
 
 
 def free_map(free):
@@ -121,48 +106,24 @@ def free_map(free):
 
 
 def free_blocks(image):
-    """The blocks that the disk's map marks free, but for those on the directory's track."""
-    table = image[place(18, 0) + 4 : place(18, 0) + 144]
-    bits = {track: int.from_bytes(table[4 * track - 3 : 4 * track], "little") for track in SECTORS}
-    return [(t, s) for t in SECTORS for s in range(SECTORS[t]) if t != 18 and bits[t] >> s & 1]
-
-
-def mark_used(image, blocks):
-    """Marks free blocks as used in the disk's map."""
-    for track, sector in blocks:
-        at = place(18, 0) + 4 * track
-        image[at] -= 1
-        image[at + 1 + sector // 8] &= ~(1 << sector % 8)
-
-
-def entry_place(image, name):
-    """The byte of the image at which the entry of a name begins."""
-    block = (18, 1)
-    while block[0]:
-        for at in range(place(*block), place(*block) + 256, 32):
-            if image[at + 5 : at + 21] == padded(name):
-                return at
-        block = tuple(image[place(*block) : place(*block) + 2])
-    raise KeyError(name)
-
-
-def side_sectors(record, blocks, sides):
-    """What the side sectors of a REL file hold: each its number, the record length, where all of them are, and where
-    up to 120 blocks of the data are."""
-    all_sides = b"".join(map(bytes, sides)).ljust(12, b"\x00")
-    groups = [blocks[i : i + SIDE_ROOM] for i in range(0, len(blocks), SIDE_ROOM)]
-    return [bytes([n, record]) + all_sides + b"".join(map(bytes, group)) for n, group in enumerate(groups)]
+    """The blocks that the disk's map marks free, in order."""
+    bits = {track: int.from_bytes(image[MAP + 4 * track - 3 : MAP + 4 * track], "little") for track in SECTORS}
+    return [(track, sector) for track in SECTORS for sector in range(SECTORS[track]) if bits[track] >> sector & 1]
 
 
 def put_rel(image, name, record, data):
-    """Gives the entry of a name a REL file of records of a length, with its side sectors, on free blocks."""
-    parts, free = parts_of(data), free_blocks(image)
+    """Gives the entry of a name a REL file of records of a length, on free blocks. Of its side sectors each has its
+    number, the length of a record, where all of them are, and where up to 120 blocks of the data are."""
+    parts, free = parts_of(data), [block for block in free_blocks(image) if block[0] != 18]
     blocks, rest = free[: len(parts)], free[len(parts) :]
-    sides = rest[: -(-len(parts) // SIDE_ROOM)]
+    groups = [blocks[at : at + SIDE_ROOM] for at in range(0, len(blocks), SIDE_ROOM)]
+    sides = rest[: len(groups)]
+    all_sides = b"".join(map(bytes, sides)).ljust(12, b"\x00")
     put_chain(image, blocks, parts)
-    put_chain(image, sides, side_sectors(record, blocks, sides))
-    mark_used(image, blocks + sides)
-    at = entry_place(image, name)
+    put_chain(image, sides, [bytes([n, record]) + all_sides + b"".join(map(bytes, group))
+                             for n, group in enumerate(groups)])
+    image[MAP : MAP + 140] = free_map(set(free_blocks(image)) - {*blocks, *sides})
+    at = image.index(padded(name), place(18, 1)) - 5
     image[at + 3 : at + 5] = bytes(blocks[0])
     image[at + 21 : at + 24] = bytes([*sides[0], record])
     image[at + 30 : at + 32] = len(blocks + sides).to_bytes(2, "little")

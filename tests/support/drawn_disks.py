@@ -3,31 +3,19 @@ rows in the index of a desk."""
 
 import collections
 
-from support import cbm_image
-from support import cpm_image
+from support import cbm_image, cpm_image
 from support.samples import ALL_BLOCKS, FILE_BLOCKS, disk
 
-# A disk: its files by the names that rules_by_hand gives to the fields of `list`, and their rows in the table `found`
+# A disk: its files by the names that model_rules gives to the fields of `list`, and their rows in the table `found`
 # without the accession.
 Disk = collections.namedtuple("Disk", "kind bytes files rows")
 TYPES = {"SEQ": 0x81, "PRG": 0x82, "USR": 0x83}
 LONGEST = 5000
 
 
-class Parts:
-    """Hands out the blocks of a disk, each once, in any order."""
-
-    def __init__(self, chance, blocks):
-        self.free = chance.sample(blocks, len(blocks))
-
-    def take(self, count):
-        taken, self.free = self.free[:count], self.free[count:]
-        return taken
-
-
 def cpm_disk(chance):
     """A CP/M disk of one to eight files, whose blocks lie anywhere."""
-    image, free = bytearray(b"\xe5" * cpm_image.SIZE), Parts(chance, range(2, 243))
+    image, free = bytearray(b"\xe5" * cpm_image.SIZE), iter(chance.sample(range(2, 243), 241))
     made = [put_cpm_file(chance, image, free, slot) for slot in range(chance.randint(1, 8))]
     return Disk("cpm8", bytes(image), *zip(*made))
 
@@ -35,7 +23,7 @@ def cpm_disk(chance):
 def put_cpm_file(chance, image, free, slot):
     """Writes a file of at most one extent, and gives what is known of it."""
     user, name, records = chance.choice([0, 0, 3, 15]), f"FILE{slot}", chance.randint(0, 128)
-    blocks = free.take(-(-records // 8))
+    blocks = [next(free) for _ in range(-(-records // 8))]
     units = [8 * block + sector for block in blocks for sector in range(8)][:records]
     place = cpm_image.slot_place(slot)
     entry = bytes([user]) + name.ljust(8).encode() + b"DAT" + bytes([0, 0, 0, records])
@@ -47,7 +35,7 @@ def put_cpm_file(chance, image, free, slot):
 
 def cbm_disk(chance):
     """A 1541 disk of one to eight files, whose blocks lie anywhere."""
-    free = Parts(chance, FILE_BLOCKS)
+    free = iter(chance.sample(FILE_BLOCKS, len(FILE_BLOCKS)))
     made = [new_cbm_file(chance, free, slot) for slot in range(chance.randint(1, 8))]
     entries, chains, files, rows = zip(*made)
     image = bytearray(disk(entries, {}))
@@ -60,7 +48,7 @@ def new_cbm_file(chance, free, slot):
     """The entry of a file, its blocks and what they hold, and what is known of it."""
     kind, name, data = chance.choice(list(TYPES)), f"FILE {slot}", chance.randbytes(chance.randint(1, LONGEST))
     parts = cbm_image.parts_of(data)
-    blocks = free.take(len(parts))
+    blocks = [next(free) for _ in parts]
     entry = TYPES[kind], blocks[0], name.encode(), len(blocks)
     units = [ALL_BLOCKS.index(block) for block in blocks]
     return entry, (blocks, parts), *known(slot, None, kind, len(data), name, units, len(parts[-1]))
@@ -87,7 +75,7 @@ MAKERS = {"cpm8": cpm_disk, "d64": cbm_disk, "d64e": marked_disk}
 
 
 class KnownDisks:
-    """What is on the disks that were made, for a desk by hand."""
+    """What is on the disks that were made, for a model of the desk."""
 
     def __init__(self, disks):
         self.disks = {disk.bytes: disk for disk in disks}

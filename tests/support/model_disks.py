@@ -3,8 +3,7 @@ and what a survey says of it. The stand-in for the desk has its disks from here.
 
 import collections
 
-from support import cbm_image
-from support import cpm_image
+from support import cbm_image, cpm_image
 
 TYPES = ("DEL", "SEQ", "PRG", "USR", "REL")
 GIVEN = ("SEQ", "PRG", "USR")
@@ -36,26 +35,19 @@ def known(slot, user, type_, name, faults, data):
     return File(fields, data)
 
 
-def counts(files, is_given):
+def counts(files):
     """How many files there are, can be given out, and have a fault."""
-    faulty = [bool(file.fields["faults"]) for file in files]
-    given = [is_given(file) and not fault for file, fault in zip(files, faulty)]
-    return {"files": len(files), "served": sum(given), "faulty": sum(faulty)}
+    served, faulty = sum(file.data is not None for file in files), sum(file.fields["faults"] != "" for file in files)
+    return {"files": len(files), "served": served, "faulty": faulty}
 
 
 # Disks of the 1541
 
 
-def is_block(block):
-    return block[1] < cbm_image.SECTORS.get(block[0], 0)
-
-
 def chain(image, block):
     """The blocks from one on along their links, and how they end."""
     blocks, seen = [], set()
-    while True:
-        if not is_block(block):
-            return blocks, "off"
+    while block[1] < cbm_image.SECTORS.get(block[0], 0):
         if block in seen:
             return blocks, "loop"
         blocks.append(block)
@@ -64,6 +56,7 @@ def chain(image, block):
         block = tuple(image[at : at + 2])
         if block[0] == 0:
             return blocks, "end"
+    return blocks, "off"
 
 
 def cbm_entries(image, directory):
@@ -79,10 +72,13 @@ def type_of(entry):
 
 
 def chains_of(image, entry):
-    """The chains by which a file claims blocks."""
+    """The chains by which a file claims blocks: none where it was never closed."""
     starts = {"REL": [entry[3:5], entry[21:23]], **{word: [entry[3:5]] for word in GIVEN}}
-    closed = entry[2] & 128
-    return [chain(image, tuple(start)) for start in starts.get(type_of(entry), [])] if closed else []
+    return [chain(image, tuple(start)) for start in starts.get(type_of(entry), [])] if entry[2] & 128 else []
+
+
+def blocks_of(chains):
+    return [block for blocks, _ in chains for block in blocks]
 
 
 def cbm_bytes(image, blocks):
@@ -92,8 +88,7 @@ def cbm_bytes(image, blocks):
 
 def cbm_faults(image, entry, chains, taken):
     """The words of a file's faults."""
-    ends = [end for _, end in chains]
-    claimed = [block for blocks, _ in chains for block in blocks]
+    ends, claimed = [end for _, end in chains], blocks_of(chains)
     marks = [image[cbm_image.mark_place(*block)] for block in claimed] if len(image) > cbm_image.SIZE else []
     holds = (
         not entry[2] & 128, "off" in ends, "loop" in ends, any(taken[block] > 1 for block in claimed),
@@ -105,34 +100,26 @@ def cbm_faults(image, entry, chains, taken):
 def cbm_disk(image):
     directory, end = chain(image, FIRST)
     entries = [(slot, entry, chains_of(image, entry)) for slot, entry in cbm_entries(image, directory)]
-    claims = [block for _, _, chains in entries for blocks, _ in chains for block in blocks]
-    taken = collections.Counter([MAP, *directory, *claims])
+    taken = collections.Counter([MAP, *directory, *(block for *_, chains in entries for block in blocks_of(chains))])
     files = []
     for slot, entry, chains in entries:
         faults = cbm_faults(image, entry, chains, taken)
-        given = type_of(entry) in GIVEN and not faults
-        name = printed(entry[5:21].rstrip(b"\xa0"))
-        files.append(known(slot, "", type_of(entry), name, faults, cbm_bytes(image, chains[0][0]) if given else None))
+        data = cbm_bytes(image, chains[0][0]) if type_of(entry) in GIVEN and not faults else None
+        files.append(known(slot, "", type_of(entry), printed(entry[5:21].rstrip(b"\xa0")), faults, data))
     sizes = [(len(blocks_of(chains)), int.from_bytes(entry[30:32], "little")) for _, entry, chains in entries if chains]
-    differs = [count != size for count, size in sizes]
-    label = image[cbm_image.place(*MAP) + 144 : cbm_image.place(*MAP) + 160].rstrip(b"\xa0")
-    about = {"directory": end, "label": printed(label), "map": cbm_map(image, set(taken)), "size_differs": sum(differs)}
-    return Disk(files, {**about, **counts(files, lambda file: file.fields["type"] in GIVEN)})
-
-
-def blocks_of(chains):
-    return [block for blocks, _ in chains for block in blocks]
+    label = image[cbm_image.MAP + 140 : cbm_image.MAP + 156].rstrip(b"\xa0")
+    about = {"directory": end, "label": printed(label), "map": cbm_map(image, set(taken))}
+    return Disk(files, {**about, "size_differs": sum(count != size for count, size in sizes), **counts(files)})
 
 
 def cbm_map(image, used):
     """How far the map of free blocks differs from the blocks in use."""
-    place = cbm_image.place(*MAP)
-    rows = {track: image[place + 4 * track : place + 4 * track + 4] for track in cbm_image.SECTORS}
-    bits = {track: int.from_bytes(row[1:], "little") for track, row in rows.items()}
-    blocks = [(track, sector) for track, count in cbm_image.SECTORS.items() for sector in range(count)]
-    free = {block for block in blocks if bits[block[0]] >> block[1] & 1}
-    wrong = [row[0] != sum((track, n) in free for n in range(cbm_image.SECTORS[track])) for track, row in rows.items()]
-    unclaimed = [block for block in blocks if block not in free and block not in used]
+    free = set(cbm_image.free_blocks(image))
+    wrong = [
+        image[cbm_image.MAP + 4 * track - 4] != sum((track, sector) in free for sector in range(count))
+        for track, count in cbm_image.SECTORS.items()
+    ]
+    unclaimed = {(track, n) for track, count in cbm_image.SECTORS.items() for n in range(count)} - free - used
     return {"claimed_free": len(used & free), "unclaimed_used": len(unclaimed), "wrong_counts": sum(wrong)}
 
 
@@ -144,11 +131,9 @@ def extent_of(entry):
 
 
 def cpm_files(image):
-    """The entries of each file, by its first slot."""
+    """The entries of each file with their slots, by its user and name: first the file with the first slot."""
     files = {}
-    for slot in range(64):
-        place = cpm_image.slot_place(slot)
-        entry = image[place : place + 32]
+    for slot, entry in enumerate(cpm_image.entries(image)):
         if entry[0] < 16:
             files.setdefault((entry[0], bytes(byte & 127 for byte in entry[1:12])), []).append((slot, entry))
     return files
@@ -182,8 +167,7 @@ def cpm_disk(image):
     for (user, name), slots in found.items():
         entries = sorted((entry for _, entry in slots), key=extent_of)
         faults = cpm_faults(entries, taken)
-        data = None if faults else cpm_image.bytes_of(image, entries)
         text, type_ = cpm_name(name)
+        data = None if faults else cpm_image.bytes_of(image, entries)
         files.append(known(slots[0][0], str(user), type_, text, faults, data))
-    report = {"directory": "end", "label": "", "map": None, "size_differs": 0}
-    return Disk(files, {**report, **counts(files, lambda _: True)})
+    return Disk(files, {"directory": "end", "label": "", "map": None, "size_differs": 0, **counts(files)})
