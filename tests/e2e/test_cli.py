@@ -151,7 +151,7 @@ def test_long_sheet_by_a_pipe(ends, plain):
 # Paths
 
 
-@pytest.mark.parametrize("words", [["init", *KEY, "--store"], ["copy", "--store", "plain", "--to"]], ids=["init", "copy"])
+@pytest.mark.parametrize("words", [["init", *KEY, "--store"], ["copy", "--store", "plain", "--to"]], ids=" ".join)
 @pytest.mark.parametrize("path", [":memory:", "file:desk", "", "no-folder/new"])
 def test_no_store_is_made_elsewhere_than_in_a_file(ends, plain, path, words):
     before = set(plain.parent.iterdir())
@@ -310,6 +310,9 @@ def test_store_of_a_desk_that_serves_is_locked(ends, serving, plain, words):
 LOOK = "Check how the path is written, and what you may do there."
 NO_FOLDER = ": the folder for it is not there"
 NO_STORE = ["none: there is no such file", LOOK, "For a new desk, make it there with desk init."]
+NO_DATABASE = [
+    "text: it is no store of a desk", "Check which file you name; if it was a store, bring back a backup of it.",
+]
 MAKE = "Make the folder first, or give one that is there."
 FRESH = "Give the path of a file that is not there yet."
 OTHER_SIZE = "has another number of bytes than an image of its kind: cpm8 has 256256."
@@ -326,8 +329,7 @@ USED = "First look that no other desk or sqlite3 uses it; else give the file of 
     (["init", "--store", "new", "--key-file", "none"], refusal("device", "none: there is no such file", LOOK)),
     (["export", "--store", "none"], refusal("not-a-desk", *NO_STORE)),
     (["serve", "--store", "none", "--socket", "none"], refusal("not-a-desk", *NO_STORE)),
-    (["export", "--store", "text"], refusal("store", "text: it is no store of a desk",
-                                            "Check which file you name; if it was a store, bring back a backup of it.")),
+    (["export", "--store", "text"], refusal("store", *NO_DATABASE)),
     (["files", "d64", MUSEUM, "--to", "none"], refusal("device", f"none/00000-TOUR{NO_FOLDER}", MAKE)),
     (["files", "d64", MUSEUM, "--to", ""], refusal("device", f"''{NO_FOLDER}", MAKE)),
 ], ids=lambda case: " ".join(case[:2]) if isinstance(case, list) else "")
