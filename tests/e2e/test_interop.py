@@ -47,20 +47,21 @@ def takedowns(acc):
 
 
 def cpm_disk(chance):
-    """A CP/M disk of a few files of two users; on some a block is named twice."""
+    """A CP/M disk of a few files of two users; a block is named twice."""
     names = [f"{chance.choice(['SECRET', 'NOTE-', 'A$B'])}{n}".ljust(8) for n in range(5)]
-    image = bytearray(cpm_image.filled((f"{name}{chance.choice(['TXT', 'COM', '   '])}".encode(),
-                                        chance.randbytes(128 * chance.randint(0, 20))) for name in names))
+    image = bytearray(cpm_image.filled((f"{name}{kind}".encode(), chance.randbytes(128 * chance.randint(0, 20)))
+                                       for name, kind in zip(names, ["TXT", "COM", "   ", "TXT", "DAT"])))
     image[cpm_image.slot_place(3)] = 3
-    image[cpm_image.slot_place(4) + 31] = chance.choice([0, 0, 2])
+    image[cpm_image.slot_place(4) + 31] = 2
     return bytes(image)
 
 
 def cbm_disk(chance):
-    """A 1541 disk of a few files of each type, of which one was never closed."""
+    """A 1541 disk of a file of each type, and one that was never closed."""
+    types = chance.sample([0x80, 0x81, 0x82, 0x83, 0x02, 0x81], len(NAMES))
+    names = (name.encode() for name in chance.sample(NAMES, len(NAMES)))
     return cbm_image.filled(b"MUSEUM", [
-        (chance.choice([0x80, 0x81, 0x82, 0x83, 0x02]), f"{chance.choice(NAMES)}{n}".encode(),
-         chance.randbytes(chance.choice([1, 254, 255, 3000]))) for n in range(6)
+        (kind, name, chance.randbytes(chance.choice([1, 254, 255, 3000]))) for kind, name in zip(types, names)
     ])
 
 
@@ -76,7 +77,7 @@ def museum(seed, tmp_path_factory):
         kind, make = list({"cpm8": cpm_disk, "d64": cbm_disk, "d64e": marked_disk}.items())[acc % 3]
         path, image = folder / f"{chance.choice(['disk', 'a, ', 'the ', 'of ']) + chance.choice(NAMES)} {acc}", make(chance)
         path.write_bytes(image)
-        told[acc] = kind, chance.choice(list(DEEDS)), path, [file.fields for file in model_disks.read(kind, image).files]
+        told[acc] = kind, 31 + acc // 3 % 3, path, [file.fields for file in model_disks.read(kind, image).files]
     return told
 
 
