@@ -66,7 +66,7 @@ def cbm_disk(chance):
 
 
 def marked_disk(chance):
-    return cbm_disk(chance) + cbm_image.marks_by_chance(chance, (10, 40))
+    return cbm_disk(chance) + cbm_image.marks_by_chance(chance, (40, 100))
 
 
 @pytest.fixture(scope="module")
