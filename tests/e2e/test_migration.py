@@ -7,7 +7,7 @@ import shutil
 import pytest
 from support import trials
 from support.clients import by_client
-from support.samples import STAFF, get, told
+from support.samples import STAFF, digest, get, told
 from support.server import ROOT
 from support.sqlite_shell import shell
 
@@ -131,7 +131,7 @@ def test_init_leaves_a_store_of_version_1(run, store):
 
 def test_image_with_error_bytes_comes_in_after_the_migration(run, store, tmp_path):
     image = DAMAGED.read_bytes()
-    (tmp_path / "sheet").write_text(f"{SHEET}13,d64e,7,{trials.digest(image)},{DAMAGED}\n")
+    (tmp_path / "sheet").write_text(f"{SHEET}13,d64e,7,{digest(image)},{DAMAGED}\n")
     assert run("import", *KEY, "--sheet", tmp_path / "sheet", *WHEN) == (0, "13 done\n", "")
     assert shell(store, "SELECT acc, lower(hex(bytes)) FROM marks") == f"13|{image[-683:].hex()}\n"
     asked = "SELECT kind, lower(hex(bytes)) FROM image WHERE acc = 13"

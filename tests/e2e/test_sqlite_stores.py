@@ -2,61 +2,40 @@
 of a store after VACUUM, ANALYZE and changes, stores with sums, and locks."""
 
 import contextlib
-import shutil
 import subprocess
 
 import pytest
-from support import trials
 from support.clients import by_client
-from support.samples import HELLO, HELLO_LINE, ROOM, STAFF, Asked, catalogue, digest, get, survey
+from support.samples import HELLO, PROGRAM_DISK, ROOM, STAFF, digest, get, survey
 from support.sqlite_shell import shell
 
 KEY = ["--key", STAFF]
-WHEN = ["--at", "1893452400", "--zone", "CET-1CEST,M3.5.0,M10.5.0/3"]
-DIGESTS = [digest(key.encode()) for key in (ROOM, STAFF)]
 DONE = 0, b"done\n", b""
 NOT_OPENED, NO_DESK, EXISTS = (3, b"", b"desk: store\n"), (3, b"", b"desk: not-a-desk\n"), (1, b"", b"desk: exists\n")
 QUESTIONS = [
-    *(["show", what, *KEY, *WHEN] for what in ("deeds", "takedowns", "keys", "checks")),
-    ["show", "verdicts", "--on", "2029-12-31", *KEY, *WHEN], ["export", *WHEN],
+    *(["show", what, *KEY] for what in ("deeds", "takedowns", "keys", "checks")),
+    ["show", "verdicts", "--on", "2029-12-31", *KEY], ["export", *KEY],
 ]
 VISITS = [get("/images/12/files/0", STAFF), survey(12), get("/catalogue", STAFF), get("/images/12", ROOM)]
-# What sqlite3 is asked about the store that the visits of filled-desk.trial fill, and the rows of each answer.
+DIGESTS = [digest(key.encode()) for key in (ROOM, STAFF)]
+# What sqlite3 is asked about disk 12 and its deed, and the rows of each answer.
 ROWS = {
     "SELECT id, version FROM desk": "1|2\n",
-    "SELECT num, donor, signed FROM deed ORDER BY num": "7|A. Curator|18020\n8|B. Donor|18321\n",
-    "SELECT acc, kind, deed, lower(hex(digest)) FROM image": f"12|1|7|{digest(trials.image('program.image'))}\n",
-    "SELECT lower(hex(bytes)) FROM image": f"{trials.image('program.image').hex()}\n",
-    "SELECT band, scope, rank, audiences, quote(day_from), quote(day_until), how, number, quote(word), effect"
-    " FROM rule ORDER BY rank": "1|7|10|3|NULL|21915|0|0|''|0\n1|7|20|7|NULL|NULL|0|0|''|2\n",
+    "SELECT num, donor, signed FROM deed WHERE num < 9 ORDER BY num": "7|A. Curator|18020\n8|B. Donor|18321\n",
+    "SELECT kind, deed, lower(hex(digest)), lower(hex(bytes)) FROM image WHERE acc = 12":
+        f"1|7|{digest(PROGRAM_DISK)}|{PROGRAM_DISK.hex()}\n",
+    "SELECT rank, audiences, quote(day_from), quote(day_until), how, number, quote(word), effect FROM rule"
+    " WHERE band = 1 AND scope = 7 ORDER BY rank": "10|3|NULL|2932896|0|0|''|0\n20|7|NULL|NULL|0|0|''|2\n",
     "SELECT lower(hex(digest)), audience FROM badge ORDER BY audience": f"{DIGESTS[0]}|1\n{DIGESTS[1]}|2\n",
-    "SELECT acc, slot, name, ty, quote(user_no), served, size, faults, hex(units), last_len FROM found":
-        "12|0|HELLO|PRG|NULL|1|258|0|0150015A|4\n",
-    "SELECT (SELECT count(*) FROM checked), (SELECT count(*) FROM marks)": "0|0\n",
+    "SELECT slot, name, ty, quote(user_no), served, size, faults, hex(units), last_len FROM found WHERE acc = 12":
+        "0|HELLO|PRG|NULL|1|258|0|0150015A|4\n",
+    "SELECT (SELECT count(*) FROM checked), (SELECT count(*) FROM marks)": "0|1\n",
     "PRAGMA integrity_check": "ok\n",
 }
 
 
 def ending(ran):
     return ran.returncode, ran.stdout, ran.stderr
-
-
-@pytest.fixture(scope="module")
-def made(desk, serving, tmp_path_factory):
-    """A store that the desk made and filled, by the visits of a trial."""
-    store = tmp_path_factory.mktemp("made") / "store"
-    assert ending(desk("init", "--store", store, *KEY)) == DONE
-    with serving(store) as served:
-        for visit in trials.visits_of("filled-desk.trial"):
-            assert by_client(served.port, Asked(*visit.request)) == visit.reply, visit.name
-    return store
-
-
-@pytest.fixture
-def store(made, tmp_path):
-    for name in ("store", "store-wal"):
-        shutil.copy(made.with_name(name), tmp_path)
-    return tmp_path / "store"
 
 
 @pytest.fixture
@@ -66,6 +45,7 @@ def answers(desk, serving):
     def ask(store):
         told = [ending(desk(*words, "--store", store)) for words in QUESTIONS]
         assert [(status, errors) for status, _, errors in told] == len(QUESTIONS) * [(0, b"")]
+        assert b"\n12,7,d64,0,,HELLO,PRG,258,,R7.20,read\n" in told[-1][1]
         with serving(store) as served:
             return told, [by_client(served.port, asked) for asked in VISITS]
 
@@ -80,45 +60,31 @@ def is_refused(desk, store, opening, making):
     assert shell(store, ".dump") == before
 
 
-@pytest.mark.parametrize("asked", ROWS)
-def test_rows_of_a_store(store, asked):
-    assert shell(store, asked) == ROWS[asked]
-
-
-def test_store_answers_as_it_was_filled(store, answers):
-    told, replies = answers(store)
-    assert told[-1][1].endswith(b"\n12,7,d64,0,,HELLO,PRG,258,,R7.20,read\n")
-    assert (replies[0], replies[2]) == (HELLO, catalogue((12, HELLO_LINE)))
+def test_rows_of_a_store(store):
+    assert {asked: shell(store, asked) for asked in ROWS} == ROWS
 
 
 def test_vacuum_changes_no_answer(store, answers):
     before = answers(store)
     shell(store, "VACUUM")
     assert answers(store) == before
-    assert {asked: shell(store, asked) for asked in ROWS} == ROWS
-
-
-def test_statistics_of_analyze_shut_a_store_until_they_are_dropped(desk, store, answers):
-    before = answers(store)
-    shell(store, "ANALYZE")
-    tables = shell(store, "SELECT name FROM sqlite_schema WHERE name LIKE 'sqlite_stat%'").split()
-    assert tables
-    is_refused(desk, store, NOT_OPENED, EXISTS)
-    for table in tables:
-        shell(store, f"DROP TABLE {table}")
-    assert answers(store) == before
+    test_rows_of_a_store(store)
 
 
 def noted(name, table):
-    """A trigger of this name on a table."""
     return f"CREATE TRIGGER {name} AFTER UPDATE ON {table} BEGIN SELECT 1; END;"
 
 
-def test_trigger_shuts_a_store_until_it_is_dropped(desk, store, answers):
+@pytest.mark.parametrize("change, name", [("ANALYZE", "sqlite_stat%"), (noted("noted", "desk"), "noted")])
+def test_more_in_a_store_shuts_it_until_it_is_dropped(desk, store, answers, change, name):
+    """The tables of statistics that ANALYZE makes, and a trigger."""
     before = answers(store)
-    shell(store, noted("noted", "desk"))
+    shell(store, change)
+    more = shell(store, f"SELECT type || ' ' || name FROM sqlite_schema WHERE name LIKE '{name}'").splitlines()
+    assert more
     is_refused(desk, store, NOT_OPENED, EXISTS)
-    shell(store, "DROP TRIGGER noted")
+    for one in more:
+        shell(store, f"DROP {one}")
     assert answers(store) == before
 
 
@@ -136,25 +102,20 @@ def test_another_database_that_names_a_desk(desk, tmp_path, made, opening, makin
 
 
 def test_check_is_recorded(desk, store):
-    assert ending(desk("check", "--acc", "12", *KEY, *WHEN, "--store", store)) == (0, b"12 sound\n", b"")
+    words = ["check", "--acc", "12", *KEY, "--at", "1893452400", "--zone", "CET-1CEST,M3.5.0,M10.5.0/3"]
+    assert ending(desk(*words, "--store", store)) == (0, b"12 sound\n", b"")
     assert shell(store, "SELECT acc, day, outcome FROM checked") == "12|21915|0\n"
-
-
-# Sums
 
 
 def test_sqlite3_reads_a_store_with_sums_and_writes_none(desk, store, tmp_path):
     summed = tmp_path / "summed"
     assert ending(desk("copy", "--store", store, "--to", summed, "--sums")) == DONE
-    assert {asked: shell(summed, asked) for asked in ROWS} == ROWS
+    test_rows_of_a_store(summed)
     shell(summed, f".backup {tmp_path}/backup")
     shell(summed, f"VACUUM INTO '{tmp_path}/vacuumed'")
     shell(summed, "UPDATE deed SET donor = 'N. Obody'; PRAGMA wal_checkpoint(TRUNCATE)")
     for name in ("summed", "backup", "vacuumed"):
         assert ending(desk("export", "--store", tmp_path / name)) == NOT_OPENED, name
-
-
-# Locks
 
 
 @contextlib.contextmanager
