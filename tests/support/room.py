@@ -1,5 +1,5 @@
 """A reading room as a museum runs it, in a folder of its own: a store, the desk that serves it, and the real nginx
-before it, configured by operate/configure."""
+before it, configured by operate/configure; and requests at its doors."""
 
 import contextlib
 import getpass
@@ -8,9 +8,9 @@ import os
 import pathlib
 import shutil
 import signal
+import socket
 import ssl
 import subprocess
-import sys
 import tempfile
 import time
 
@@ -18,7 +18,9 @@ from support.samples import FIRST, MORE
 from support.server import ENDLESS, HOST, LIMIT, ROOT, Serving, client_at, free_ports, wait_for
 
 NGINX = "/usr/sbin/nginx"
-CONFIGURE = os.path.join(ROOT, "operate", "configure")
+# The folder with the configuration under test: another one shows whether a test finds the faults that it had.
+OPERATE = os.environ.get("DESK_OPERATE", os.path.join(ROOT, "operate"))
+CONFIGURE = os.path.join(OPERATE, "configure")
 SITE = "localhost"
 # The tables of a store, of which a visit from outside may change none.
 TABLES = ("desk", "deed", "image", "rule", "badge", "checked", "found", "marks")
@@ -29,6 +31,15 @@ def give_to_nginx(path, mode):
     if os.geteuid() == 0:
         shutil.chown(path, group="www-data")
     path.chmod(mode)
+
+
+def wait_until(holds, seconds=LIMIT):
+    """Waits until something holds, and fails where it does not in time."""
+    end = time.monotonic() + seconds
+    while not holds():
+        if time.monotonic() > end:
+            raise TimeoutError(f"not within {seconds} s: {holds}")
+        time.sleep(0.02)
 
 
 class Room:
@@ -48,15 +59,12 @@ class Room:
         self.desk = self.nginx = None
 
     def __enter__(self):
-        signal.signal(signal.SIGTERM, lambda *_: sys.exit(1))
         return self
 
     def __exit__(self, *_):
         self.stop_desk()
         self.stop_nginx()
         shutil.rmtree(self.folder, ignore_errors=True)
-
-    # The desk
 
     def run(self, *words):
         """How the program ends: its status, and what it writes to its standard output and errors."""
@@ -67,15 +75,28 @@ class Room:
         """Starts the desk, and waits until it listens."""
         self.serving = Serving(self.program, self.store, count, words, place=self.place)
         self.desk = self.serving.process
-        line = self.serving.line()
-        if line != self.serving.wanted_line():
-            raise RuntimeError(f"the desk does not listen: {line!r}, {self.serving.end()}")
+        self.serving.listens()
 
     def stop_desk(self):
         """Ends the desk as a loss of power would."""
         if self.desk:
             self.serving.kill()
         self.desk = None
+
+    @contextlib.contextmanager
+    def desk_down(self):
+        """While this is entered, the desk does not run."""
+        self.stop_desk()
+        yield
+        self.start_desk()
+
+    @contextlib.contextmanager
+    def desk_stalled(self):
+        """While this is entered, the desk takes connections and does not answer."""
+        self.desk.send_signal(signal.SIGSTOP)
+        yield
+        if self.desk:
+            self.desk.send_signal(signal.SIGCONT)
 
     def ask_desk(self, asked):
         """The status and the body of the desk's own reply, as a program has it on the machine itself."""
@@ -106,14 +127,11 @@ class Room:
         ran = subprocess.run(["sqlite3", "-batch", str(copy)], input=script.encode(), capture_output=True, check=True)
         return ran.stdout
 
-    # nginx
-
     def places(self):
         """The places of operate/places, below this folder."""
         return {
-            "SITE": SITE, "HTTPS_PORT": self.https_port, "HTTP_PORT": self.http_port,
+            "SITE": SITE, "HTTPS_PORT": self.https_port, "HTTP_PORT": self.http_port, "HSTS_AGE": 31536000,
             "CERTIFICATE": self.folder / "site.crt", "CERTIFICATE_KEY": self.folder / "site.key",
-            "HSTS_AGE": 31536000,
             "PROGRAM": self.program, "STORE": self.store, "DESK_SOCKET": self.place, "ZONE": "UTC0",
             "STAFF_PORT": self.staff_port, "JOURNAL": self.folder / "journal", "GATE": self.folder / "gate",
             "BACKUPS": self.folder / "backups", "STAFF_KEY": self.folder / "staff-key",
@@ -122,18 +140,21 @@ class Room:
             "NGINX_LOG": self.folder, "NGINX_USER": "www-data" if os.geteuid() == 0 else getpass.getuser(),
         }
 
+    def write_places(self, path, **values):
+        """Writes a file of the room's places, in which some may have other values."""
+        path.write_text("".join(f"{name}={value}\n" for name, value in {**self.places(), **values}.items()))
+        return path
+
     def configure(self):
         """Makes a certificate, copies the page, and writes the configuration."""
         (self.folder / "work").mkdir()
         shutil.copytree(os.path.join(ROOT, "web"), self.folder / "web")
-        lines = [f"{name}={value}\n" for name, value in self.places().items()]
-        (self.folder / "places").write_text("".join(lines))
-        alternatives = f"subjectAltName=DNS:{SITE},IP:{HOST}"
-        names = ["-subj", f"/CN={SITE}", "-addext", alternatives, "-days", "2", "-nodes"]
+        names = ["-subj", f"/CN={SITE}", "-addext", f"subjectAltName=DNS:{SITE},IP:{HOST}", "-days", "2", "-nodes"]
         keys = ["-newkey", "ec", "-pkeyopt", "ec_paramgen_curve:P-256"]
         files = ["-keyout", str(self.folder / "site.key"), "-out", str(self.folder / "site.crt")]
         subprocess.run(["openssl", "req", "-x509", *keys, *names, *files], check=True, capture_output=True)
-        subprocess.run([CONFIGURE, str(self.folder / "places"), str(self.folder)], check=True)
+        places = self.write_places(self.folder / "places")
+        subprocess.run([CONFIGURE, str(places), str(self.folder)], check=True)
 
     def start_nginx(self):
         if not (self.folder / "nginx.conf").exists():
@@ -168,15 +189,13 @@ class Room:
         words = {"timeout": timeout, "context": self.trusting(), "source_address": (address, 0)}
         return http.client.HTTPSConnection(HOST, self.https_port, **words)
 
+    def connected(self, address=HOST):
+        """A plain socket to the readers' door, from an address, with TLS."""
+        plain = socket.create_connection((HOST, self.https_port), LIMIT, (address, 0))
+        return self.trusting().wrap_socket(plain, server_hostname=HOST)
+
     def logs(self):
         return b"".join(path.read_bytes() for path in self.folder.glob("*.log"))
-
-    def has_logged(self, words):
-        """Whether nginx logs some words, which it does only after it has replied."""
-        end = time.monotonic() + LIMIT
-        while time.monotonic() < end and words not in self.logs():
-            time.sleep(0.05)
-        return words in self.logs()
 
 
 def asked_at(place, asked):
