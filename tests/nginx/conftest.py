@@ -5,10 +5,11 @@ import gzip
 import itertools
 import json
 import socket
+import threading
 
 import pytest
-from support.room import Room, wait_until
-from support.samples import STAFF
+from support.room import Room, give_to_nginx, wait_until
+from support.samples import DONE, STAFF
 from support.server import HOST, LIMIT
 
 INPUTS = ("operate", "web", "images", "crates/rd_trials/data")
@@ -24,9 +25,10 @@ class Reply:
     """The status, the fields with all their values, and the body in the bytes of a reply."""
 
     def __init__(self, data):
-        head, _, self.body = data.partition(b"\r\n\r\n")
+        # to a request without a version comes a body alone
+        head, _, self.body = data.partition(b"\r\n\r\n") if data.startswith(b"HTTP/") else (b"", b"", data)
         first, *lines = head.decode("latin-1").split("\r\n")
-        self.status = int(first.split()[1]) if first else None
+        self.status = int(first.split()[1]) if head else None
         self.fields = [tuple(line.split(": ", 1)) for line in lines]
         if self.one("Transfer-Encoding") == "chunked":
             self.body = b"".join(chunks(self.body))
@@ -91,7 +93,7 @@ class Door:
         return Reply(came)
 
     def ask(self, method, path, *fields, body=b"", key=None, host="localhost"):
-        """The reply to a request. Each door has a limit of its own time: so no reply fails at its status."""
+        """The reply to a request."""
         keys = [] if key is None else [("Desk-Key", key)]
         return self.send(request(method, path, [*keys, *fields], body, host))
 
@@ -104,35 +106,62 @@ class Journal:
 
     def __init__(self, room):
         self.room, self.path, self.at = room, room.folder / "journal", 0
-        self.skip()
-
-    def skip(self):
-        """Leaves out what has been written so far, up to a command of its own. nginx writes the last line of a request
-        after its reply, so that the one of an earlier request may come late."""
-        path = f"/deeds/7/rules/9999?{next(numbers)}!"
-        Door(self.room, "staff").ask("DELETE", path, key=STAFF)
-        wait_until(lambda: self.path.read_bytes().count(path.encode()) >= 2)
-        wait_until(self.is_whole)
+        self.mark()
         self.at = self.path.stat().st_size
+
+    def mark(self):
+        """Sends a command that changes nothing, and gives its path. What came before stands in the journal then: nginx
+        writes the last line of a request after its reply."""
+        path = f"/deeds/7/rules/9999?{next(numbers)}!"
+        assert Door(self.room, "staff").ask("DELETE", path, key=STAFF).status == 200
+        wait_until(lambda: self.path.read_bytes().count(path.encode()) >= 2 and self.is_whole())
+        return path
 
     def is_whole(self):
         """Whether each command that has begun has ended, too."""
-        lines = self.read()
-        return {line["id"] for line in lines if line["status"] == "begun"} <= {
-            line["id"] for line in lines if line["status"] != "begun"
-        }
+        ids = [{line["id"] for line in self.read() if (line["status"] == "begun") == begun} for begun in (True, False)]
+        return ids[0] <= ids[1]
 
     def bytes(self):
-        return self.path.read_bytes()[self.at :]
+        data = self.path.read_bytes()[self.at :]
+        return data[: data.rfind(b"\n") + 1]
 
     def read(self):
-        lines = self.bytes().splitlines()
-        return [json.loads(line.decode("utf-8", "surrogateescape")) for line in lines]
+        return [json.loads(line.decode("utf-8", "surrogateescape")) for line in self.bytes().splitlines()]
 
-    def wait(self, count):
-        """The lines, once there are so many."""
-        wait_until(lambda: self.bytes().count(b"\n") >= count)
-        return self.read()
+    def lines(self):
+        """The lines of all that has come so far."""
+        marker = self.mark()
+        return [line for line in self.read() if line["path"] != marker]
+
+
+class FakeDesk(threading.Thread):
+    """A desk that takes every key for one of the staff, and does with a command what a function does: it gets the bytes
+    of the request, and gives those of the reply, or none."""
+
+    def __init__(self, place, reply):
+        super().__init__(daemon=True)
+        self.reply, self.asked, self.fault = reply, [], None
+        place.unlink(missing_ok=True)
+        self.port = socket.socket(socket.AF_UNIX)
+        self.port.bind(str(place))
+        give_to_nginx(place, 0o660)
+        self.port.listen()
+
+    def run(self):
+        try:
+            while True:
+                connection = self.port.accept()[0]
+                with connection:
+                    self.answer(connection)
+        except OSError as fault:
+            self.fault = fault
+
+    def answer(self, connection):
+        came = connection.recv(65536)
+        self.asked.append(came)
+        with contextlib.suppress(*BREAKS):
+            connection.sendall(DONE if came.startswith(b"GET /staff/keys ") else self.reply(came))
 
 
 @pytest.fixture(scope="module")
@@ -163,6 +192,12 @@ def staff(room):
     return Door(room, "staff")
 
 
+@pytest.fixture
+def redirecting(room, address):
+    """The door of plain HTTP, which sends on to HTTPS."""
+    return Door(room, "http", address)
+
+
 @pytest.fixture(params=["outside", "staff"])
 def door(request, room, address):
     """Each of both doors."""
@@ -172,3 +207,23 @@ def door(request, room, address):
 @pytest.fixture
 def journal(room):
     return Journal(room)
+
+
+@pytest.fixture
+def fake_desk(room):
+    """Puts a desk that a function plays in the place of the room's, until the test ends."""
+    made = []
+
+    def begin(reply=lambda came: DONE):
+        room.stop_desk()
+        made.append(FakeDesk(room.place, reply))
+        made[0].start()
+        return made[0]
+
+    yield begin
+    for one in made:
+        one.port.shutdown(socket.SHUT_RDWR)
+        one.join(LIMIT)
+        one.port.close()
+        room.place.unlink()
+        room.start_desk()

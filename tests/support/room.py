@@ -134,6 +134,7 @@ class Room:
             "CERTIFICATE": self.folder / "site.crt", "CERTIFICATE_KEY": self.folder / "site.key",
             "PROGRAM": self.program, "STORE": self.store, "DESK_SOCKET": self.place, "ZONE": "UTC0",
             "STAFF_PORT": self.staff_port, "JOURNAL": self.folder / "journal", "GATE": self.folder / "gate",
+            "SPACE": self.folder / "space",
             "BACKUPS": self.folder / "backups", "STAFF_KEY": self.folder / "staff-key",
             "WEB": self.folder / "web", "OWN_WEB": self.folder / "own",
             "NGINX_RUN": self.folder, "NGINX_WORK": self.folder / "work",
