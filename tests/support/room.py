@@ -146,6 +146,32 @@ class Room:
         path.write_text("".join(f"{name}={value}\n" for name, value in {**self.places(), **values}.items()))
         return path
 
+    @contextlib.contextmanager
+    def small_disk(self, megabytes):
+        """A folder, and words before a command: for that command a disk of so many megabytes is there."""
+        folder = self.folder / f"disk-of-{megabytes}"
+        folder.mkdir()
+        shell = f'mount -t tmpfs -o size={megabytes}m none {folder} && exec "$@"'
+        try:
+            yield folder, ["unshare", "-m" if os.geteuid() == 0 else "-rm", "sh", "-ec", shell, "sh"]
+        finally:
+            folder.rmdir()
+
+    @contextlib.contextmanager
+    def asked_for_space(self, *before, **places):
+        """While this is entered, nginx asks desk-space, which finds places with these values, and runs after words."""
+        folder = self.folder / "space"
+        folder.mkdir()
+        words = [*before, os.path.join(OPERATE, "desk-space"), self.write_places(self.folder / "space-places", **places)]
+        with contextlib.ExitStack() as stack:
+            # an older configuration has none
+            if os.path.exists(words[-2]):
+                asked = stack.enter_context(subprocess.Popen(words))
+                stack.callback(asked.terminate)
+                wait_until(lambda: (folder / "socket").exists() and (folder / "socket").stat().st_mode & 0o777 == 0o660)
+            stack.callback(shutil.rmtree, folder)
+            yield
+
     def configure(self):
         """Makes a certificate, copies the page, and writes the configuration."""
         (self.folder / "work").mkdir()
