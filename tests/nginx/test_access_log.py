@@ -13,7 +13,7 @@ IMAGE = bytes_of("images", "museum.d64")
 RULE = b'{"audiences":["public"],"select":{"slot":2},"effect":"deny"}'
 DEED = '{"donor":"\u017dofie \\"Sea\\" \\\\","signed":"2020-02-29"}'.encode()
 QUOTES = json.dumps({"donor": '"' * 1000, "signed": "2020-02-29"}).encode()
-CODED = json.dumps({"donor": "\u00fc" * 500, "signed": "2020-02-29"}).encode()
+CODED_DEED = json.dumps({"donor": "\u00fc" * 500, "signed": "2020-02-29"}).encode()
 KEY_PATH = badge("room 3")
 NUMBER = KEY_PATH.rpartition("/")[2]
 NAMES = [("Desk-Staff", "anna"), ("Desk-Note", "objection%20of%203%20May%3A%20%22mine%22")]
@@ -37,7 +37,7 @@ COMMANDS = {
     "refused body": ("PUT", "/deeds/7", b"{}", 400, None),
     "no such disk": ("PUT", "/images/999/rules/1", RULE, 404, None),
     "donor of 1,000 quotes": ("PUT", "/deeds/71", QUOTES, 200, None),
-    "donor of 1,000 bytes in codes": ("PUT", "/deeds/71", CODED, 200, None),
+    "donor of 1,000 bytes in codes": ("PUT", "/deeds/71", CODED_DEED, 200, None),
     "bytes that are no UTF-8": ("PUT", "/deeds/72", b'{"donor":"\xff\xfe"}', 400, None),
     "control character": ("PUT", "/deeds/72", b'{"donor":"\x00"}', 400, ""),
 }
@@ -121,7 +121,7 @@ def size_of_logs(room):
 def test_thousand_bodies_without_a_key_write_little(room, staff, path):
     before = size_of_logs(room)
     for number in range(1000):
-        assert staff.ask("POST", path, body=bytes(262144)).status in (403, 413)
+        assert staff.ask("POST", path, body=bytes(262144)).status >= 400
         if number % 10 == 9:
             assert size_of_logs(room) - before < 2_000_000, f"after {number + 1} requests"
 
@@ -207,34 +207,26 @@ def test_logs_have_no_key_and_no_bytes_of_a_disk(room, staff, outside, journal):
     assert not re.search(b"anna|objection", room.logs())
 
 
-CODED_NUMBER = "".join(f"%{byte:02x}" for byte in NUMBER.encode())
-# Targets that nginx reads as the path of a key, in all its forms.
-OF_KEYS = [
-    KEY_PATH, f"/badges/{NUMBER.upper()}", f"/badges/{CODED_NUMBER}", f"{KEY_PATH}?x", f"{KEY_PATH}#x", f"{KEY_PATH}/",
-    f"http://localhost{KEY_PATH}", f"HTTP://LOCALHOST:80{KEY_PATH}", f"http://localhost/%62adges/{CODED_NUMBER}",
-    f"/{KEY_PATH}", f"///badges//{NUMBER}", f"/%62adges/{NUMBER}", f"/b%61d%67es/{NUMBER}",
-    f"/%62%61%64%67%65%73/{CODED_NUMBER.upper()}", f"/badges%2f{NUMBER}", f"/%2fbadges%2F{CODED_NUMBER}",
-    f"/.{KEY_PATH}", f"/x/..{KEY_PATH}", f"/x/%2e%2E{KEY_PATH}", f"/images/..%2fbadges/{CODED_NUMBER}",
-    f"/badges/./{NUMBER}", f"/badges/x/../{NUMBER}", f"/badges?{NUMBER}",
-]
+CODED = "".join(f"%{byte:02x}" for byte in NUMBER.encode())
+# Targets that nginx reads as the path of a key, in all its forms: what stands before and behind the number.
+BEFORE = """/badges/ http://localhost/badges/ HTTP://LOCALHOST:80/badges/ //badges/ ///badges// /%62adges/ /b%61d%67es/
+    /%62%61%64%67%65%73/ /badges%2f /%2fbadges%2F /./badges/ /x/../badges/ /x/%2e%2E/badges/ /images/..%2fbadges/
+    /badges/./ /badges/x/../ /badges?""".split()
+OF_KEYS = [before + number for before in BEFORE for number in (NUMBER, CODED.upper())]
+OF_KEYS += [f"/badges/{NUMBER.upper()}", f"{KEY_PATH}?x", f"{KEY_PATH}#x", f"{KEY_PATH}/"]
 # Targets with that number, or with that path, of which nginx makes another path.
-LIKE_KEYS = [
-    f"/BADGES/{NUMBER}", f"/%42adges/{NUMBER}", f"/%2562adges/{NUMBER}", f"/%2562adges/{CODED_NUMBER}",
-    f"/%2562adges/{CODED_NUMBER.replace('%', '%2525')}", f"/badge/{NUMBER}", f"/badge/{NUMBER[:40]}",
-    f"/x/badges/{CODED_NUMBER}", f"/images/{NUMBER}", f"/images/{CODED_NUMBER}", f"/images?key={NUMBER}",
-    f"/images?key={CODED_NUMBER}", f"/x#{KEY_PATH}", f"/staff/keys/{NUMBER}", f"badges/{NUMBER}", f"/a b{KEY_PATH}",
-    f"/%zz{KEY_PATH}", f"/../..{KEY_PATH}",
-]
+BEFORE = """/BADGES/ /%42adges/ /%2562adges/ /badge/ /x/badges/ /images/ /images?key= /x#/badges/ /staff/keys/ badges/
+    /%zz/badges/ /../../badges/""".split()
+LIKE_KEYS = [before + number for before in BEFORE for number in (NUMBER, CODED, CODED.replace("%", "%2525"))]
 # Lines that are no request, or one of a method that nobody has.
 NO_REQUESTS = [
     f"{KEY_PATH}", f" {KEY_PATH} HTTP/1.1", f"get {KEY_PATH} HTTP/1.1", f"PUT\t{KEY_PATH} HTTP/1.1",
     f"P-UT {KEY_PATH} HTTP/1.1", f"P_UT {KEY_PATH} HTTP/1.1", f"GET  {KEY_PATH} HTTP/1.1", f"GET {KEY_PATH}",
     f"GET {KEY_PATH} HTTP/9.9", f"GET {KEY_PATH} HTTP/1.1 x", f"CONNECT {KEY_PATH} HTTP/1.1", f"\x16\x03 {KEY_PATH}",
-    NUMBER, f"GET {KEY_PATH}{'/' * 9000} HTTP/1.1", f"{'A' * 3000} {KEY_PATH} HTTP/1.1",
+    NUMBER, f"GET {KEY_PATH}{'/' * 9000} HTTP/1.1", f"{'A' * 3000} {KEY_PATH} HTTP/1.1", f"GET /a b{KEY_PATH} HTTP/1.1",
 ]
-LINES = [f"{method} {target} HTTP/1.1" for target in OF_KEYS + LIKE_KEYS for method in ("GET", "DELETE")] + NO_REQUESTS
 # Each half of the number, in small and capital letters and in codes.
-HALVES = (NUMBER[:32], NUMBER[32:], CODED_NUMBER[:96], CODED_NUMBER[96:])
+HALVES = (NUMBER[:32], NUMBER[32:], CODED[:96], CODED[96:])
 FRAGMENTS = re.compile("|".join(half.replace("%", "%(25)*") for half in HALVES).encode(), re.IGNORECASE)
 # A line of the log of visits that is cut short.
 CUT = re.compile(r'\S+ \[\S+\] "([A-Za-z_-]+ (/badges/)?)?\.\.\." [0-9]+ [0-9]+ [0-9.]+\n')
@@ -264,17 +256,21 @@ def visited(room, door, line):
     return found
 
 
-@pytest.mark.parametrize("line", LINES, ids=range(len(LINES)))
-def test_path_of_a_key_is_cut_at_each_door(room, outside, staff, redirecting, line):
-    for door in (outside, staff, redirecting):
-        assert CUT.fullmatch(visited(room, door, line)), door.name
+@pytest.mark.parametrize("targets", [OF_KEYS, LIKE_KEYS, NO_REQUESTS], ids=["of keys", "like keys", "no requests"])
+@pytest.mark.parametrize("method", ["GET", "DELETE"])
+def test_path_of_a_key_is_cut_at_each_door(room, outside, staff, redirecting, targets, method):
+    for target in targets:
+        line = target if targets is NO_REQUESTS else f"{method} {target} HTTP/1.1"
+        for door in (outside, staff, redirecting):
+            assert CUT.fullmatch(visited(room, door, line)), (door.name, line)
 
 
-def test_path_of_a_key_is_cut_while_the_desk_is_down(room, staff, outside):
+@pytest.mark.parametrize("method", ["GET", "DELETE"])
+def test_path_of_a_key_is_cut_while_the_desk_is_down(room, staff, outside, method):
     with room.desk_down():
-        for line in LINES[: 2 * len(OF_KEYS)]:
+        for target in OF_KEYS:
             for door in (staff, outside):
-                assert CUT.fullmatch(visited(room, door, line)), (door.name, line)
+                assert CUT.fullmatch(visited(room, door, f"{method} {target} HTTP/1.1")), (door.name, target)
 
 
 @pytest.mark.parametrize("line", ["GET /{} HTTP/1.1", "{} / HTTP/1.1", "{}", "GET /images?{} HTTP/1.1"])

@@ -17,7 +17,7 @@ ADDED = {
     "Content-Security-Policy": POLICY, "X-Content-Type-Options": "nosniff", "Referrer-Policy": "no-referrer",
     "Cross-Origin-Resource-Policy": "same-origin", "Cross-Origin-Opener-Policy": "same-origin",
 }
-PATHS = {FILE: "no-store", DENIED: "no-store", "/images": "no-store", "/none": "no-store", "/": "no-cache", "/room.js": "no-cache"}
+PATHS = {**dict.fromkeys([FILE, DENIED, "/images", "/none"], "no-store"), "/": "no-cache", "/room.js": "no-cache"}
 
 
 @pytest.mark.parametrize("path", PATHS)
@@ -93,7 +93,8 @@ def test_file_of_the_page_is_sent_again_only_where_it_has_changed(room, outside)
 ORIGINS = {
     "the images": ("/images", "GET", [], 200, "*"), "a file": (FILE, "GET", [], 200, "*"),
     "a denied file": (DENIED, "GET", [], 403, "*"), "no such disk": ("/images/99", "GET", [], 404, "*"),
-    "a key": ("/images", "GET", [("Desk-Key", STAFF)], 200, None), "an empty key": ("/images", "GET", [("Desk-Key", "")], 401, "*"),
+    "a key": ("/images", "GET", [("Desk-Key", STAFF)], 200, None),
+    "an empty key": ("/images", "GET", [("Desk-Key", "")], 401, "*"),
     "the page": ("/", "GET", [], 200, None), "a deed": ("/deeds/7", "GET", [], 405, None),
     "a range that is none": (FILE, "GET", [("Range", "bytes=500-")], 416, "*"),
     "before a key": ("/images", "OPTIONS", [("Access-Control-Request-Headers", "desk-key")], 403, "*"),

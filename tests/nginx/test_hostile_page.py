@@ -24,6 +24,7 @@ const renew = () => {
   for (const port of PORTS) for (let count = 0; count < AT_A_TIME; count += 1) {
     const href = `http://x${count}.localhost:${port}`;
     document.head.append(Object.assign(document.createElement("link"), { rel: "preconnect", href }));
+    fetch(href, { mode: "no-cors" }).catch(() => {});
   }
 };
 renew();
@@ -94,8 +95,8 @@ def longest_wait(room, last):
 
 @pytest.mark.alone
 def test_page_that_holds_connections_stops_no_reader(room, visit):
-    ports = [room.staff_port, room.https_port, room.http_port]
-    visit(HOLD, ports)
+    ports = [room.staff_port, room.http_port]
+    visit(HOLD, [*ports, room.https_port])
     wait_until(lambda: all(held(port) >= LEAST for port in ports))
     assert longest_wait(room, 21) < LONGEST
     wait_until(lambda: all(held(port) >= LEAST for port in ports))

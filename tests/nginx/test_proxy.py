@@ -15,11 +15,11 @@ BYTES = RECORD.partition(b"\r\n\r\n")[2]
 def no_reset_by_the_desk(room):
     """While the desk runs, nginx gets each reply of it whole."""
     yield
-    assert not re.findall(".*(?:Connection reset by peer|prematurely closed).*", (room.folder / "error.log").read_text())
+    assert not re.findall(".*(?:Connection reset|prematurely closed).*", (room.folder / "error.log").read_text())
 
 
 QUESTIONS = [
-    ("/images", None), ("/images", ROOM), ("/images", STAFF), ("/images", NOBODY), ("/images", ""), ("/catalogue", STAFF),
+    *(("/images", key) for key in (None, ROOM, STAFF, NOBODY, "")), ("/catalogue", STAFF),
     ("/images/14", None), (FILE, None), (DENIED, STAFF), ("/images/14/files/0", None), ("/images/15/survey", None),
     ("/images/99", None), ("/images/15/files/0?/files/1", None), ("/deeds/7", None), ("/badges/" + "0" * 64, None),
 ]
@@ -133,12 +133,10 @@ def test_head_too_long_for_the_desk_gets_the_desks_own_refusal(door, kilobytes):
         assert (reply.status, reply.body) == (400, BAD_HEAD.partition(b"\r\n\r\n")[2])
 
 
-FIELDS = [([("Desk-Key", "abc")] * 2, 400), ([("Desk-Key", "\xc3\xbc")], 401), ([("A", "b")] * 70, 400), ([("Cookie", "a=b")], 200)]
-
-
-@pytest.mark.parametrize("fields, status", FIELDS, ids=["two keys", "a key of other bytes", "70 fields", "a cookie"])
-def test_fields_reach_the_desk(door, fields, status):
-    assert door.get("/images", *fields).status == status
+def test_fields_reach_the_desk(door):
+    odd = [("Desk-Key", "\xc3\xbc")]
+    for fields, status in ((2 * [("Desk-Key", "abc")], 400), (odd, 401), (70 * [("A", "b")], 400)):
+        assert door.get("/images/14", *fields).status == status
 
 
 # Ways to write a path that is at the staff's door alone.
@@ -147,8 +145,7 @@ OF_STAFF = [
     "/%73taff/deeds", "/x/../staff/deeds", "/images/../staff/deeds", "/images/%2e%2e/staff/deeds", "/staff/./deeds",
     "/images/..%2fstaff/deeds", "/staff/deeds/../../images", "/staff/../images", "/staff.html", "/staff.js",
     "//staff.js", "/%73taff.js", "/./staff.js", "/journal", "/journal-2026-11", "/journal?x", "//journal", "/%6aournal",
-    "/.journal", "/.staff", "/.may", "/.begun", "/.gate", "/museum.sqlite", "/../museum.sqlite", "/%2e%2e/museum.sqlite",
-    "/web/room.js",
+    "/.journal", "/.staff", "/.may", "/.begun", "/.gate", "/museum.sqlite", "/%2e%2e/museum.sqlite", "/web/room.js",
 ]
 
 

@@ -34,8 +34,7 @@ def visit(door, path, count):
 
 @pytest.mark.parametrize("path", RATES)
 def test_address_that_asks_too_often_is_told_so(room, outside, path):
-    """And it may ask for what is counted by itself; so may another address. While the desk is down nginx has its replies
-    at once, however slow this machine is."""
+    """And it may ask for what is counted by itself; so may another address. A desk that is down makes no reply slow."""
     rate, burst = RATES[path]
     with room.desk_down():
         statuses, came, seconds = visit(outside, path, 8 * burst)

@@ -132,11 +132,14 @@ CASES = {
     ),
     "unavailable": ({12: "unavailable", 14: "changed"}, 2, told(2, 0, [14], 1), ["12: unavailable"], [12, 14]),
     "a page of nginx": (
-        {12: "page", 13: "sound"}, 2, told(2, 1, left=1), ["12: a reply with status 502 that is none of a desk"], [12, 13],
+        {12: "page", 13: "sound"},
+        2, told(2, 1, left=1), ["12: a reply with status 502 that is none of a desk"], [12, 13],
     ),
     "another outcome": ({12: "other"}, 2, told(1, left=1), ["12: a reply that is no outcome of a check"], [12]),
     "a key of the reading room": ({12: "staff-only", 13: "staff-only"}, 2, told(2, left=2), ["12: staff-only"], [12]),
-    "a key dropped on the way": ({12: "sound", 13: "unknown-key"}, 2, told(2, 1, left=1), ["13: unknown-key"], [12, 13]),
+    "a key dropped on the way": (
+        {12: "sound", 13: "unknown-key"}, 2, told(2, 1, left=1), ["13: unknown-key"], [12, 13],
+    ),
 }
 
 

@@ -14,8 +14,8 @@ from support.server import LIMIT, free_port
 
 DAY = 24 * 3600
 IMAGE = bytes_of("images", "museum.d64")
-# So many disks that the desk does not have all of them in memory; the one of which a bit flips; and where a disk has its
-# own number, in a block that no file has.
+# So many disks that the desk does not have all of them in memory; the one of which a bit flips; and where a disk has
+# its own number, in a block that no file has.
 DISKS, FLIPPED, OWN = 120, 60, 100
 DOWN = 1, "the desk does not answer: nginx says 503\n", ""
 

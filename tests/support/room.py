@@ -44,18 +44,18 @@ def wait_until(holds, seconds=LIMIT):
 
 class Room:
     """A folder with a store, a certificate, the page and the places; and the processes that it has started. The desk is
-    at a Unix socket, which nginx's group may use, or at a port where that is wished for."""
+    at a Unix socket, which nginx's group may use."""
 
-    def __init__(self, program, at_port=False):
+    def __init__(self, program):
         self.program = program
         self.folder = pathlib.Path(tempfile.mkdtemp(prefix="reading-room-"))
         # nginx gives up the rights of root, and then still has to read the page
         self.folder.chmod(0o755)
         self.store = self.folder / "museum.sqlite"
-        port, self.https_port, self.http_port, self.staff_port = free_ports(4)
+        self.https_port, self.http_port, self.staff_port = free_ports(3)
         (self.folder / "desk").mkdir()
         give_to_nginx(self.folder / "desk", 0o2750)
-        self.place = port if at_port else self.folder / "desk" / "socket"
+        self.place = self.folder / "desk" / "socket"
         self.desk = self.nginx = None
 
     def __enter__(self):
@@ -162,14 +162,14 @@ class Room:
         """While this is entered, nginx asks desk-space, which finds places with these values, and runs after words."""
         folder = self.folder / "space"
         folder.mkdir()
-        words = [*before, os.path.join(OPERATE, "desk-space"), self.write_places(self.folder / "space-places", **places)]
+        written = self.write_places(self.folder / "space-places", **places)
+        words = [*before, os.path.join(OPERATE, "desk-space"), written]
         with contextlib.ExitStack() as stack:
+            stack.callback(shutil.rmtree, folder)
             # an older configuration has none
             if os.path.exists(words[-2]):
-                asked = stack.enter_context(subprocess.Popen(words))
-                stack.callback(asked.terminate)
+                stack.callback(stack.enter_context(subprocess.Popen(words)).terminate)
                 wait_until(lambda: (folder / "socket").exists() and (folder / "socket").stat().st_mode & 0o777 == 0o660)
-            stack.callback(shutil.rmtree, folder)
             yield
 
     def configure(self):
@@ -187,12 +187,9 @@ class Room:
         if not (self.folder / "nginx.conf").exists():
             self.configure()
         words = [NGINX, "-p", str(self.folder), "-c", str(self.folder / "nginx.conf"), "-g", "daemon off;"]
-        with open(self.folder / "nginx.out", "ab") as out:
-            self.nginx = subprocess.Popen(words, stdin=subprocess.DEVNULL, stdout=out, stderr=out)
-        try:
-            wait_for(self.https_port, self.nginx)
-        except RuntimeError as fault:
-            raise RuntimeError((self.folder / "nginx.out").read_text()) from fault
+        # what it cannot do at its start stands among the captured errors
+        self.nginx = subprocess.Popen(words, stdin=subprocess.DEVNULL)
+        wait_for(self.https_port, self.nginx)
 
     def stop_nginx(self):
         if self.nginx:
