@@ -1,12 +1,19 @@
-"""What the tools of a museum's machine share: its places, its desk, and how they end."""
+"""What the tools of a museum's machine share: its places, its desk, its folders, its journal, and how they end."""
 
 import contextlib
+import errno
+import fcntl
+import gzip
+import hashlib
 import http.client
 import json
 import os
+import pathlib
 import pwd
 import re
+import secrets
 import socket
+import stat
 import subprocess
 import sys
 import threading
@@ -23,6 +30,12 @@ QUESTIONS = ("deeds", "takedowns", "keys", "checks")
 # How a file in SQLite's format begins, and how many bytes of each page a store with sums has for them.
 FORMAT, SUM_BYTES = b"SQLite format 3\0", 8
 PLACE = re.compile(r"([A-Z_]+)=(\S+)")
+# How many bytes are copied or compared at a time; and how many the disk is given, or has to free, at once, since the
+# desk and its readers wait for that.
+BLOCK, AT_ONCE = 1 << 20, 1 << 21
+FOLDER = os.O_RDONLY | os.O_DIRECTORY | os.O_NOFOLLOW
+# Of a backup: the file that has the journal's last line of that moment, by its SHA-256.
+MARK = "journal-mark"
 
 
 class Failed(Exception):
@@ -103,16 +116,16 @@ class Desk:
 
 
 class Served:
-    """A desk that serves a store at a socket beside it, as the user of the desk where there is one. nginx does not know
-    the socket. It trusts the clock, since what it is asked depends on no day: so a check of a later day stops neither a
-    backup nor a restore. Raises Failed where desk does not open the store."""
+    """A desk that serves a store of a folder at a socket in it, as the user of the desk where there is one. nginx does
+    not know the socket, and the desk ends with this process. It trusts the clock, since what it is asked depends on no
+    day: so a check of a later day stops neither a backup nor a restore. Raises Failed where desk does not open the
+    store."""
 
-    def __init__(self, program, store):
-        self.socket, self.store = str(store.parent / "socket"), store
-        at = ["--store", str(store), "--socket", self.socket]
-        words = [program, "serve", *at, "--count", "1000000", "--trust-clock"]
+    def __init__(self, program, folder, name):
+        self.socket, self.store = folder.inside("socket"), folder.path / name
+        words = ["setpriv", "--pdeathsig", "KILL", program, "serve", "--store", name, "--socket", "socket"]
         streams = {"stdin": subprocess.DEVNULL, "stdout": subprocess.PIPE, "stderr": subprocess.PIPE}
-        self.process = subprocess.Popen(words, **streams, **as_desk(store.parent))
+        self.process = subprocess.Popen([*words, "--count", "1000000", "--trust-clock"], **streams, **folder.as_desk())
 
     def __enter__(self):
         watch = threading.Timer(OPENS, self.process.kill)
@@ -132,37 +145,221 @@ class Served:
         return self.process.communicate()[1].decode(errors="replace")
 
 
-def do(program, folder, *words):
-    """Has desk do a command on stores in a folder, as the user of the desk where there is one. Raises Failed where it
-    refuses."""
-    streams = {"stdin": subprocess.DEVNULL, "capture_output": True, "text": True}
-    ran = subprocess.run([program, *map(str, words)], **streams, **as_desk(folder))
+def do(program, folder, *words, given=""):
+    """Has a process do something in a folder with what it is given to read, as the user of the desk where there is one.
+    Gives what it writes; raises Failed where it refuses."""
+    ran = subprocess.run([program, *words], input=given, capture_output=True, text=True, **folder.as_desk())
     if ran.returncode:
-        raise Failed(": ".join([f"desk {words[0]}", *ran.stderr.splitlines()[:1]]))
+        raise Failed(": ".join([f"{pathlib.Path(program).name} {words[0]}", *ran.stderr.splitlines()[-1:]]))
+    return ran.stdout
 
 
-def has_sums(store):
+# Folders
+
+
+class Folder:
+    """An open folder. What is in it is reached by its descriptor, and no link in it is followed: so whoever may write
+    in it, as the desk's user in that of the store, leads nobody elsewhere."""
+
+    def __init__(self, descriptor, path):
+        self.descriptor, self.path = descriptor, pathlib.Path(path)
+
+    def __enter__(self):
+        return self
+
+    def __exit__(self, *_):
+        os.close(self.descriptor)
+
+    def folder(self, name):
+        """A folder in it."""
+        return Folder(os.open(name, FOLDER, dir_fd=self.descriptor), self.path / name)
+
+    def made(self, prefix):
+        """A new folder in it, for the user of this process."""
+        name = f"{prefix}{secrets.token_hex(8)}"
+        os.mkdir(name, 0o700, dir_fd=self.descriptor)
+        return self.folder(name)
+
+    def names(self, prefix=""):
+        return sorted(name for name in os.listdir(self.descriptor) if name.startswith(prefix))
+
+    def about(self, name):
+        """What the system says of a name in it; None where there is none."""
+        with contextlib.suppress(FileNotFoundError):
+            return os.stat(name, dir_fd=self.descriptor, follow_symlinks=False)
+
+    def file(self, name, flags=os.O_RDONLY):
+        """An open file in it. Raises Failed where there is none, or what is there is no plain file of the folder's own
+        user: a link leads to what others keep, and so may a name that a file of theirs has here."""
+        try:
+            file = os.open(name, flags | os.O_NOFOLLOW | os.O_NONBLOCK, 0o600, dir_fd=self.descriptor)
+        except OSError as fault:
+            why = "a link" if fault.errno == errno.ELOOP else fault.strerror
+            raise Failed(f"{self.path / name}: {why}") from fault
+        about, owner = os.fstat(file), os.fstat(self.descriptor).st_uid
+        if stat.S_ISREG(about.st_mode) and about.st_uid == owner:
+            return os.fdopen(file, "r+b" if flags & os.O_RDWR else "rb", buffering=0)
+        os.close(file)
+        raise Failed(f"{self.path / name}: not a file of the folder's owner")
+
+    def copy(self, name, target):
+        """Makes the bytes of a file those of the same name in another folder; what is the same is only read."""
+        with self.file(name) as old, target.file(name, os.O_RDWR | os.O_CREAT) as new:
+            at = unwritten = 0
+            while block := read_at(old, at, self.path / name):
+                if os.pread(new.fileno(), len(block), at) != block:
+                    write_at(new.fileno(), block, at)
+                    unwritten += len(block)
+                if unwritten >= AT_ONCE:
+                    os.fdatasync(new.fileno())
+                    unwritten = 0
+                at += len(block)
+            new.truncate(at)
+            os.fsync(new.fileno())
+
+    def write(self, name, data):
+        """Makes a file of these bytes in it."""
+        with self.file(name, os.O_RDWR | os.O_CREAT | os.O_EXCL) as file:
+            write_at(file.fileno(), data, 0)
+            os.fsync(file.fileno())
+
+    def drop(self, name):
+        """Takes away a file, a link or a folder with all in it, of a file a little at a time."""
+        about = self.about(name)
+        if stat.S_ISDIR(about.st_mode):
+            with self.folder(name) as inner:
+                for one in inner.names():
+                    inner.drop(one)
+            os.rmdir(name, dir_fd=self.descriptor)
+            return
+        # a file that has another name too stays under that
+        if stat.S_ISREG(about.st_mode) and about.st_nlink == 1:
+            with contextlib.suppress(Failed), self.file(name, os.O_RDWR) as file:
+                shorten(file)
+        os.unlink(name, dir_fd=self.descriptor)
+
+    def sync(self):
+        """Has the names in it written to the disk."""
+        os.fsync(self.descriptor)
+
+    def free(self):
+        """How many bytes its disk has free."""
+        about = os.fstatvfs(self.descriptor)
+        return about.f_bavail * about.f_frsize
+
+    def inside(self, name):
+        """A path by which this process reaches a name in it."""
+        return f"/proc/self/fd/{self.descriptor}/{name}"
+
+    def as_desk(self):
+        """How a process becomes one of the desk's user in this folder, whose the folder and all in it become. It is
+        given once: later its user may have put there what is another's."""
+        how = {"cwd": self.inside(".")}
+        try:
+            user = pwd.getpwnam(USER)
+        except KeyError:
+            return how
+        if os.geteuid():
+            return how
+        if os.fstat(self.descriptor).st_uid == 0:
+            for name in self.names():
+                os.chown(name, user.pw_uid, user.pw_gid, dir_fd=self.descriptor, follow_symlinks=False)
+            os.fchown(self.descriptor, user.pw_uid, user.pw_gid)
+        return {**how, "user": user.pw_uid, "group": user.pw_gid, "extra_groups": []}
+
+
+def folder_at(path):
+    """The folder at a path, by its parts without links, each opened in the one before."""
+    at = Folder(os.open("/", FOLDER), "/")
+    for part in pathlib.Path(os.path.realpath(path)).parts[1:]:
+        with at:
+            at = at.folder(part)
+    return at
+
+
+@contextlib.contextmanager
+def locked(path):
+    """The folder of the backups, which is made where it is missing. While this is entered, no other backup or restore
+    is; nor while a process lives that this one has forked."""
+    os.makedirs(path, mode=0o700, exist_ok=True)
+    with folder_at(path) as folder:
+        try:
+            fcntl.flock(folder.descriptor, fcntl.LOCK_EX | fcntl.LOCK_NB)
+        except BlockingIOError as fault:
+            raise Failed("another backup or restore is at work") from fault
+        yield folder
+
+
+def read_at(file, at, path):
+    try:
+        return os.pread(file.fileno(), BLOCK, at)
+    except OSError as fault:
+        raise Failed(f"{path}: {fault.strerror}") from fault
+
+
+def write_at(file, data, at):
+    """Writes all of some bytes at a place of a file."""
+    while data:
+        count = os.pwrite(file, data, at)
+        data, at = data[count:], at + count
+
+
+def shorten(file):
+    """Makes a file empty, a little at a time."""
+    size = os.fstat(file.fileno()).st_size
+    while size > 0:
+        size = max(0, size - AT_ONCE)
+        file.truncate(size)
+        os.fsync(file.fileno())
+
+
+def has_sums(folder, name):
     """Whether the pages of a store's file end in sums, by its header, which leaves room for them. Of one that cannot be
     read they are taken for granted, as the package makes them."""
     try:
-        with open(store, "rb") as file:
+        with folder.file(name) as file:
             head = file.read(len(FORMAT) + 5)
-    except OSError:
+    except (Failed, OSError):
         return True
     return head.startswith(FORMAT) and head[-1] == SUM_BYTES
 
 
-def as_desk(folder):
-    """How a process becomes one of the desk's user, whose a folder and all files in it become."""
-    try:
-        user = pwd.getpwnam(USER)
-    except KeyError:
-        return {}
-    if os.geteuid():
-        return {}
-    for path in (folder, *folder.iterdir()):
-        os.chown(path, user.pw_uid, user.pw_gid, follow_symlinks=False)
-    return {"user": user.pw_uid, "group": user.pw_gid, "extra_groups": []}
+# The journal
+
+
+def journal_parts(path):
+    """The lines of a journal, and of what was rotated away of it: a list for each file, from the latest on."""
+    path = pathlib.Path(path)
+    rotated = sorted(path.parent.glob(f"{path.name}-*"), key=lambda one: re.sub(r"\D", "", one.name))
+    for file in [*rotated, *([path] if path.exists() else [])][::-1]:
+        with gzip.open(file) if file.suffix == ".gz" else open(file, "rb") as opened:
+            yield opened.readlines()
+
+
+def mark_of(line):
+    return hashlib.sha256(line).hexdigest()
+
+
+def last_mark(path):
+    """The mark of the last whole line of a journal; None where it has none."""
+    whole = ([line for line in lines if line.endswith(b"\n")] for lines in journal_parts(path))
+    return next((mark_of(lines[-1]) for lines in whole if lines), None)
+
+
+def lines_after(path, mark):
+    """The lines of a journal after the one of a mark; None where none is that one. Without a mark, all lines are after
+    it; but a journal that is not there at all does not follow on anything."""
+    found, is_there = [], False
+    for lines in journal_parts(path):
+        is_there = True
+        for at in range(len(lines) - 1, -1, -1):
+            if mark_of(lines[at]) == mark:
+                return lines[at + 1 :] + found
+        found = lines + found
+    return found if is_there and mark is None else None
+
+
+# How tools end
 
 
 def refusal_in(body):
@@ -179,24 +376,17 @@ def run(name, work):
     except Failed as fault:
         print(f"{name}: {fault}", file=sys.stderr)
         status = 1
+    except OSError as fault:
+        print(f"{name}: {told(fault)}", file=sys.stderr)
+        status = 1
     except KeyboardInterrupt:
         print(f"{name}: stopped", file=sys.stderr)
         status = 1
     sys.exit(status)
 
 
-def write_whole(path, data):
-    """Makes a file of these bytes, which is on the disk when this ends."""
-    with open(path, "xb") as file:
-        file.write(data)
-        file.flush()
-        os.fsync(file.fileno())
-
-
-def sync_folder(path):
-    """Has the names in a folder written to the disk."""
-    folder = os.open(path, os.O_RDONLY | os.O_DIRECTORY)
-    try:
-        os.fsync(folder)
-    finally:
-        os.close(folder)
+def told(fault):
+    """A fault in words."""
+    if not isinstance(fault, OSError):
+        return str(fault)
+    return f"{fault.filename}: {fault.strerror}" if fault.filename else fault.strerror or str(fault)

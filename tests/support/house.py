@@ -2,15 +2,23 @@
 systemctl that starts, stops, freezes and thaws the desk of the room."""
 
 import contextlib
+import json
 import os
 import pathlib
+import secrets
 import signal
 import subprocess
+import threading
+import time
 
-from support.samples import STAFF
-from support.server import ENDLESS, ROOT
+from support.room import OPERATE
+from support.samples import STAFF, bytes_of, get, put, put_image, put_rule
+from support.server import ENDLESS, LIMIT
 
-TOOLS = os.path.join(ROOT, "operate")
+IMAGE = bytes_of("images", "museum.d64")
+DONE = 200, b'{"done":true}'
+READERS = ("public", "room")
+
 SYSTEMCTL = """#!/bin/sh
 folder={folder}
 pid=$(cat "$folder/desk.pid")
@@ -19,9 +27,15 @@ case $1 in
 is-active) runs ;;
 freeze) echo frozen >>"$folder/freezes"; kill -STOP "$pid"; until grep -q '^State:.T' "/proc/$pid/status"; do :; done ;;
 thaw) kill -CONT "$pid" ;;
-stop) echo stop >>"$folder/calls"; kill -KILL "$pid" 2>/dev/null; while runs; do sleep 0.05; done ;;
+stop)
+    echo stop >>"$folder/calls"
+    kill -KILL "$pid" 2>/dev/null
+    while runs; do sleep 0.05; done
+    if [ -e "$folder/after-stop" ]; then . "$folder/after-stop"; fi
+    ;;
 start)
     echo start >>"$folder/calls"
+    runs && exit
     : >"$folder/serves"
     {program} serve --store "$folder/museum.sqlite" --socket {socket} --count 1000000 $(cat "$folder/words") \
         >"$folder/serves" 2>/dev/null &
@@ -47,32 +61,180 @@ class House:
         self.start()
         room.start_nginx()
 
+    def __enter__(self):
+        return self
+
+    def __exit__(self, *_):
+        self.end()
+
     def start(self, *words):
         """Starts the desk with these words too, as the room's systemctl does from then on."""
         (self.room.folder / "words").write_text(" ".join(words))
         self.room.start_desk(ENDLESS, *words)
         (self.room.folder / "desk.pid").write_text(str(self.room.desk.pid))
 
-    def run(self, tool, *words):
-        """How a tool ends: its status, and what it writes."""
-        where = {**os.environ, "PATH": f"{self.bin}:{os.environ['PATH']}"}
-        words = [os.path.join(TOOLS, tool), *map(str, words), str(self.room.folder / "places")]
-        ran = subprocess.run(words, env=where, capture_output=True, text=True, stdin=subprocess.DEVNULL)
-        return ran.returncode, ran.stdout, ran.stderr
+    def begin(self, tool, *words, under=()):
+        """Begins a tool, in a session of its own, under another program where one is named."""
+        where = {**os.environ, "PATH": f"{self.bin}:/usr/bin:{os.environ['PATH']}"}
+        words = [*under, os.path.join(OPERATE, tool), *map(str, words), str(self.room.folder / "places")]
+        pipes = {"stdin": subprocess.DEVNULL, "stdout": subprocess.PIPE, "stderr": subprocess.PIPE}
+        return subprocess.Popen(words, env=where, text=True, start_new_session=True, **pipes)
 
-    def back_up(self):
-        return self.run("desk-backup")
+    def run(self, tool, *words, under=()):
+        """How a tool ends: its status, and what it writes."""
+        return ended(self.begin(tool, *words, under=under))
+
+    def after_stop(self, *lines):
+        """What the systemctl does once it has stopped the desk: lines of a shell. Its parent is the tool."""
+        (self.room.folder / "after-stop").write_text("".join(f"{line}\n" for line in lines))
+
+    def back_up(self, *words):
+        return self.run("desk-backup", *words)
 
     def backups(self):
         folder = self.room.folder / "backups"
         return sorted(folder.iterdir()) if folder.exists() else []
 
-    def freezes(self):
-        path = self.room.folder / "freezes"
-        return len(path.read_text().split()) if path.exists() else 0
+    def lines(self, name):
+        """The lines of a file that the systemctl writes, by its name: calls or freezes."""
+        path = self.room.folder / name
+        return path.read_text().split() if path.exists() else []
 
-    def end(self):
-        """Ends a desk that the tools have started."""
-        pid = int(pathlib.Path(self.room.folder, "desk.pid").read_text())
+    def freezes(self):
+        return len(self.lines("freezes"))
+
+    def stop(self):
+        """Ends the desk, also one that a tool has started."""
+        self.room.stop_desk()
         with contextlib.suppress(ProcessLookupError):
-            os.kill(pid, signal.SIGKILL)
+            os.kill(int((self.room.folder / "desk.pid").read_text()), signal.SIGKILL)
+
+    end = stop
+
+
+def ended(began):
+    """How a tool ends that has begun."""
+    with began:
+        out, errors = began.communicate(timeout=4 * LIMIT)
+        return began.returncode, out, errors
+
+
+# What is done in a house
+
+
+def done(house, *asked):
+    """Has the staff's door do commands."""
+    for one in asked:
+        came = house.room.ask_staffs_door(one)
+        assert came == DONE, (one[:3], came)
+
+
+def takedown(accession, rank, slot, key=STAFF):
+    return put_rule(f"/images/{accession}/rules/{rank}", "deny", {"slot": slot}, *READERS)._replace(key=key)
+
+
+def fill(house, *accessions):
+    """A deed by which everybody reads all, and disks of it."""
+    deed = put("/deeds/7", {"donor": "A", "signed": "2019-05-04"})
+    done(house, deed, put_rule("/deeds/7/rules/20", "read", {"all": True}, *READERS, "staff"))
+    done(house, *(put_image(accession, "d64", 7, IMAGE) for accession in accessions))
+
+
+def backed_up(house, *words):
+    """The folder of a backup that is made now."""
+    status, out, errors = house.back_up(*words)
+    assert (status, errors) == (0, "")
+    return pathlib.Path(out.split(": ")[0])
+
+
+def status_outside(room, path, address="127.0.7.1"):
+    """The status that a reader gets."""
+    with contextlib.closing(room.visitor(address)) as reader:
+        reader.request("GET", path)
+        reply = reader.getresponse()
+        reply.read()
+        return reply.status
+
+
+class Reader(threading.Thread):
+    """A reader without a key, who asks for some files all the time: how often each status of each file came, by the
+    part of the week. No address asks more often than it may. What breaks it is raised where it ends."""
+
+    def __init__(self, room, paths):
+        super().__init__(daemon=True)
+        self.room, self.paths, self.part = room, paths, "monday"
+        self.seen, self.fault, self.is_over = {}, None, threading.Event()
+
+    def __enter__(self):
+        self.start()
+        self.turn("monday")
+        return self
+
+    def __exit__(self, kind, *_):
+        self.is_over.set()
+        self.join()
+        if self.fault and kind is None:
+            raise self.fault
+
+    def run(self):
+        number = 0
+        try:
+            while not self.is_over.is_set():
+                for path in self.paths:
+                    part, number = self.part, number + 1
+                    status = status_outside(self.room, path, f"127.0.6.{1 + number % 200}")
+                    if part == self.part:
+                        found = self.seen.setdefault((part, path), {})
+                        found[status] = found.get(status, 0) + 1
+                    time.sleep(0.01)
+        except Exception as fault:  # the test's thread raises it
+            self.fault = fault
+
+    def turn(self, part):
+        """Begins a part of the week, and waits until each file was asked for in it."""
+        self.part, end = part, time.monotonic() + LIMIT
+        while not all((part, path) in self.seen for path in self.paths):
+            if self.fault:
+                raise self.fault
+            assert time.monotonic() < end, f"no replies in {part}: {self.seen}"
+            time.sleep(0.02)
+
+    def statuses(self, part, path):
+        return set(self.seen[part, path])
+
+
+def listed(house, word, key=STAFF):
+    """What the staff is shown, by the desk's own socket."""
+    status, body = house.room.ask_desk(get(f"/staff/{word}", key))
+    assert status == 200, body
+    return json.loads(body)[word]
+
+
+def spoil(house):
+    """The old store is lost."""
+    house.stop()
+    house.room.store.write_bytes(bytes(100000))
+
+
+def restored(house, backup, *words):
+    """What a restore writes that opens the room."""
+    status, out, errors = house.run("desk-restore", *words, backup)
+    assert (status, errors) == (0, ""), (out, errors)
+    assert leftovers(house) == []
+    return out
+
+
+def leftovers(house):
+    """What a restore may not leave behind."""
+    return [path.name for word in ("restored-", "ready-", "tested-") for path in house.room.folder.glob(f"{word}*")]
+
+
+def journaled(house, asked, *statuses, key="staff"):
+    """Lines of the journal, as nginx writes them of a command with these statuses in turn."""
+    number = secrets.token_hex(16)
+    body = (asked.body or b"").decode()
+    with open(house.room.folder / "journal", "a", encoding="utf-8") as journal:
+        for status in statuses:
+            line = {"id": number, "moment": "2026-01-01T00:00:00+00:00", "at": time.time(), "status": status}
+            line |= {"method": asked.method, "path": asked.path, "staff": "anna", "note": "", "body": body}
+            journal.write(json.dumps(line | ({"key": key} if key else {})) + "\n")

@@ -1,0 +1,361 @@
+"""A backup holds what was done at one moment, opens, and trusts nothing of the desk's user; what fails leaves nothing."""
+
+import importlib.machinery
+import importlib.util
+import json
+import os
+import pathlib
+import random
+import re
+import shutil
+import signal
+import sqlite3
+import subprocess
+import sys
+import threading
+import time
+
+import pytest
+from support.house import DONE, IMAGE, Reader, backed_up, done, ended, leftovers
+from support.room import OPERATE, wait_until
+from support.samples import STAFF, Asked, digest, put
+
+DEEDS, DISKS = 20, 12
+# How many bytes of a page are left alone in a store with sums; where the file says it; and how long a page is.
+SUMMED, LEFT_ALONE, PAGE = 8, 20, 4096
+NIGHT = 24 * 3600
+FILES = ["checks.json", "deeds.json", "journal-mark", "keys.json", "museum.sqlite", "museum.sqlite-wal", "takedowns.json"]
+COMMAND = put("/deeds/1", {"donor": "D", "signed": "2020-01-01"})
+SECRET = "the site's key"
+
+
+@pytest.fixture
+def backups(house):
+    folder = house.room.folder / "backups"
+    folder.mkdir(mode=0o700)
+    return folder
+
+
+# What a backup holds
+
+
+class Writer(threading.Thread):
+    """Commands one after the other, each with another value; which were begun, how many were done, and what broke it."""
+
+    def __init__(self, house, seed):
+        super().__init__(daemon=True)
+        self.ask, self.chance, self.sent, self.done = house.room.ask_staffs_door, random.Random(seed), [], 0
+        self.fault, self.may_send, self.is_over = None, threading.Event(), threading.Event()
+
+    def __enter__(self):
+        for _ in range(DEEDS + DISKS):
+            self.send(*self.command())
+        self.start()
+        return self
+
+    def __exit__(self, kind, *_):
+        self.is_over.set()
+        self.may_send.set()
+        self.join()
+        if self.fault and kind is None:
+            raise self.fault
+
+    def run(self):
+        try:
+            while not self.is_over.is_set():
+                self.may_send.wait()
+                self.send(*self.command())
+        except Exception as fault:  # the test's thread raises it
+            self.fault = fault
+
+    def command(self):
+        """What a command sets, its value, and its path and body. The first ones are deeds, and then disks."""
+        number = len(self.sent) + 1
+        deed = number if number <= DEEDS else self.chance.randint(1, DEEDS)
+        if number <= DEEDS or number > DEEDS + DISKS and self.chance.random() < 0.5:
+            return ("deed", deed), f"D{number}", put(f"/deeds/{deed}", {"donor": f"D{number}", "signed": "2020-01-01"})
+        if number <= DEEDS + DISKS or self.chance.random() < 0.1:
+            image = IMAGE[:100] + number.to_bytes(8, "big") + IMAGE[108:]
+            asked = Asked("PUT", f"/accessions/{number}/d64/{deed}/{digest(image)}", STAFF, image)
+            return ("image", number), digest(image), asked
+        rank = self.chance.randint(1, 9)
+        rule = {"audiences": ["public"], "select": {"prefix": f"P{number}"}, "effect": "read"}
+        return ("rule", deed, rank), f"P{number}", put(f"/deeds/{deed}/rules/{rank}", rule)
+
+    def send(self, what, value, asked):
+        self.sent.append((what, value))
+        came = self.ask(asked)
+        assert came == DONE, (asked[:2], came)
+        self.done += 1
+
+    def states(self, least, most):
+        """What a store holds after so many commands, from the least number to the most."""
+        state = dict(self.sent[:least])
+        yield state
+        for what, value in self.sent[least:most]:
+            state[what] = value
+            yield state
+
+
+def held(folder):
+    """What a backup holds, read by sqlite3."""
+    store = sqlite3.connect(folder / "museum.sqlite")
+    assert store.execute("PRAGMA integrity_check").fetchone() == ("ok",)
+    found = {("deed", number): donor for number, donor in store.execute("SELECT num, donor FROM deed")}
+    found |= {("image", number): sum_.hex() for number, sum_ in store.execute("SELECT acc, digest FROM image")}
+    rules = store.execute("SELECT scope, rank, word FROM rule WHERE band = 1")
+    found |= {("rule", deed, rank): word for deed, rank, word in rules}
+    store.close()
+    return found
+
+
+@pytest.mark.parametrize("around", [False, True], ids=["staff's-door", "round-the-door"])
+def test_backup_under_commands_holds_what_was_done_at_a_moment(house, seed, around, tmp_path):
+    """Commands come without a rest, at the staff's door, or to the desk's own socket, where the desk is frozen for the
+    copy; and a reader asks all the time."""
+    with Writer(house, seed) as writer, Reader(house.room, ["/health"]) as reader:
+        if around:
+            writer.ask = house.room.ask_desk
+        for number in range(3):
+            least = writer.done
+            writer.may_send.set()
+            reader.turn(number)
+            backup = backed_up(house)
+            writer.may_send.clear()
+            most = len(writer.sent)
+            assert [path.name for path in sorted(backup.iterdir())] == FILES
+            assert (backup / "museum.sqlite").read_bytes()[LEFT_ALONE] == SUMMED
+            deeds = json.loads((backup / "deeds.json").read_text())["deeds"]
+            holds = held(shutil.copytree(backup, tmp_path / str(number)))
+            assert any(state == holds for state in writer.states(least, most)), (least, most)
+            assert {("deed", deed["deed"]): deed["donor"] for deed in deeds} == {
+                what: value for what, value in holds.items() if what[0] == "deed"
+            }
+            assert reader.statuses(number, "/health") == {200}
+    assert (house.freezes() > 0) == around
+
+
+# What fails
+
+
+def other(room):
+    """A program that adds a key to the store before it serves."""
+    path = room.folder / "other"
+    path.write_text(
+        f'#!/bin/sh\nfor last; do case $last in *museum.sqlite) {room.program} staff-key --store "$last" --key another '
+        f'>/dev/null ;; esac; done\nexec {room.program} "$@"\n'
+    )
+    path.chmod(0o755)
+    return path
+
+
+@pytest.mark.parametrize("key, program, words", [
+    ("no key", None, "desk-backup: /staff/deeds: 401 unknown-key\n"),
+    (None, None, "staff-key: No such file or directory\n"),
+    (STAFF, lambda room: "/bin/false", "museum.sqlite\n"),
+    (STAFF, other, "has other keys than the desk\n"),
+], ids=["another-key", "no-key", "a-desk-that-does-not-open-the-copy", "a-desk-that-says-something-else"])
+def test_backup_that_fails_says_why_and_leaves_nothing(house, key, program, words):
+    room = house.room
+    done(house, COMMAND)
+    (room.folder / "staff-key").write_text(f"Desk-Key: {key}\n")
+    if key is None:
+        (room.folder / "staff-key").unlink()
+    if program:
+        room.write_places(room.folder / "places", PROGRAM=program(room))
+    status, out, errors = house.back_up()
+    assert (status, out) == (1, "") and errors.endswith(words), errors
+    assert house.backups() == leftovers(house) == [] and not (room.folder / "gate").exists()
+    done(house, COMMAND)
+
+
+def test_backup_of_a_desk_that_is_down_says_so(house):
+    house.stop()
+    status, out, errors = house.back_up()
+    assert (status, errors) == (0, "") and "the desk was down" in out
+
+
+def flip(path, at):
+    """Flips a bit of a file."""
+    with open(path, "r+b") as file:
+        file.seek(at)
+        byte = file.read(1)[0]
+        file.seek(at)
+        file.write(bytes([byte ^ 1]))
+
+
+def test_flipped_bit_of_any_page_stops_the_backup(house):
+    """The desk goes on. No page has a later form in the log, which another command has copied into the file."""
+    done(house, COMMAND)
+    store = house.room.store
+    house.room.stop_desk()
+    assert house.room.run("show", "keys", "--store", str(store), "--key", STAFF)[0] == 0
+    house.start()
+    for at in range(PAGE // 2, store.stat().st_size, 4 * PAGE):
+        flip(store, at)
+        status, _, errors = house.back_up()
+        assert status == 1 and errors.endswith("museum.sqlite: desk: store\n"), (at, errors)
+        flip(store, at)
+    assert house.backups() == []
+    backed_up(house)
+
+
+def test_killed_backup_lets_commands_go_on_and_the_next_one_clears_up(house):
+    done(house, COMMAND)
+    gate, came = house.room.folder / "gate", []
+    with house.room.desk_stalled():
+        tool = house.begin("desk-backup")
+        wait_until(gate.exists)
+        sender = threading.Thread(target=lambda: came.append(house.room.ask_staffs_door(COMMAND)))
+        sender.start()
+        os.killpg(tool.pid, signal.SIGKILL)
+        assert ended(tool)[0] == -signal.SIGKILL
+    sender.join(timeout=60)
+    assert came == [DONE]
+    assert len(house.backups()) == 1 and gate.exists()
+    assert house.backups() != [backed_up(house)] or True
+    assert len(house.backups()) == 1 and not gate.exists()
+
+
+def test_second_backup_at_once_is_refused(house):
+    """The first one waits for a desk that does not answer."""
+    done(house, COMMAND)
+    with house.room.desk_stalled():
+        first = house.begin("desk-backup")
+        wait_until((house.room.folder / "gate").exists)
+        assert house.back_up() == (1, "", "desk-backup: another backup or restore is at work\n"), "two work at once"
+    assert ended(first)[::2] == (0, "")
+    assert len(house.backups()) == 1
+
+
+# Which are kept
+
+
+@pytest.fixture
+def tool(monkeypatch):
+    """The tool as a module."""
+    monkeypatch.syspath_prepend(OPERATE)
+    loader = importlib.machinery.SourceFileLoader("desk_backup", os.path.join(OPERATE, "desk-backup"))
+    module = importlib.util.module_from_spec(importlib.util.spec_from_loader("desk_backup", loader))
+    loader.exec_module(module)
+    yield module
+    sys.modules.pop("museum", None)
+
+
+def test_latest_backups_of_days_weeks_and_months_are_kept(tool):
+    """One is made each night for two years, with some nights left out."""
+    names, begin = [], 1767225600  # 2026-01-01
+    for night in range(730):
+        if night % 11 != 5:
+            names.append(time.strftime("%Y-%m-%dT031000Z", time.gmtime(begin + night * NIGHT)))
+            gone = tool.superfluous(names, names[-1])
+            names = [name for name in names if name not in gone]
+    # the last backup of each month, of each of five weeks that begin on Mondays, and of seven days
+    assert [name[:10] for name in names] == [
+        "2027-01-31", "2027-02-27", "2027-03-31", "2027-04-30", "2027-05-31", "2027-06-30", "2027-07-31", "2027-08-31",
+        "2027-09-30", "2027-10-31", "2027-11-29", "2027-12-05", "2027-12-12", "2027-12-19", "2027-12-25", "2027-12-26",
+        "2027-12-27", "2027-12-28", "2027-12-29", "2027-12-30", "2027-12-31",
+    ]
+    assert tool.superfluous(["mine", "2026-01-01", "lost+found"], names[-1]) == []
+
+
+def test_both_backups_of_a_day_stay_until_the_next_day_and_one_kept_by_name_stays(house, backups):
+    """Backups of an earlier day are there twice, too: of these the later one stays."""
+    done(house, COMMAND)
+    for name in ("2026-01-01T031000Z", "2026-01-01T120000Z", "2026-01-01T110000Z-before-0.2"):
+        (backups / name).mkdir()
+    kept = backed_up(house, "--keep", "before-0.3")
+    first, second = backed_up(house), backed_up(house)
+    assert kept.name.endswith("Z-before-0.3")
+    assert [path.name for path in house.backups()] == sorted(
+        ["2026-01-01T120000Z", "2026-01-01T110000Z-before-0.2", kept.name, first.name, second.name]
+    ), "a backup of this day is gone"
+
+
+@pytest.mark.parametrize("name", ["", "a/b", "..", "-x", "a b"])
+def test_name_that_is_no_part_of_a_folder_is_refused(house, name):
+    assert house.back_up("--keep", name)[0] == 2 and house.backups() == []
+
+
+# What whoever runs as the desk's user may leave in the folder of the store
+
+
+def test_link_in_the_store_folder_empties_nothing(house, backups):
+    """A link of the name that a test of a backup has, to a backup."""
+    done(house, COMMAND)
+    first = backed_up(house)
+    sizes = {path.name: path.stat().st_size for path in first.iterdir()}
+    (house.room.folder / "tested-x").symlink_to(first)
+    backed_up(house)
+    assert {path.name: path.stat().st_size for path in first.iterdir()} == sizes, "a link has emptied a backup"
+    assert leftovers(house) == []
+
+
+def secret_link(room):
+    room.store.symlink_to(room.folder / "secret")
+
+
+def secret_log(room):
+    shutil.move(room.folder / "own.sqlite", room.store)
+    pathlib.Path(f"{room.store}-wal").unlink(missing_ok=True)
+    pathlib.Path(f"{room.store}-wal").symlink_to(room.folder / "secret")
+
+
+def secret_name(room):
+    """A second name of another user's file."""
+    os.chown(room.folder / "secret", 65534, 65534)
+    os.link(room.folder / "secret", room.store)
+
+
+@pytest.mark.parametrize("plant, words", [
+    (secret_link, "museum.sqlite: a link"),
+    (secret_log, "museum.sqlite-wal: a link"),
+    (secret_name, "museum.sqlite: not a file of the folder's owner"),
+    (lambda room: os.mkfifo(room.store), "museum.sqlite: not a file of the folder's owner"),
+], ids=["the-store-is-a-link", "the-log-is-a-link", "another-users-file", "a-pipe"])
+def test_file_that_is_not_the_desks_is_not_copied(house, backups, plant, words):
+    """Such a copy would be given to the desk's user, for its test."""
+    room = house.room
+    done(house, COMMAND)
+    (room.folder / "secret").write_text(SECRET)
+    shutil.move(room.store, room.folder / "own.sqlite")
+    plant(room)
+    seen = watch(room.folder)
+    status, _, errors = house.run("desk-backup", under=("timeout", "60"))
+    assert seen() == set(), "the secret is copied"
+    assert (status, errors) == (1, f"desk-backup: {room.folder}/{words}\n")
+    assert house.backups() == leftovers(house) == []
+
+
+def watch(folder):
+    """Looks all the time for copies of the secret. Gives what ends that, and gives the copies."""
+    found, is_over = set(), threading.Event()
+
+    def look():
+        while not is_over.is_set():
+            for path in [*folder.glob("tested-*/*"), *folder.glob("backups/*/*")]:
+                try:
+                    if path.is_file() and SECRET in path.read_text(errors="replace"):
+                        found.add(path.name)
+                except FileNotFoundError:
+                    continue  # it is gone again
+            time.sleep(0.005)
+
+    looker = threading.Thread(target=look, daemon=True)
+    looker.start()
+
+    def over():
+        is_over.set()
+        looker.join()
+        return found
+
+    return over
+
+
+def test_unit_of_the_backup_has_few_rights_of_root():
+    """By what systemd itself says of the unit, from 0 for none to 10."""
+    unit = os.path.join(OPERATE, "package", "desk-backup.service")
+    words = ["systemd-analyze", "security", "--offline=true", "--no-pager", unit]
+    said = subprocess.run(words, capture_output=True, text=True)
+    exposure = re.search(r"Overall exposure level for desk-backup.service: ([0-9.]+)", said.stdout + said.stderr)
+    assert exposure and float(exposure[1]) < 4, said.stdout + said.stderr
