@@ -68,10 +68,10 @@ def made_file(kind, number, slot):
     return File(fields, data)
 
 
-def many(disks, files, deeds=1000):
+def many(disks, files, deeds=1000, day=None):
     """A museum of so many disks, each with so many files, under deeds of three rules each; every hundredth disk has a
     takedown, and every second a check."""
-    museum = stand_in.Museum()
+    museum = stand_in.Museum(day)
     museum.disks = ManyDisks()
     for deed in range(1, deeds + 1):
         museum.deeds[deed] = DONORS[deed % len(DONORS)], f"19{80 + deed % 20}-05-04"
@@ -91,9 +91,9 @@ def many(disks, files, deeds=1000):
     return museum
 
 
-def small():
+def small(day=None):
     """A museum of six disks under three deeds, one of them without rules."""
-    museum = stand_in.Museum()
+    museum = stand_in.Museum(day)
     museum.badges[hashlib.sha256(b"hello").hexdigest()] = "room"
     museum.deeds = {
         7: ("A. Curator", "2019-05-04"), 8: ("B. Donor", "2020-02-29"), 9: ('C. "Sea" Müller \\ Söhne', "0001-01-01"),
@@ -112,3 +112,25 @@ def small():
 def put(museum, acc, kind, deed, data):
     """Puts an image as it stands."""
     museum.images[acc] = desk_by_hand.Image(kind, deed, hashlib.sha256(data).hexdigest(), data)
+
+
+# Names that are paths, devices, markup and formulas.
+HARMFUL = ["../../X", "CON", "<img src=x onerror=window.harmed=1>", "=1+1", 'A "quoted", name']
+
+
+def put_files(museum, acc, kind, deed, files):
+    """Puts a disk of files of names, types and bytes; None where the desk does not give them out."""
+    made = []
+    for slot, (name, type_, data) in enumerate(files):
+        size, user = "" if data is None else str(len(data)), "0" if kind == "cpm8" else ""
+        fields = {"slot": str(slot), "user": user, "type": type_, "size": size, "faults": "", "name": name}
+        made.append(File(fields, data))
+    report = {"directory": "end", "faulty": 0, "files": len(made), "label": "", "map": None, "served": len(made)}
+    key = f"files:{acc}".encode()
+    museum.disks.disks[key] = Disk(made, {**report, "size_differs": 0})
+    put(museum, acc, kind, deed, key)
+
+
+def harmful_disk(museum, acc, deed):
+    """Puts a disk whose names are paths, devices, markup and formulas."""
+    put_files(museum, acc, "d64", deed, [(name, "SEQ", b"TEXT") for name in HARMFUL])

@@ -1,0 +1,256 @@
+"""Both pages in Chromium by Selenium: what a test does there as a reader or as one of the staff, and what is shown."""
+
+import contextlib
+import datetime
+import os
+import time
+import urllib.parse
+
+from selenium import webdriver
+from selenium.common.exceptions import WebDriverException
+from selenium.webdriver.common.action_chains import ActionChains
+from selenium.webdriver.common.by import By
+from selenium.webdriver.common.keys import Keys
+
+# After how many seconds a page that does not come to its end fails the test: a machine that does much else needs them.
+LIMIT = 60
+STAFF = "abc"
+# The day on which every test of the pages happens; the browser's clock begins at its noon.
+TODAY = "2026-06-15"
+# A script: the page's clock is ahead of the machine's by so many milliseconds.
+CLOCK = """
+Date = class extends Date {
+  constructor(...values) { if (values.length) super(...values); else super(Date.now()); }
+  static now() { return super.now() + (%d); }
+};
+"""
+READ = """
+const texts = (root, selector) => Array.from(root.querySelectorAll(selector), (one) => one.textContent);
+const open = Array.from(document.querySelectorAll("section")).find((one) => !one.hidden) ?? document;
+const sure = document.getElementById("sure");
+const cellsOf = (row) => Array.from(row.cells, (cell) => cell.textContent);
+return {
+  busy: document.querySelector("[aria-busy=true]") !== null, focus: document.activeElement.className,
+  heading: texts(document, "h1")[0], title: document.title, status: texts(document, "#status").join(""),
+  here: location.hash, caller: texts(document, "#caller")[0], refusal: texts(document, ".refused p"),
+  result: texts(open, ".result p, .result dd, .result li"), hint: texts(open, ".hint")[0] ?? "",
+  stands: texts(open, ".stands > p"),
+  rows: Array.from(open.querySelectorAll(":is(.stands, #view) tbody tr:not(.space)"), cellsOf),
+  list: Array.from(open.querySelectorAll(".list tbody tr"),
+    (row) => Array.from(row.cells, (cell) => cell.querySelector("input")?.value ?? cell.textContent)),
+  sure: sure?.open ? texts(sure, "h2, #sure-more p, #sure-more h3, #sure-more li") : null,
+};
+"""
+# A script: the page's own listener, which is older, comes first.
+FOLLOW = """
+const [place, done] = arguments;
+window.addEventListener("hashchange", () => setTimeout(done), { once: true });
+if (location.hash === place) window.dispatchEvent(new HashChangeEvent("hashchange"));
+else location.hash = place;
+"""
+# A script: gives a field a value, as somebody who types or chooses it.
+SET = """
+const [field, value] = arguments;
+if (field.type === "checkbox") field.checked = value; else field.value = value;
+for (const name of ["input", "change"]) field.dispatchEvent(new Event(name, { bubbles: true }));
+"""
+
+
+def chromium(downloads, headed=False):
+    """Chromium of one's own, which saves files in a folder, and whose clock begins at noon of the day of the tests."""
+    options = webdriver.ChromeOptions()
+    words = ["disable-dev-shm-usage", "disable-gpu", "lang=en", "hide-scrollbars", "window-size=1100,900"]
+    words += [] if headed else ["headless=new"]
+    words += ["no-sandbox"] if os.geteuid() == 0 else []
+    for word in words:
+        options.add_argument(f"--{word}")
+    options.accept_insecure_certs = True
+    options.set_capability("goog:loggingPrefs", {"browser": "ALL"})
+    options.add_experimental_option("prefs", {"download.default_directory": str(downloads)})
+    begun = webdriver.Chrome(options=options)
+    begun.set_script_timeout(LIMIT)
+    noon = datetime.datetime.fromisoformat(f"{TODAY}T12:00:00+00:00").timestamp()
+    script = {"source": CLOCK % round(1000 * (noon - time.time()))}
+    begun.execute_cdp_cmd("Page.addScriptToEvaluateOnNewDocument", script)
+    begun.downloads = downloads
+    return begun
+
+
+def wait_for(what, find, seconds=LIMIT):
+    """What `find` gives, as soon as that is something; a wait that is in vain fails the test."""
+    end, fault = time.monotonic() + seconds, None
+    while time.monotonic() < end:
+        try:
+            found = find()
+            if found:
+                return found
+        except WebDriverException as raised:
+            fault = raised
+        time.sleep(0.03)
+    raise AssertionError(f"in {seconds} seconds there is not: {what}" + (f" ({fault.msg})" if fault else ""))
+
+
+class Page:
+    """A page of a door, in the browser. Each call waits until the page is done, or asks something."""
+
+    def __init__(self, driver, door):
+        self.driver, self.door = driver, door
+        driver.get("about:blank")
+        driver.get_log("browser")
+        driver.get(door.address)
+
+    def script(self, text, *values):
+        """What a script gives that the driver runs in the page, beside the page's own."""
+        return self.driver.execute_script(text, *values)
+
+    # What the page shows
+
+    def wait(self, holds, what="the state that the test waits for"):
+        """What the page shows, once something holds of that."""
+        last = {}
+
+        def shown():
+            last.update(self.script(READ))
+            return holds(last) and dict(last)
+
+        try:
+            return wait_for(what, shown)
+        except AssertionError as fault:
+            raise AssertionError(f"{fault}; the page shows {last}") from None
+
+    def read(self, holds=lambda state: True):
+        return self.wait(lambda state: (not state["busy"] or state["sure"]) and holds(state), "a page that is done")
+
+    def one(self, selector):
+        """The first such element, once there is one."""
+        return wait_for(selector, lambda: self.driver.find_elements(By.CSS_SELECTOR, selector))[0]
+
+    def text(self, selector):
+        return self.one(selector).get_property("textContent")
+
+    def texts(self, selector):
+        return self.script("return [...document.querySelectorAll(arguments[0])].map((one) => one.textContent)", selector)
+
+    def focus(self):
+        """What has the focus: its id, else its text."""
+        return self.script("const at = document.activeElement; return at.id || at.textContent;")
+
+    def harmed(self):
+        """What markup in a name has done, and how many elements it has become."""
+        return self.script("return [window.harmed ?? null, document.querySelectorAll('img, b, iframe').length]")
+
+    def logs(self):
+        """What the browser says of the page since it was asked last."""
+        return [line["message"] for line in self.driver.get_log("browser")]
+
+    def saved(self, name):
+        """The bytes of a file that the page saved, once the browser has all of it."""
+        path = self.driver.downloads / name
+        is_whole = lambda: path.exists() and path.stat().st_size and not list(path.parent.glob("*.crdownload"))
+        wait_for(f"a download with the name {name}", is_whole)
+        data = path.read_bytes()
+        path.unlink()
+        return data
+
+    # What somebody does there
+
+    def load(self):
+        """Loads the page anew."""
+        self.driver.refresh()
+        return self.read()
+
+    def go(self, place):
+        """Goes to a place by its address, as a bookmark does, and asks anew where the page is there already."""
+        self.driver.execute_async_script(FOLLOW, f"#/{place}")
+        return self.read(lambda state: state["here"] == f"#/{place}")
+
+    def click(self, selector):
+        self.one(selector).click()
+        return self.read()
+
+    def press(self, *keys):
+        """Presses keys wherever the focus is."""
+        ActionChains(self.driver, duration=0).send_keys(*keys).perform()
+
+    def escape(self):
+        self.press(Keys.ESCAPE)
+        return self.wait(lambda state: not state["busy"] and not state["sure"])
+
+    def cdp(self, name, **values):
+        return self.driver.execute_cdp_cmd(name, values)
+
+    @contextlib.contextmanager
+    def phone(self):
+        """While this is entered, the screen has 360 by 640 points."""
+        self.cdp("Emulation.setDeviceMetricsOverride", width=360, height=640, deviceScaleFactor=1, mobile=True)
+        try:
+            yield
+        finally:
+            self.cdp("Emulation.clearDeviceMetricsOverride")
+
+    def scheme(self, name):
+        """Takes the colours that the reader's machine wishes: light or dark."""
+        self.cdp("Emulation.setEmulatedMedia", features=[{"name": "prefers-color-scheme", "value": name}])
+
+
+class ReadersPage(Page):
+    """The page for readers."""
+
+    def __init__(self, driver, door):
+        super().__init__(driver, door)
+        self.read()
+
+    def find(self, words):
+        return self.go(f"find/{urllib.parse.quote(words, safe='')}")
+
+    def give(self, key):
+        """Gives a key."""
+        self.one("#key").send_keys(key)
+        return self.click("#key-form button")
+
+
+class StaffPage(Page):
+    """The staff's page."""
+
+    def begin(self, name="Ada Archivist", reason="a letter of today", key=STAFF):
+        """Gives the page the key of the staff, and types who works and why."""
+        self.one("#key").send_keys(key)
+        self.one("#key-form button").click()
+        self.wait(lambda state: not state["busy"] and "takes this key" in state["status"], "a key that is taken")
+        self.fill("who", name=name, reason=reason)
+        return self
+
+    def set(self, selector, value):
+        self.script(SET, self.one(selector), value)
+
+    def fill(self, section, **values):
+        for name, value in values.items():
+            self.set(f"#{section} [name='{name}']", value)
+
+    def submit(self, section):
+        return self.click(f"#{section} > form [type=submit]")
+
+    def put_rule(self, section, scope, rank, how, what, *audiences, effect="deny", start="", until=""):
+        """Types a rule or a takedown and sends it: the page then rehearses it, and asks."""
+        for name in ("public", "room", "staff"):
+            self.set(f"#{section} [value={name}]", name in audiences)
+        self.fill(section, scope=scope, rank=rank, effect=effect, how=how, **{"from": start}, until=until)
+        if what is not None:
+            self.fill(section, what=what)
+        return self.submit(section)
+
+    def take_down(self, disk, rank, slot, *audiences, **days):
+        return self.put_rule("takedowns", disk, rank, "slot", slot, *audiences, **days)
+
+    def answer(self, yes):
+        """Answers what the page asks."""
+        self.one(f"#sure [value='{'go' if yes else ''}']").click()
+        return self.wait(lambda state: not state["busy"] and not state["sure"], "a page that is done")
+
+    def of_row(self, words, button):
+        """Presses a button of the row that it names."""
+        return self.click(f"[aria-label='{button} {words}']")
+
+    def sent(self):
+        """The changes that the page has sent since it was asked last: method, path, name and reason."""
+        return self.door.sent()
