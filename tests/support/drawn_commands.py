@@ -2,11 +2,9 @@
 
 import collections
 
-from support import model_requests as requests_by_hand
-
-from support.samples import ALL, STAFF, badge, check, drop, get, put, put_image, put_rule
+from support import model_requests
 from support.model import FOR_STAFF, Desk
-from support.mutations import Request
+from support.samples import ALL, STAFF, badge, check, drop, get, put, put_image, put_rule
 
 # What commands are called.
 NAMES = set(FOR_STAFF) - {"survey"}
@@ -15,7 +13,14 @@ Command = collections.namedtuple("Command", "name data reply change")
 SIGNS = "AÄß 字'\"\\"
 DAYS = ["0001-01-01", "2019-05-04", "2030-01-01", "9999-12-31"]
 SELECTS = [{"all": True}, {"slot": 1}, {"prefix": "FILE"}, {"user": 3}, {"type": "PRG"}]
-HELD = ("deeds", "images", "checked", "badges")
+
+
+def data_of(asked):
+    """The bytes of a request."""
+    fields = [] if asked.key is None else [f"Desk-Key: {asked.key}"]
+    fields += [] if asked.body is None else [f"Content-Length: {len(asked.body)}"]
+    lines = [f"{asked.method} {asked.path} HTTP/1.1", *fields, "", ""]
+    return "\r\n".join(lines).encode() + (asked.body or b"")
 
 
 class Museum(Desk):
@@ -27,9 +32,8 @@ class Museum(Desk):
 
     def command(self, asked):
         """A request of the staff that is done."""
-        data = Request(asked).data()
-        read = requests_by_hand.asked_by(data)
-        return Command(read.what, data, *self.answer(read))
+        read = model_requests.asked_by(data_of(asked))
+        return Command(read.what, data_of(asked), *self.answer(read))
 
     def rows(self):
         """The rows of each table. What no command changes is as it was made."""
@@ -38,19 +42,7 @@ class Museum(Desk):
 
     def catalogue(self):
         """The table that the staff sees."""
-        return self.due(Request(get("/catalogue", STAFF)).data()).reply.partition(b"\r\n\r\n")[2]
-
-    def held(self):
-        """A copy of what it holds."""
-        rules = {label: dict(ranked) for label, ranked in self.rules.items()}
-        return rules, {name: dict(getattr(self, name)) for name in HELD}
-
-    def hold(self, held):
-        """Holds again what such a copy has."""
-        rules, others = held
-        self.rules = collections.defaultdict(dict, rules)
-        for name, value in others.items():
-            setattr(self, name, value)
+        return self.due(data_of(get("/catalogue", STAFF))).reply.partition(b"\r\n\r\n")[2]
 
 
 class Chance:
