@@ -1,0 +1,55 @@
+"""What the tests of durability share: folders in the system's memory, chance, and a place where commands run."""
+
+import os
+import pathlib
+import random
+import subprocess
+import tempfile
+
+import pytest
+import refusals
+
+INPUTS = ("crates/rd_trials/data", "crates/rd_main/stdin", "images")
+DRAWS = True
+HERE = pathlib.Path(__file__).parent
+# Asks glibc to take memory in large pages: the system makes these in much less time than small ones.
+LARGE_PAGES = "glibc.malloc.hugetlb=1:glibc.malloc.top_pad=8388608"
+
+
+@pytest.fixture(scope="session")
+def memory_folder():
+    """A folder in the system's memory, if it has one: stores there are written thousands of times."""
+    room = "/dev/shm" if os.access("/dev/shm", os.W_OK) else None
+    with tempfile.TemporaryDirectory(dir=room, prefix="desk-durability-") as name:
+        yield pathlib.Path(name)
+
+
+@pytest.fixture(scope="session", autouse=True)
+def large_pages():
+    with pytest.MonkeyPatch.context() as patch:
+        patch.setenv("GLIBC_TUNABLES", LARGE_PAGES)
+        yield
+
+
+@pytest.fixture
+def chance(request, seed):
+    return random.Random(f"{seed} {request.node.name}")
+
+
+@pytest.fixture(scope="session")
+def place(program, memory_folder):
+    return refusals.Place(program, memory_folder)
+
+
+@pytest.fixture(scope="session")
+def memory(memory_folder):
+    """What refuses growths of memory."""
+    library = memory_folder / "refuse.so"
+    subprocess.run(["gcc", "-O2", "-shared", "-fPIC", "-o", library, HERE / "refuse.c", "-ldl"], check=True)
+    return refusals.Memory(library, memory_folder / "counts")
+
+
+@pytest.fixture
+def disk(tmp_path):
+    """What refuses calls on the files of a store."""
+    return refusals.Disk(tmp_path)
