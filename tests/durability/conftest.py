@@ -13,7 +13,7 @@ INPUTS = ("crates/rd_trials/data", "crates/rd_main/stdin", "images")
 DRAWS = True
 HERE = pathlib.Path(__file__).parent
 # Asks glibc to take memory in large pages: the system makes these in much less time than small ones.
-LARGE_PAGES = "glibc.malloc.hugetlb=1:glibc.malloc.top_pad=8388608"
+LARGE_PAGES = "glibc.malloc.hugetlb=1:glibc.malloc.mmap_threshold=100000000:glibc.malloc.top_pad=16777216"
 
 
 @pytest.fixture(scope="session")

@@ -160,10 +160,10 @@ def dump_of(folder):
                 return str(fault)
 
 
-def reply_to(request, port):
+def reply_to(request, place):
     """What comes of a request, as far as it comes: a command to which something is refused may end at any byte."""
     came = b""
-    with contextlib.suppress(ConnectionError), server.socket_at(port) as connection:
+    with contextlib.suppress(ConnectionError), server.socket_at(place) as connection:
         connection.sendall(request)
         while part := connection.recv(4096):
             came += part
