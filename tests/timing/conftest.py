@@ -1,0 +1,31 @@
+"""Ratios of times, taken in turn so that the load of the machine is the same. Each test reports its ratios; the long ones
+also bound them."""
+
+import pytest
+from large_museums import Museum
+
+INPUTS = ("operate", "web", "images")
+
+
+@pytest.fixture(scope="module")
+def museums(program, tmp_path_factory):
+    """Museums by the number of their disks."""
+    made, folder = {}, tmp_path_factory.mktemp("museums")
+
+    def museum(disks):
+        if disks not in made:
+            made[disks] = Museum(program, str(folder / f"{disks}.sqlite"), disks)
+        return made[disks]
+
+    return museum
+
+
+@pytest.fixture
+def bounded(request):
+    """Reports a ratio; a long test fails where it is more than it may be."""
+
+    def see(what, came, most):
+        print(f"{what}: {came:.2f} times (at most {most})", flush=True)
+        assert came <= most or not request.node.get_closest_marker("long"), f"{what}: {came:.2f} times"
+
+    return see

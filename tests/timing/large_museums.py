@@ -1,0 +1,117 @@
+"""Museums of many disks, desks that serve them as the service does, and how long visits take."""
+
+import contextlib
+import datetime
+import hashlib
+import pathlib
+import re
+import sqlite3
+import statistics
+import subprocess
+import time
+
+import pytest
+from support import cbm_image
+from support.samples import ALL, ROOM, STAFF, badge, put, put_image, put_rule
+from support.server import Serving, bytes_of, client_at
+
+LONG = [pytest.mark.long, pytest.mark.timeout(3600)]
+# One deed has a tenth of the disks, there are ten disks for each deed, and each tenth disk has a takedown.
+LARGE_DEED, TENTH, CHECKS = 7, 10, 30
+# The files of each disk: those that the reading room may read, and one that is denied to it.
+FILES = [(0x82, b"FILE %d" % n, (bytes(range(250)) * 20)[: 2000 + 500 * n]) for n in range(7)]
+DISK = cbm_image.filled(b"MUSEUM", [*FILES, (0x82, b"SECRET", bytes(900))])
+EVERYBODY = {"all": True}
+FIRST = [
+    put(f"/deeds/{LARGE_DEED}", {"donor": "A. Curator", "signed": "2019-05-04"}),
+    put(badge(ROOM), {"audience": "room"}),
+    put_image(1, "d64", LARGE_DEED, DISK),
+]
+
+
+def ask(server, asked):
+    """The body of a reply that is 200."""
+    with contextlib.closing(client_at(server.port)) as connection:
+        connection.request(asked.method, asked.path, asked.body, {} if asked.key is None else {"Desk-Key": asked.key})
+        reply = connection.getresponse()
+        body = reply.read()
+    assert reply.status == 200, (asked[:3], body[:300])
+    return body
+
+
+def seconds(server, question):
+    """How long a visit takes, whose reply is the one that is due."""
+    asked, is_due = question
+    begun = time.monotonic()
+    body = ask(server, asked)
+    taken = time.monotonic() - begun
+    assert is_due(body), (asked[:3], body[:300])
+    return taken
+
+
+def medians(turns, count):
+    """How long each of several things takes, done in turn: the medians of so many times."""
+    taken = [[turn() for turn in turns] for _ in range(count)]
+    return [statistics.median(times) for times in zip(*taken)]
+
+
+def disk_of(acc):
+    """The disk of an accession, with its number where no file is."""
+    at = cbm_image.place(18, 0) + 200
+    return DISK[:at] + acc.to_bytes(4, "big") + DISK[at + 4 :]
+
+
+class Museum:
+    """A store of so many disks. The desk makes it, with one disk, and SQLite the other rows: the desk records no check of
+    another day than today's. When the desk opens a store, it refuses what it could not have written itself."""
+
+    def __init__(self, program, store, disks):
+        self.program, self.store, self.disks = program, store, disks
+        self.large = range(1, disks // TENTH + 1)
+        self.deeds = [LARGE_DEED, *range(1001, 1000 + max(2, disks // TENTH))]
+        self.takedowns = range(TENTH, disks + 1, TENTH)
+        subprocess.run([program, "init", "--store", store, "--key", STAFF], check=True, capture_output=True)
+        with self.serving() as server:
+            for asked in FIRST:
+                ask(server, asked)
+        with contextlib.closing(sqlite3.connect(store)) as connection, connection:
+            self.write(connection)
+
+    def write(self, connection):
+        """The rows that the desk would have written by PUT, and on thirty days by POST."""
+        rest, last = range(2, self.disks + 1), (datetime.date.today() - datetime.date(1970, 1, 1)).days
+        connection.executemany("INSERT INTO deed VALUES (?, 'B. Donor', 18321)", ((num,) for num in self.deeds[1:]))
+        connection.executemany("INSERT INTO image VALUES (?, 1, ?, ?, ?)", map(self.image_row, rest))
+        columns = "slot, name, ty, user_no, served, size, faults, units, last_len"
+        copies = f"INSERT INTO found SELECT ?, {columns} FROM found WHERE acc = 1"
+        connection.executemany(copies, ((acc,) for acc in rest))
+        connection.executemany("INSERT INTO rule VALUES (?, ?, ?, ?, NULL, NULL, ?, ?, ?, ?)", self.rule_rows())
+        days = [(acc, day) for acc in range(1, self.disks + 1) for day in range(last - CHECKS, last)]
+        connection.executemany("INSERT INTO checked VALUES (?, ?, 0)", days)
+
+    def image_row(self, acc):
+        image = disk_of(acc)
+        deed = LARGE_DEED if acc in self.large else self.deeds[1 + acc % (len(self.deeds) - 1)]
+        return acc, deed, hashlib.sha256(image).digest(), image
+
+    def rule_rows(self):
+        """Two rules of each deed, and the takedowns: band, scope, rank, audiences, selector, effect."""
+        for num in self.deeds:
+            yield 1, num, 10, 3, 2, 0, "SECRET", 0
+            yield 1, num, 30, 7, 0, 0, "", 2
+        for acc in self.takedowns:
+            yield 0, acc, 1, 7, 1, 150, "", 0
+
+    @contextlib.contextmanager
+    def serving(self):
+        """A desk that serves the museum, with the variable of the C library that the service sets."""
+        variable = re.search(r"^Environment=(MALLOC_TRIM_THRESHOLD_)=(\d+)$", bytes_of("operate", "desk.service").decode(), re.M)
+        with Serving(self.program, self.store, environment={variable[1]: variable[2]}) as server:
+            server.listens()
+            yield server
+
+
+def megabytes(server, name):
+    """The memory of a desk by a field of its status."""
+    status = pathlib.Path(f"/proc/{server.process.pid}/status").read_text()
+    return int(re.search(rf"^{name}:\s+(\d+) kB$", status, re.M)[1]) * 1024 / 1e6
