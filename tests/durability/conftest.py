@@ -11,8 +11,7 @@ import refusals
 
 INPUTS = ("crates/rd_trials/data", "crates/rd_main/stdin", "images")
 DRAWS = True
-HERE = pathlib.Path(__file__).parent
-# Asks glibc to take memory in large pages: the system makes these in much less time than small ones.
+# Has glibc take memory in large pages, which the system makes in much less time than small ones.
 LARGE_PAGES = "glibc.malloc.hugetlb=1:glibc.malloc.mmap_threshold=100000000:glibc.malloc.top_pad=16777216"
 
 
@@ -20,15 +19,9 @@ LARGE_PAGES = "glibc.malloc.hugetlb=1:glibc.malloc.mmap_threshold=100000000:glib
 def memory_folder():
     """A folder in the system's memory, if it has one: stores there are written thousands of times."""
     room = "/dev/shm" if os.access("/dev/shm", os.W_OK) else None
-    with tempfile.TemporaryDirectory(dir=room, prefix="desk-durability-") as name:
-        yield pathlib.Path(name)
-
-
-@pytest.fixture(scope="session", autouse=True)
-def large_pages():
-    with pytest.MonkeyPatch.context() as patch:
+    with tempfile.TemporaryDirectory(dir=room) as name, pytest.MonkeyPatch.context() as patch:
         patch.setenv("GLIBC_TUNABLES", LARGE_PAGES)
-        yield
+        yield pathlib.Path(name)
 
 
 @pytest.fixture
@@ -44,12 +37,6 @@ def place(program, memory_folder):
 @pytest.fixture(scope="session")
 def memory(memory_folder):
     """What refuses growths of memory."""
-    library = memory_folder / "refuse.so"
-    subprocess.run(["gcc", "-O2", "-shared", "-fPIC", "-o", library, HERE / "refuse.c", "-ldl"], check=True)
+    library, source = memory_folder / "refuse.so", pathlib.Path(__file__).with_name("refuse.c")
+    subprocess.run(["gcc", "-O2", "-shared", "-fPIC", "-o", library, source, "-ldl"], check=True)
     return refusals.Memory(library, memory_folder / "counts")
-
-
-@pytest.fixture
-def disk(tmp_path):
-    """What refuses calls on the files of a store."""
-    return refusals.Disk(tmp_path)

@@ -4,7 +4,6 @@ import collections
 import contextlib
 import dataclasses
 import hashlib
-import os
 import pathlib
 import re
 import shutil
@@ -13,28 +12,16 @@ import struct
 import subprocess
 import tempfile
 
-import pytest
 import refused_commands
 from support import server
 from support.samples import DONE
 
-LIMIT = 600
-STORE = "museum.sqlite"
+STORE, LIMIT = "museum.sqlite", 600
 # Lines by which a command says that its store failed, which cannot tell why, and that it cannot read the last checks.
 NO_STORE, NO_CHECKS = b"desk: store", b"desk: clock"
-UNAVAILABLE = b'{"error":"unavailable"}'
-
-# How many calls of a command are refused one by one: some, or all of them.
-DRAWN_OR_ALL = [
-    pytest.param(8, id="drawn"), pytest.param(None, id="all", marks=[pytest.mark.long, pytest.mark.timeout(3600)])
-]
 
 # How a run ended, with the reply to a visitor.
 Ended = collections.namedtuple("Ended", "status output errors reply")
-
-
-# What is refused: words and variables that have it refused to a command, how many calls a command makes, and whether
-# one was refused
 
 
 class Memory:
@@ -45,20 +32,18 @@ class Memory:
     def __init__(self, library, counts):
         self.library, self.counts = library, counts
 
-    def words(self, _, at):
-        told = {"REFUSE_AT": at, "REFUSE_COUNTS": self.counts, "LD_PRELOAD": self.library}
-        return ["env", *(f"{name}={value}" for name, value in told.items())]
+    def words(self, _, at=0):
+        return ["env", f"REFUSE_AT={at}", f"REFUSE_COUNTS={self.counts}", f"LD_PRELOAD={self.library}"]
 
     def counted(self):
         """How many growths were asked for, how many were refused, and the first that failed a child."""
         return struct.unpack("3l", self.counts.read_bytes())
 
-    def calls(self, place, command):
-        place.run(command, self.words(place, 0))
+    def calls(self):
         return self.counted()[0]
 
-    def has_refused(self):
-        return self.counted()[1] == 1
+    def refused(self):
+        return self.counted()[1]
 
 
 class Disk:
@@ -67,49 +52,39 @@ class Disk:
     line, may_be_done = NO_STORE, True
     names = ("pread64", "pwrite64", "ftruncate", "fsync", "fdatasync", "statx")
 
-    def __init__(self, folder):
-        self.told, self.made = folder / "calls", []
+    def __init__(self, told):
+        self.told, self.made = told, []
 
-    def words(self, place, at):
+    def words(self, place, at=0):
         """strace counts the calls of each name by themselves."""
-        before = collections.Counter(self.made[: at - 1]) if at else {}
-        refused = [f"inject={name}:error=EIO:when={before[name] + 1}+" for name in self.names] if at else []
-        files = [place.now, *(place.now / f"{STORE}{suffix}" for suffix in ("", "-wal"))]
-        options = [f"trace={','.join(self.names)}", *refused]
-        words = [*(f"-e{word}" for word in options), *(f"-P{file}" for file in files)]
-        return ["strace", "-f", "-q", "--seccomp-bpf", "-o", self.told, *words]
+        before = collections.Counter(self.made[: at - 1])
+        refused = [f"-einject={name}:error=EIO:when={before[name] + 1}+" for name in self.names if at]
+        files = [f"-P{path}" for path in (place.now, place.now / STORE, place.now / f"{STORE}-wal")]
+        return ["strace", "-f", "-q", "--seccomp-bpf", "-o", self.told, f"-etrace={','.join(self.names)}", *refused, *files]
 
-    def calls(self, place, command):
-        place.run(command, self.words(place, 0))
+    def calls(self):
         self.made = re.findall(r"^\d+ +(\w+)\(", self.told.read_text(), re.M)
         return len(self.made)
 
-    def has_refused(self):
-        return "(INJECTED)" in self.told.read_text()
-
-
-# Where commands run, and what their stores hold
+    def refused(self):
+        return self.told.read_text().count("(INJECTED)")
 
 
 class Place:
-    """A folder with what commands are given, one with the store that runs now, and a port."""
+    """Where commands run: a folder with what they are given, one with the store that runs now, and a port."""
 
     def __init__(self, program, folder):
         self.work, self.now, self.port = folder / "given", folder / "now", server.free_port()
-        self.places = {"desk": program, "store": self.now / STORE, "folder": self.now, "port": self.port,
-                       "work": self.work}
+        self.names = {"desk": program, "store": self.now / STORE, "folder": self.now, "port": self.port, "work": self.work}
         (self.work / "none").mkdir(parents=True)
-        self.take_folder(self.work / "none")
         refused_commands.fill(self.work)
-        self.dumps = {}
-        self.known = {"none": self.held()}
+        self.dumps, self.known = {}, {}
 
     def run(self, command, before=()):
         """How a command ends, behind some words that have something refused to it."""
-        words = [*map(str, before), *(word.format(**self.places) for word in command.words)]
-        pipe, stdin = subprocess.PIPE, subprocess.DEVNULL if command.image is None else subprocess.PIPE
-        begins = reply = b""
-        with subprocess.Popen(words, stdin=stdin, stdout=pipe, stderr=pipe) as process:
+        words = [*map(str, before), *(word.format(**self.names) for word in command.words)]
+        pipe, begins, reply = subprocess.PIPE, b"", b""
+        with subprocess.Popen(words, stdin=pipe, stdout=pipe, stderr=pipe) as process:
             try:
                 if command.request:
                     begins = process.stdout.readline()
@@ -119,24 +94,17 @@ class Place:
                 process.kill()
         return Ended(process.returncode, begins + output, errors, reply)
 
-    def take_folder(self, folder):
-        shutil.rmtree(self.now, ignore_errors=True)
-        shutil.copytree(folder, self.now)
-
     def take(self, name):
         """Makes the folder of the store a copy of one that has the store of a name."""
-        if name not in self.known:
+        if not (self.work / name).exists():
             before, words = refused_commands.STORES[name]
             self.take(before)
             ran = self.run(refused_commands.Command(words))
             assert ran.status == 0, f"store {name}: {ran}"
             shutil.copytree(self.now, self.work / name)
-            self.known[name] = self.held()
-        self.take_folder(self.work / name)
-
-    def holds(self, *names):
-        """Whether the store is one of some that are known."""
-        return self.held() in [self.known[name] for name in names if name]
+        shutil.rmtree(self.now, ignore_errors=True)
+        shutil.copytree(self.work / name, self.now)
+        self.known[name] = self.held()
 
     def digests(self):
         return tuple((path.name, hashlib.sha256(path.read_bytes()).digest()) for path in sorted(self.now.iterdir()))
@@ -150,9 +118,9 @@ class Place:
 
 
 def dump_of(folder):
-    """The SHA-256 of all statements that make a store, of a copy of which SQLite reads them; or its fault."""
+    """All statements that make a store, of a copy of which SQLite reads them, as a digest; or SQLite's fault."""
     with tempfile.TemporaryDirectory(dir=folder.parent) as name:
-        copy = pathlib.Path(shutil.copytree(folder, pathlib.Path(name, "copy"))) / STORE
+        copy = pathlib.Path(shutil.copytree(folder, pathlib.Path(name, "copy")), STORE)
         with contextlib.closing(sqlite3.connect(copy)) as connection:
             try:
                 return hashlib.sha256("\n".join(connection.iterdump()).encode()).hexdigest()
@@ -161,62 +129,13 @@ def dump_of(folder):
 
 
 def reply_to(request, place):
-    """What comes of a request, as far as it comes: a command to which something is refused may end at any byte."""
+    """What comes of a request, as far as it comes: a desk that is killed or fails may end at any byte."""
     came = b""
     with contextlib.suppress(ConnectionError), server.socket_at(place) as connection:
         connection.sendall(request)
-        while part := connection.recv(4096):
+        while part := connection.recv(65536):
             came += part
     return came
-
-
-# How a command may end
-
-
-def is_as_ever(ran, ever):
-    """A run ended as one to which nothing is refused; of an explanation it may leave lines out."""
-    told, told_ever = ran.errors.splitlines(), ever.errors.splitlines()
-    left = iter(told_ever)
-    return ran._replace(errors=b"") == ever._replace(errors=b"") and told[:1] == told_ever[:1] and all(
-        line in left for line in told
-    )
-
-
-def says_so(command, ran, refusal):
-    """A run says what was refused, or at a store perhaps that this failed, and below it no more than an explanation."""
-    told, *explained = ran.errors.splitlines() or [b""]
-    named = [refusal.line]
-    if command.has_store and (command.has_rows or not ran.output):
-        named.append(NO_STORE)
-    if command.begins and ran.output:
-        named.append(NO_CHECKS)
-    return ran.status == 3 and told in named and all(line.startswith(b"  ") for line in explained)
-
-
-def leaves_what_it_may(place, command, ran, ever, refusal):
-    """What a run wrote that was refused, and the store that it left."""
-    before, after, lines = command.stores[0], command.stores[-1], ran.output.count(b"\n")
-    if command.request:
-        return leaves_a_visit(place, command, ran, ever, refusal)
-    if not says_so(command, ran, refusal):
-        return False
-    if command.has_rows:
-        # behind the last row it needs memory, but no disk
-        is_front = ever.output.startswith(ran.output) and ran.output[-1:] in (b"", b"\n")
-        is_before_end = lines < len(command.stores) - (1 if refusal.may_be_done else 0)
-        return is_front and is_before_end and place.holds(*command.stores[lines : lines + 2])
-    is_front = ran.output in (b"", command.begins.format(**place.places).encode())
-    return is_front and place.holds(before, command.between, *((after, command.torn) if refusal.may_be_done else ()))
-
-
-def leaves_a_visit(place, command, ran, ever, refusal):
-    """A visitor was told what stands: done, or unavailable. Where no reply comes, nothing is done."""
-    before, after = command.stores
-    if not says_so(command, ran, refusal) and ran[:3] != ever[:3]:
-        return False
-    if ran.reply.endswith(UNAVAILABLE):
-        return place.holds(before, after if refusal.may_be_done else None)
-    return DONE.startswith(ran.reply) and place.holds(after if ran.reply else before)
 
 
 @dataclasses.dataclass
@@ -228,54 +147,77 @@ class Sweep:
     refusal: Memory | Disk
 
     def __post_init__(self):
-        for name in (*self.command.stores, self.command.between, self.command.torn):
-            if name:
-                self.place.take(name)
-        self.ever, self.done_again = self.run(), set()
-        assert self.ever.status == self.command.status, self.ever
-        assert self.command.part in self.ever.output + self.ever.errors, self.ever
-        assert self.place.holds(self.command.stores[-1]), "without a refusal it leaves another store"
-        self.place.take(self.command.stores[0])
-        self.count = self.refusal.calls(self.place, self.command)
+        command, place = self.command, self.place
+        for name in (*command.stores, *command.also, "torn", command.stores[0]):
+            place.take(name)
+        self.ever, self.did_again = place.run(command), set()
+        assert self.ever.status == command.status and command.part in self.ever.output + self.ever.errors, self.ever
+        assert self.holds(command.stores[-1]), "another store, though nothing is refused"
+        place.take(command.stores[0])
+        place.run(command, self.refusal.words(place))
+        self.count = self.refusal.calls()
         assert self.count > 0, "there is nothing to refuse"
 
-    def run(self):
-        self.place.take(self.command.stores[0])
-        return self.place.run(self.command)
+    def holds(self, *names):
+        return self.place.held() in [self.place.known[name] for name in names]
 
-    def drawn(self, chance, most):
-        """The numbers of some calls, the first and the last among them; or of all."""
-        numbers = range(1, self.count + 1)
-        return sorted({1, self.count, *chance.sample(numbers, min(most, self.count))}) if most else numbers
+    def faults(self, chance, most):
+        """What is wrong where some calls are refused one by one, the first and the last among them; or where all are."""
+        every = range(1, self.count + 1)
+        numbers = sorted({1, self.count, *chance.sample(every, min(most, self.count))}) if most else every
+        found = ((at, self.fault(at)) for at in numbers)
+        return [f"call {at} of {self.count}: {fault}" for at, fault in found if fault]
 
     def fault(self, at):
-        """What is wrong where the call of a number is refused."""
-        place, command = self.place, self.command
-        place.take(command.stores[0])
-        ran = place.run(command, self.refusal.words(place, at))
-        assert self.refusal.has_refused(), f"call {at} of {self.count} did not come: {ran}"
-        if is_as_ever(ran, self.ever):
-            return None if place.holds(command.stores[-1]) else ("another store", ran)
-        if not leaves_what_it_may(place, command, ran, self.ever, self.refusal):
-            return "neither done nor refused", ran
+        self.place.take(self.command.stores[0])
+        ran = self.place.run(self.command, self.refusal.words(self.place, at))
+        assert self.refusal.refused(), f"call {at} of {self.count} did not come: {ran}"
+        if self.is_as_ever(ran):
+            return None if self.holds(self.command.stores[-1]) else f"done, with another store: {ran}"
+        if not (self.is_refused(ran) and self.holds(*self.may_hold(ran))):
+            return f"neither done nor refused: {ran}"
         return self.fault_again()
+
+    def is_as_ever(self, ran):
+        """It ended as where nothing is refused; of an explanation it may leave lines out."""
+        told, ever = ran.errors.splitlines(), self.ever.errors.splitlines()
+        left = iter(ever)
+        is_same = ran._replace(errors=b"") == self.ever._replace(errors=b"") and told[:1] == ever[:1]
+        return is_same and all(line in left for line in told)
+
+    def is_refused(self, ran):
+        """It says what was refused, or at a store perhaps that this failed, and below it no more than an explanation;
+        before that it wrote the first rows, or that it listens, or nothing. Or it served a visit."""
+        command, lines = self.command, ran.output.count(b"\n")
+        # behind the last row it needs memory, but no disk
+        most = len(command.stores) - 1 - self.refusal.may_be_done if command.has_rows else int("serve" in command.words)
+        is_front = self.ever.output.startswith(ran.output) and ran.output[-1:] in (b"", b"\n") and lines <= most
+        told, *explained = ran.errors.splitlines() or [b""]
+        named = {self.refusal.line, NO_CHECKS if lines and not command.has_rows else self.refusal.line}
+        named |= {NO_STORE} if "{store}" in command.words and (command.has_rows or not lines) else set()
+        says_so = ran.status == 3 and told in named and all(line.startswith(b"  ") for line in explained)
+        return (says_so and is_front) or (bool(command.request) and ran[:3] == self.ever[:3])
+
+    def may_hold(self, ran):
+        """The stores that a run may leave that was refused."""
+        (before, *_, after), lines = self.command.stores * 2, ran.output.count(b"\n")
+        if self.command.has_rows:
+            return self.command.stores[lines : lines + 2]
+        if ran.reply and DONE.startswith(ran.reply):
+            return [after]
+        may_be_done = self.refusal.may_be_done and (ran.reply or not self.command.request)
+        is_torn = self.refusal.may_be_done and before == "none"
+        return [before, *self.command.also, *([after] if may_be_done else []), *(["torn"] if is_torn else [])]
 
     def fault_again(self):
         """What is wrong with a second run, to which nothing is refused, over what the first one left. It hangs on the
         bytes of the store alone: those from which it did all are left out."""
-        if not self.command.has_store:
+        left, (before, *_, after) = self.place.digests(), self.command.stores * 2
+        is_done = self.refusal.may_be_done and self.holds(after) and not self.holds(before)
+        if "{store}" not in self.command.words or left in self.did_again or is_done:
             return None
-        place, left = self.place, self.place.digests()
-        is_done = self.refusal.may_be_done and len(self.command.stores) > 1 and place.holds(self.command.stores[-1])
-        if left in self.done_again or (is_done and not place.holds(self.command.stores[0])):
-            return None
-        ran = place.run(self.command)
-        if ran != self.ever or not place.holds(self.command.stores[-1]):
-            return "a second run does something else", ran
-        self.done_again.add(left)
+        ran = self.place.run(self.command)
+        if ran != self.ever or not self.holds(after):
+            return f"a second run does something else: {ran}"
+        self.did_again.add(left)
         return None
-
-    def faults(self, numbers):
-        """What is wrong with each of some calls."""
-        found = ((at, self.fault(at)) for at in numbers)
-        return [(f"call {at} of {self.count}", *fault) for at, fault in found if fault]

@@ -1,8 +1,6 @@
 /* A preloaded allocator: it counts the calls of malloc and realloc, and answers NULL to the one of number REFUSE_AT.
-   With REFUSE_EACH it refuses each call in turn, in a child of the process, which goes on alone; the process waits until
-   the child has ended, and goes on with the call. What came of that is in the file REFUSE_COUNTS.
-
-   Random numbers are the same in each run, so that runs which do the same leave the same bytes. */
+   With REFUSE_EACH it refuses each in turn, in a child of the process, which goes on alone; the process waits for it and
+   goes on with the call. Random numbers are the same in each run, so that runs which do the same leave the same bytes. */
 #define _GNU_SOURCE
 #include <dlfcn.h>
 #include <errno.h>
@@ -13,27 +11,9 @@
 #include <sys/wait.h>
 #include <unistd.h>
 
-/* After how many seconds a child is given up. */
-#define LIMIT 600
-
-/* How many calls came, how many were refused, and the first after which a child failed. */
-static struct counts { long calls, refused, failed; } own, *counts;
-static long at;
-static int is_each;
-
-static void begin(void)
-{
-    const char *path = getenv("REFUSE_COUNTS"), *number = getenv("REFUSE_AT");
-    int file = path ? open(path, O_CREAT | O_RDWR | O_TRUNC, 0600) : -1;
-    counts = &own;
-    at = number ? atol(number) : 0;
-    is_each = getenv("REFUSE_EACH") != NULL;
-    if (file < 0)
-        return;
-    if (ftruncate(file, sizeof own) == 0)
-        counts = mmap(NULL, sizeof own, PROT_READ | PROT_WRITE, MAP_SHARED, file, 0);
-    close(file);
-}
+/* What is in the file REFUSE_COUNTS: how many calls came, how many were refused, and the first that failed a child. */
+static struct { long calls, refused, failed; } own, *counts;
+static int is_child;
 
 static int refuses_in_a_child(void)
 {
@@ -42,12 +22,10 @@ static int refuses_in_a_child(void)
     if (child == 0) {
         own = *counts;
         counts = &own;
-        is_each = 0;
-        alarm(LIMIT);
-        return 1;
+        alarm(600);
+        return is_child = 1;
     }
-    if (child > 0)
-        waitpid(child, &status, 0);
+    waitpid(child, &status, 0);
     counts->refused++;
     if (status && !counts->failed)
         counts->failed = counts->calls;
@@ -56,10 +34,16 @@ static int refuses_in_a_child(void)
 
 static int refuses(void)
 {
-    if (!counts)
-        begin();
+    const char *at = getenv("REFUSE_AT");
+    if (!counts) {
+        int file = open(getenv("REFUSE_COUNTS"), O_CREAT | O_RDWR | O_TRUNC, 0600);
+        if (file < 0 || ftruncate(file, sizeof own))
+            abort();
+        counts = mmap(NULL, sizeof own, PROT_READ | PROT_WRITE, MAP_SHARED, file, 0);
+        close(file);
+    }
     counts->calls++;
-    if (is_each ? !refuses_in_a_child() : counts->calls != at)
+    if (!is_child && getenv("REFUSE_EACH") ? !refuses_in_a_child() : !at || counts->calls != atol(at))
         return 0;
     counts->refused++;
     errno = ENOMEM;

@@ -1,5 +1,5 @@
-"""Each growth of memory that a command asks for is refused in turn: it does its work, or says that memory was refused
-and leaves the store as it was, and a second run does the work. The tests of crates pass with each growth refused."""
+"""A growth of memory is refused to a command, or the disk fails from a call on: it does its work, or says what failed and
+leaves its store whole, and a second run does the work. The tests of crates pass with each growth of memory refused."""
 
 import concurrent.futures
 import os
@@ -14,22 +14,24 @@ from support.server import ROOT
 
 COMMANDS = OVER_STORES | WITHOUT_STORE
 PROGRAM = "crates/rd_main/out/rd_main"
+LONG = [pytest.mark.long, pytest.mark.timeout(3600)]
+# How many calls of a command are refused one by one: some that are drawn, or all.
+MOST = pytest.mark.parametrize("most", [pytest.param(10, id="drawn"), pytest.param(None, id="all", marks=LONG)])
 
 
-@pytest.mark.parametrize("most", refusals.DRAWN_OR_ALL)
+@MOST
 @pytest.mark.parametrize("name", COMMANDS)
 def test_command_loses_nothing_where_a_growth_of_memory_is_refused(name, most, place, memory, chance):
-    sweep = refusals.Sweep(place, COMMANDS[name], memory)
-    assert not sweep.faults(sweep.drawn(chance, most))
+    assert not refusals.Sweep(place, COMMANDS[name], memory).faults(chance, most)
 
 
-def built_tests(program, crate):
-    """The tests of a crate, where they were built with the program; in this repository where it lies by itself."""
-    tree = program.removesuffix(PROGRAM) if program.endswith(f"/{PROGRAM}") else ROOT
-    path = pathlib.Path(tree, "crates", crate, "out", f"{crate}_tests")
-    if not os.access(path, os.X_OK):
-        pytest.fail(f"not built: {path}; rt ci or rt test builds it", pytrace=False)
-    return path
+@MOST
+@pytest.mark.parametrize("name", OVER_STORES)
+def test_command_loses_nothing_where_the_disk_fails(name, most, place, tmp_path, chance):
+    assert not refusals.Sweep(place, OVER_STORES[name], refusals.Disk(tmp_path / "calls")).faults(chance, most)
+
+
+# The tests of crates
 
 
 def ran(words, **settings):
@@ -48,21 +50,24 @@ def plans_of(tests, name):
 
 def fault_of(memory, folder, tests, name, plan):
     """What is wrong with a test, or a plan of it, of which each growth is refused in a child of its own."""
-    counts = folder / "-".join([tests.name, name.replace(":", "-"), *plan.values()])
-    refusing = {"LD_PRELOAD": str(memory.library), "REFUSE_COUNTS": str(counts), **plan}
+    memory = refusals.Memory(memory.library, folder / "-".join([tests.name, name.replace(":", "-"), *plan.values()]))
+    refusing = {"LD_PRELOAD": str(memory.library), "REFUSE_COUNTS": str(memory.counts), **plan}
     ended = ran([tests, name], **refusing, REFUSE_EACH="1")
-    calls, refused, failed = refusals.Memory(memory.library, counts).counted()
+    calls, refused, failed = memory.counted()
     if ended.returncode == 0 and calls == refused > 0 and not failed:
         return None
     again = ran([tests, name], **refusing, REFUSE_AT=str(failed)) if failed else ended
-    return f"{name} {plan}: {refused} of {calls} growths refused; growth {failed}: {(again.stdout + again.stderr)[-500:]}"
+    return f"{name} {plan}: {refused} of {calls} refused; growth {failed}: {(again.stdout + again.stderr)[-500:]}"
 
 
 @pytest.mark.long
 @pytest.mark.timeout(3 * 3600)
 @pytest.mark.parametrize("crate", ["rd_policy_tests", "rd_disk_tests", "rd_tests"])
 def test_tests_of_a_crate_pass_with_each_growth_of_memory_refused(crate, program, memory, memory_folder):
-    tests = built_tests(program, crate)
+    """The tests are those that were built with the program, or in this repository where it lies by itself."""
+    tree = program.removesuffix(PROGRAM) if program.endswith(f"/{PROGRAM}") else ROOT
+    tests = pathlib.Path(tree, "crates", crate, "out", f"{crate}_tests")
+    assert os.access(tests, os.X_OK), f"not built: {tests}; rt ci or rt test builds it"
     names = re.findall(r"^(tests::.*_when_memory_is_refused): test$", ran([tests, "--list"]).stdout, re.M)
     plans = [(name, plan) for name in names for plan in plans_of(tests, name)]
     assert plans and {name for name, _ in plans} == set(names)
