@@ -12,9 +12,9 @@ import tempfile
 import pytest
 from refusals import reply_to
 from support.clients import noon_zone
-from support.drawn_commands import data_of
 from support.samples import (
-    ALL, DONE, EVERY, MARKED_DISK, PROGRAM_DISK, ROOM, SOUND, STAFF, badge, check, get, put, put_image, put_rule, survey,
+    ALL, DONE, EVERY, MARKED_DISK, PROGRAM_DISK, ROOM, SOUND, STAFF, badge, check, get, put, put_image, put_rule, raw,
+    survey,
 )
 from support.server import LIMIT, Serving
 
@@ -63,7 +63,7 @@ class Store:
         with Serving(self.program, self.path, len(asked) + is_killed, self.zone, place=self.place) as desk:
             if desk.line() != desk.wanted_line():
                 return [desk.end()]
-            came = [reply_to(data_of(one), self.place) for one in asked]
+            came = [reply_to(raw(one), self.place) for one in asked]
             return came if is_killed or desk.end()[0] == 0 else [*came, "it does not end well"]
 
     def restore(self, log=None):

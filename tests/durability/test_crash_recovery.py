@@ -1,90 +1,157 @@
-"""A desk is killed at any moment, while it opens its store, serves commands or imports a sheet: what it told as done
-stands, and the command that was cut off is there whole or not at all. This is what a kill leaves on the file system of
-this machine, and not what a loss of power leaves."""
+"""A desk is killed at any moment, while it opens its store, serves commands or imports a sheet. What it told as done
+stands, and the command that was cut off is there whole or not at all: the store holds what another one has in which the
+same commands were never cut off. This is what a kill leaves on this machine, and not what a loss of power leaves."""
 
 import collections
 import contextlib
-import copy
-import datetime
 import hashlib
-import os
+import itertools
 import pathlib
 import shutil
 import signal
 import sqlite3
 import subprocess
+import tempfile
 import threading
 import time
 
 import pytest
 from refusals import reply_to
 from support.clients import noon_zone
-from support.drawn_commands import NAMES, Chance, Museum
-from support.drawn_disks import MAKERS, KnownDisks
-from support.samples import STAFF, put, put_image
-from support.server import LIMIT, Serving
+from support.samples import ALL, DONE, SOUND, STAFF, badge, check, digest, drop, put, put_image, put_rule, raw
+from support.server import LIMIT, Serving, bytes_of
 
-DEEDS, ROWS, OTHERS = range(1, 4), range(101, 141), range(16)
+DEEDS, ROWS = range(1, 4), range(101, 141)
+DISKS = [("cpm8", "welcome.img"), ("d64", "museum.d64"), ("d64e", "damaged.d64")]
 # How often a run is killed while it opens the store, and at which of its commands it is killed at the latest.
 EARLY, LATEST = 0.1, 8
-SUFFIXES = ("", "-wal", "-shm")
+SIGNS, DAYS = "AÄß 字'\"\\", ["0001-01-01", "2019-05-04", "2030-01-01", "9999-12-31"]
+SELECTS = [{"all": True}, {"slot": 1}, {"prefix": "FILE"}, {"user": 3}, {"type": "PRG"}]
+LOG = "-wal"
+
+
+def disk_of(number):
+    """A disk of one of all kinds, that no other number has."""
+    kind, name = DISKS[number % len(DISKS)]
+    image = bytes_of("images", name)
+    return kind, image[:100] + number.to_bytes(4, "big") + image[104:]
+
+
+class Commands:
+    """Commands of all kinds by chance, none of which is refused."""
+
+    def __init__(self, chance):
+        self.chance, self.numbers = chance, itertools.count(1001)
+        self.weights = {"image": 6, "deed": 3, "rule": 4, "drop_rule": 4, "key": 2, "drop_key": 1, "takedown": 4, "check": 2}
+
+    def any(self, tables):
+        """The name and the request of a command for a store with some tables."""
+        names = [name for name in self.weights if tables["image"] or name not in ("takedown", "check")]
+        [name] = self.chance.choices(names, [self.weights[name] for name in names])
+        return name, getattr(self, name)(tables)
+
+    def image(self, _):
+        number = next(self.numbers)
+        kind, image = disk_of(number)
+        return put_image(number, kind, self.chance.choice(DEEDS), image)
+
+    def deed(self, _):
+        donor = "".join(self.chance.choices(SIGNS, k=self.chance.randint(1, 300)))
+        return put(f"/deeds/{self.chance.randint(1, 9)}", {"donor": donor, "signed": self.chance.choice(DAYS)})
+
+    def rule(self, _):
+        return self.at_rank(f"/deeds/{self.chance.choice(DEEDS)}", ["deny", "list", "read"])
+
+    def takedown(self, tables):
+        return self.at_rank(f"/images/{self.chance.choice(tables['image'])[0]}", ["deny", "list"])
+
+    def at_rank(self, scope, effects):
+        audiences = self.chance.sample(ALL, self.chance.randint(1, 3))
+        days = {name: self.chance.choice(DAYS) for name in ("from", "until") if self.chance.random() < 0.3}
+        path = f"{scope}/rules/{self.chance.randint(1, 4)}"
+        return put_rule(path, self.chance.choice(effects), self.chance.choice(SELECTS), *audiences, **days)
+
+    def drop_rule(self, tables):
+        band, scope, rank = self.chance.choice([row[:3] for row in tables["rule"]] or [(1, 1, 1)])
+        return drop(f"/{('images', 'deeds')[band]}/{scope}/rules/{rank}")
+
+    def key(self, _):
+        return put(badge(f"key {self.chance.randint(1, 4)}"), {"audience": self.chance.choice(["room", "staff"])})
+
+    def drop_key(self, _):
+        return drop(badge(f"key {self.chance.randint(1, 4)}"))
+
+    def check(self, tables):
+        return check(self.chance.choice(tables["image"])[0])
+
+
+class Store:
+    """A store with some deeds, and what SQLite reads in a copy of it."""
+
+    def __init__(self, program, folder):
+        self.program, self.path = program, pathlib.Path(tempfile.mkdtemp(dir=folder), "museum.sqlite")
+        self.zone = ["--zone", noon_zone()]
+        subprocess.run(self.words("init")[:-2], check=True, capture_output=True)
+
+    def words(self, command, *more):
+        return [self.program, command, "--store", self.path, "--key", STAFF, *more, *self.zone]
+
+    def serving(self):
+        return Serving(self.program, self.path, words=self.zone)
+
+    def tables(self):
+        """The rows of each table of a store that SQLite finds whole, with sums in the place of long values."""
+        with tempfile.TemporaryDirectory(dir=self.path.parent) as name:
+            for suffix in ("", LOG):
+                shutil.copy(f"{self.path}{suffix}", f"{name}/copy{suffix}")
+            with contextlib.closing(sqlite3.connect(f"{name}/copy")) as connection:
+                assert connection.execute("PRAGMA integrity_check").fetchall() == [("ok",)]
+                names = connection.execute("SELECT name FROM sqlite_schema WHERE type = 'table'").fetchall()
+                rows = {name: connection.execute(f"SELECT * FROM {name}").fetchall() for (name,) in names}
+        return {name: sorted((tuple(map(cell, row)) for row in found), key=repr) for name, found in rows.items()}
+
+    def catalogue(self):
+        """How desk writes the table of all files, once it has opened the store."""
+        ended = subprocess.run(self.words("export"), capture_output=True, timeout=LIMIT)
+        return ended.returncode, ended.stdout, ended.stderr
+
+
+def cell(value):
+    return digest(value) if isinstance(value, bytes) and len(value) > 64 else value
 
 
 class Story:
-    """A museum that takes in a sheet of disks and commands between, its store, and what was seen so far."""
+    """A museum that takes in a sheet of disks, and commands between: its store, and another that is never killed."""
 
-    def __init__(self, program, folder, chance):
-        self.program, self.folder, self.chance = program, folder, chance
-        self.store, self.sheet = folder / "museum.sqlite", folder / "sheet.csv"
-        kinds = list(MAKERS.values())
-        disks = [kinds[number % len(kinds)](chance) for number in (*ROWS, *OTHERS)]
-        self.rows, self.known = dict(zip(ROWS, disks)), KnownDisks(disks)
-        self.commands = Chance(chance, disks[len(ROWS) :])
-        self.zone = ["--zone", noon_zone()]
-        self.day = datetime.datetime.now(datetime.timezone.utc).date().isoformat()
+    def __init__(self, stack, program, folder, chance):
+        self.stack, self.program, self.folder, self.chance = stack, program, folder, chance
+        self.commands, self.sheet = Commands(chance), folder / "sheet.csv"
         self.taken, self.done, self.seen = collections.defaultdict(lambda: 0.05), set(), collections.Counter()
-        self.write_sheet()
+        lines = ["accession,kind,deed,sha256,file"]
+        for acc in ROWS:
+            kind, image = disk_of(acc)
+            (folder / f"{acc}.img").write_bytes(image)
+            lines.append(f"{acc},{kind},1,{digest(image)},{folder / f'{acc}.img'}")
+        self.sheet.write_text("\n".join(lines))
         self.begin()
 
-    def write_sheet(self):
-        lines = ["accession,kind,deed,sha256,file"]
-        for acc, disk in self.rows.items():
-            path = self.folder / f"{acc}.img"
-            path.write_bytes(disk.bytes)
-            lines.append(f"{acc},{disk.kind},{DEEDS[acc % 3]},{hashlib.sha256(disk.bytes).hexdigest()},{path}")
-        self.sheet.write_text("\n".join(lines))
-
     def begin(self):
-        """A new museum, with some deeds in its store."""
-        for suffix in SUFFIXES:
-            pathlib.Path(f"{self.store}{suffix}").unlink(missing_ok=True)
-        subprocess.run(self.words("init"), check=True, capture_output=True)
-        self.museum = Museum(self.known, self.day, {"desk": self.tables()["desk"]})
-        with Serving(self.program, self.store, words=self.zone) as serving:
+        """A new museum with some deeds."""
+        self.store, self.other = (Store(self.program, self.folder) for _ in range(2))
+        self.reference = self.stack.enter_context(self.other.serving())
+        self.reference.listens()
+        with self.store.serving() as serving:
             serving.listens()
             for num in DEEDS:
-                deed = self.museum.command(put(f"/deeds/{num}", {"donor": "D", "signed": "2019-05-04"}))
-                assert self.visit(serving, deed) is None
+                assert self.visit(serving, "deed", put(f"/deeds/{num}", {"donor": "D", "signed": "2019-05-04"})) is None
+        self.tables = self.store.tables()
 
-    def words(self, command, *more):
-        return [self.program, command, "--store", self.store, "--key", STAFF, *more]
-
-    def row(self, acc):
-        """The command of a row of the sheet."""
-        disk = self.rows[acc]
-        return self.museum.command(put_image(acc, disk.kind, DEEDS[acc % 3], disk.bytes))
-
-    def take(self, command):
-        self.done.add(command.name)
-        command.change()
+    def take(self, name, asked):
+        """A command was told as done: the other store has it too."""
+        self.done.add(name)
+        assert reply_to(raw(asked), self.reference.port) in (DONE, SOUND), asked[:3]
 
     # Runs that are killed: each gives the command that was cut off, if one was
-
-    @contextlib.contextmanager
-    def measured(self, name):
-        begun = time.monotonic()
-        yield
-        self.taken[name] = time.monotonic() - begun
 
     def kill_later(self, process, name):
         """Kills a process at a moment within the time that a thing of a name took last."""
@@ -92,117 +159,93 @@ class Story:
         timer.start()
         return timer
 
-    def visit(self, serving, command):
-        """A command by which the museum changes, or that was cut off."""
-        with self.measured(command.name):
-            came = reply_to(command.data, serving.port)
-        assert command.reply.startswith(came), (command.name, came)
-        if came != command.reply:
-            return command
-        return self.take(command)
+    def visit(self, serving, name, asked):
+        begun, due = time.monotonic(), SOUND if name == "check" else DONE
+        came = reply_to(raw(asked), serving.port)
+        assert due.startswith(came), (name, came)
+        if came != due:
+            return name, asked
+        self.taken[name] = time.monotonic() - begun
+        return self.take(name, asked)
 
     def kill_in_serve(self, last):
-        with Serving(self.program, self.store, words=self.zone) as serving:
+        begun = time.monotonic()
+        with self.store.serving() as serving:
             if not last:
                 self.kill_later(serving.process, "serve").join()
                 return None
-            with self.measured("serve"):
-                serving.listens()
-            for _ in range(last):
-                assert self.visit(serving, self.commands.any(self.museum)) is None
-            command = self.commands.any(self.museum)
-            timer = self.kill_later(serving.process, command.name)
-            cut = self.visit(serving, command)
+            serving.listens()
+            self.taken["serve"] = time.monotonic() - begun
+            for _ in range(last - 1):
+                assert self.visit(serving, *self.commands.any(self.tables)) is None
+            name, asked = self.commands.any(self.tables)
+            timer = self.kill_later(serving.process, name)
+            cut = self.visit(serving, name, asked)
             timer.join()
             assert serving.end() == (-signal.SIGKILL, "", "")
             return cut
 
     def kill_in_import(self, last):
         """It is killed while it opens the store, or so many rows after those that are in."""
-        standing, lines = sum(acc in self.museum.images for acc in self.rows), []
-        killed_at = min(standing + last, len(ROWS) - 1) if last else 0
-        words = self.words("import", "--sheet", self.sheet, *self.zone)
+        rows = [put_image(acc, kind, 1, image) for acc, (kind, image) in ((acc, disk_of(acc)) for acc in ROWS)]
+        standing, lines, begun = sum(row[0] in ROWS for row in self.tables["image"]), [], time.monotonic()
+        killed_at = min(standing + last - 1, len(ROWS) - 1)
+        words = self.store.words("import", "--sheet", self.sheet)
         with subprocess.Popen(words, stdin=subprocess.DEVNULL, stdout=subprocess.PIPE, stderr=subprocess.PIPE) as run:
-            timer, begun = None if last else self.kill_later(run, "import"), time.monotonic()
-            for line in run.stdout:
+            timer = None if last else self.kill_later(run, "import")
+            for line in itertools.chain([b""], run.stdout):
                 lines += [line] if line.endswith(b"\n") else []
-                self.taken["row" if len(lines) > standing + 1 else "import"] = time.monotonic() - begun
-                timer, begun = timer or (self.kill_later(run, "row") if len(lines) == killed_at else None), time.monotonic()
+                if last and len(lines) == killed_at and not timer:
+                    timer = self.kill_later(run, "row" if lines else "import")
+                self.taken["row" if len(lines) > 1 else "import"], begun = time.monotonic() - begun, time.monotonic()
             errors = run.stderr.read()
         timer.join()
         assert errors == b"" and lines == [f"{acc} done\n".encode() for acc in list(ROWS)[: len(lines)]]
-        for acc in list(ROWS)[: len(lines)]:
-            self.take(self.row(acc))
+        for row in rows[standing : len(lines)]:
+            self.take("image", row)
         assert run.returncode == -signal.SIGKILL or len(lines) == len(ROWS), run.returncode
-        return self.row(ROWS[len(lines)]) if len(lines) < len(ROWS) else None
+        return ("image", rows[len(lines)]) if standing <= len(lines) < len(ROWS) else None
 
     def kill_once(self, number):
         """Kills a run, and looks at the store. Where all rows are in, a new museum begins first."""
-        if set(self.rows) <= set(self.museum.images):
+        if {row[0] for row in self.tables["image"]} >= set(ROWS):
             self.begin()
         last = 0 if self.chance.random() < EARLY else self.chance.randint(1, LATEST)
-        cut = self.kill_in_import(last) if number % 2 else self.kill_in_serve(last)
-        self.seen["kills"] += 1
-        self.seen["within a command"] += cut is not None
-        return self.fault(cut)
+        cut = (self.kill_in_import if number % 2 else self.kill_in_serve)(last)
+        self.seen["cut off"] += cut is not None
+        if cut and self.store.tables() != self.other.tables():
+            self.take(*cut)
+            self.seen["cut off and there"] += 1
+        return self.fault()
 
-    # What is there
-
-    def tables(self):
-        """The rows of each table, as SQLite reads them in a copy of the store, which it finds whole."""
-        with contextlib.ExitStack() as stack:
-            folder = self.folder / "copy"
-            folder.mkdir()
-            stack.callback(shutil.rmtree, folder)
-            for suffix in SUFFIXES:
-                if os.path.exists(f"{self.store}{suffix}"):
-                    shutil.copy(f"{self.store}{suffix}", f"{folder}/copy{suffix}")
-            connection = stack.enter_context(contextlib.closing(sqlite3.connect(folder / "copy")))
-            assert connection.execute("PRAGMA integrity_check").fetchall() == [("ok",)]
-            names = connection.execute("SELECT name FROM sqlite_schema WHERE type = 'table'").fetchall()
-            return {name: connection.execute(f"SELECT * FROM {name}").fetchall() for (name,) in names}
-
-    def fault(self, cut=None):
-        """What the store lacks, or has too much, with the command that was cut off or without it; or of its table."""
-        came, before, without = rows_of(self.tables()), rows_of(self.museum.rows()), copy.deepcopy(self.museum)
-        if cut:
-            cut.change()
-        after = rows_of(self.museum.rows())
-        if before != after:
-            self.seen["is there" if came != before else "is not there"] += 1
-        due = after
-        if came == before:
-            self.museum, due = without, before
-        ended = subprocess.run(self.words("export", *self.zone), capture_output=True, timeout=LIMIT)
-        is_told = ended.returncode == 0 and ended.stdout == self.museum.catalogue()
-        return sorted(map(str, due ^ came))[:5], [] if is_told else [ended.returncode, ended.stderr]
+    def fault(self):
+        """The first tables that differ from those of the other store; or how desk opens the store."""
+        self.tables, due, copy = self.store.tables(), self.other.tables(), Store(self.program, self.folder)
+        for suffix in ("", LOG):
+            shutil.copy(f"{self.other.path}{suffix}", f"{copy.path}{suffix}")
+        ended = self.store.catalogue()
+        return [name for name in due if self.tables.get(name) != due[name]], [] if ended == copy.catalogue() else ended
 
 
-def rows_of(tables):
-    """All rows, each behind the name of its table, with sums in the place of long values."""
-    return {(name, *map(cell, row)) for name, rows in tables.items() for row in rows}
+@pytest.fixture
+def story(program, tmp_path, chance):
+    with contextlib.ExitStack() as stack:
+        yield Story(stack, program, tmp_path, chance)
 
 
-def cell(value):
-    return hashlib.sha256(value).hexdigest() if isinstance(value, bytes) and len(value) > 64 else value
-
-
-@pytest.mark.parametrize("kills", [25, pytest.param(200, marks=[pytest.mark.long, pytest.mark.timeout(1800)])])
-def test_killed_desk_keeps_what_it_told_as_done(kills, program, tmp_path, chance):
-    story = Story(program, tmp_path, chance)
+@pytest.mark.parametrize("kills", [25, pytest.param(200, marks=[pytest.mark.long, pytest.mark.timeout(3600)])])
+def test_killed_desk_keeps_what_it_told_as_done(kills, story):
     for number in range(kills):
-        assert story.kill_once(number) == ([], []), f"kill {number}"
-    print(story.seen)
-    assert 3 * story.seen["within a command"] >= kills and story.seen["is not there"] > 0, story.seen
+        assert story.kill_once(number) == ([], []), f"kill {number}, {story.seen}"
+    assert 3 * story.seen["cut off"] >= kills and story.seen["cut off and there"] < story.seen["cut off"], story.seen
     if kills > 100:
-        assert story.seen["is there"] > 0 and story.done == NAMES, (story.seen, story.done)
+        assert story.seen["cut off and there"] and story.done == set(story.commands.weights), (story.seen, story.done)
 
 
-def test_lost_log_is_seen(program, tmp_path, chance):
+def test_lost_log_is_seen(story):
     """What the test above looks for is there to be seen: without the log, what was told as done is lost."""
-    story = Story(program, tmp_path, chance)
-    with Serving(program, story.store, words=story.zone) as serving:
+    with story.store.serving() as serving:
         serving.listens()
-        story.visit(serving, story.museum.command(put("/deeds/9", {"donor": "E", "signed": "2019-05-04"})))
-    pathlib.Path(f"{story.store}-wal").unlink()
-    assert story.fault() != ([], [])
+        assert story.visit(serving, "deed", put("/deeds/9", {"donor": "E", "signed": "2019-05-04"})) is None
+    pathlib.Path(f"{story.store.path}{LOG}").write_bytes(b"")
+    assert story.fault() == (["deed"], [])
