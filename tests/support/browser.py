@@ -36,11 +36,25 @@ return {
   result: texts(open, ".result p, .result dd, .result li"), hint: texts(open, ".hint")[0] ?? "",
   stands: texts(open, ".stands > p"),
   rows: Array.from(open.querySelectorAll(":is(.stands, #view) tbody tr:not(.space)"), cellsOf),
+  links: Array.from(open.querySelectorAll("tbody a"), (one) => one.getAttribute("href")),
   list: Array.from(open.querySelectorAll(".list tbody tr"),
     (row) => Array.from(row.cells, (cell) => cell.querySelector("input")?.value ?? cell.textContent)),
   sure: sure?.open ? texts(sure, "h2, #sure-more p, #sure-more h3, #sure-more li") : null,
 };
 """
+NAMES = """
+const tags = { button: "button, summary", link: "a[href]", field: "input, select, textarea", region: "pre, section" };
+const nameOf = (one) => (one.getAttribute("aria-label")
+  || Array.from(one.labels ?? [], (label) => label.textContent).join(" ") || one.textContent).trim();
+"""
+# Scripts: the first control of a role with a name, or else with a longer one; and the name of what has the focus.
+NAMED = NAMES + """
+const [role, name] = arguments;
+const all = Array.from((document.querySelector("dialog[open]") ?? document).querySelectorAll(tags[role]))
+  .filter((one) => one.checkVisibility() && !one.disabled);
+return all.find((one) => nameOf(one) === name) ?? all.find((one) => nameOf(one).includes(name)) ?? null;
+"""
+FOCUSED = NAMES + "return nameOf(document.activeElement);"
 # A script: the page's own listener, which is older, comes first.
 FOLLOW = """
 const [place, done] = arguments;
@@ -125,15 +139,24 @@ class Page:
         """The first such element, once there is one."""
         return wait_for(selector, lambda: self.driver.find_elements(By.CSS_SELECTOR, selector))[0]
 
+    def named(self, role, name):
+        """The first control of a role (button, link, field, region) with a name, or with one that has it in it."""
+        return wait_for(f"{role} {name!r}", lambda: self.script(NAMED, role, name))
+
     def text(self, selector):
         return self.one(selector).get_property("textContent")
 
     def texts(self, selector):
-        return self.script("return [...document.querySelectorAll(arguments[0])].map((one) => one.textContent)", selector)
+        script = "return Array.from(document.querySelectorAll(arguments[0]), (one) => one.textContent)"
+        return self.script(script, selector)
 
     def focus(self):
         """What has the focus: its id, else its text."""
         return self.script("const at = document.activeElement; return at.id || at.textContent;")
+
+    def focused(self):
+        """The name of what has the focus."""
+        return self.script(FOCUSED)
 
     def harmed(self):
         """What markup in a name has done, and how many elements it has become."""
@@ -167,6 +190,20 @@ class Page:
     def click(self, selector):
         self.one(selector).click()
         return self.read()
+
+    def push(self, button):
+        """Presses the button with a name."""
+        self.named("button", button).click()
+        return self.read()
+
+    def type(self, label, *keys):
+        """Types into the field with a label, which is empty before."""
+        field = self.named("field", label)
+        field.clear()
+        field.send_keys(*keys)
+
+    def back(self):
+        self.driver.back()
 
     def press(self, *keys):
         """Presses keys wherever the focus is."""
@@ -204,9 +241,11 @@ class ReadersPage(Page):
         return self.go(f"find/{urllib.parse.quote(words, safe='')}")
 
     def give(self, key):
-        """Gives a key."""
-        self.one("#key").send_keys(key)
-        return self.click("#key-form button")
+        """Gives a key, where it is one."""
+        if key is None:
+            return self.read()
+        self.type("Desk key", key)
+        return self.push("Use it")
 
 
 class StaffPage(Page):

@@ -88,15 +88,15 @@ def is_waited_for(data):
     return length is not None and length > len(parts.rest)
 
 
-def asked_by(data):
-    """What the bytes of a visit ask. Raises the reply that is due where they ask nothing."""
+def asked_by(data, routes=ROUTES):
+    """What the bytes of a visit ask of some routes. Raises the reply that is due where they ask nothing."""
     parts = parted(data)
     if parts is None:
         raise Refused(BAD_HEAD)
     length, keys = length_of(parts), values(parts, b"desk-key")
     if length is None or len(keys) > 1 or length > len(parts.rest):
         raise Refused(FRAMING)
-    matched = ((pattern.fullmatch(parts.target.split("?")[0]), methods) for pattern, methods in ROUTES)
+    matched = ((pattern.fullmatch(parts.target.split("?")[0]), methods) for pattern, methods in routes)
     found, methods = next((route for route in matched if route[0]), (None, None))
     if not found:
         raise Refused(NO_ROUTE)

@@ -1,5 +1,5 @@
 """A stand-in for the desk, for tests of the pages alone. It answers byte for byte as docs/FORMATS.md says, over a
-museum that it holds in memory; scripts/lib/desk_by_hand.py decides what is due to a request. Beside that it answers the
+museum that it holds in memory; the model of the desk decides what is due to a request. Beside that it answers the
 questions of the staff, and gives the pages, with the fields that operate/nginx/ adds."""
 
 import collections
@@ -10,57 +10,56 @@ import hashlib
 import io
 import os
 import re
+import socket
 import socketserver
 import threading
 import time
 
-from support import model as desk_by_hand
-from support import model_disks as disks_by_hand
-from support import model_requests as requests_by_hand
-from support import model_rules as rules_by_hand
-from support.samples import NO_ACCESSION, NO_DEED, STAFF_ONLY, UNKNOWN_KEY, compact, reply, told
-from support.server import HOST, ROOT
+from support import model, model_disks, model_requests, model_rules
 from support.model import AUDIENCES, Due, refuse_if
+from support.samples import (
+    BAD_BODY, NO_ACCESSION, NO_DEED, NO_ROUTE, STAFF_ONLY, UNKNOWN_KEY, compact, reply, told,
+)
+from support.server import HOST, ROOT
 
-DATE = r"([0-9]{4}-[0-9]{2}-[0-9]{2})"
-NUMBER, RANK = requests_by_hand.NUMBER, requests_by_hand.RANK
-STAFF_ROUTES = [
+DATE, NUMBER, RANK = "([0-9]{4}-[0-9]{2}-[0-9]{2})", "([1-9][0-9]{0,5})", "([1-9][0-9]{0,3})"
+REHEARSALS = f"/staff/rehearsals/{DATE}"
+STAFF_ROUTES = [(re.compile(path), methods) for path, methods in [
     ("/staff/deeds", {"GET": "show deeds"}), ("/staff/takedowns", {"GET": "show takedowns"}),
     ("/staff/keys", {"GET": "show keys"}), ("/staff/checks", {"GET": "show checks"}),
     (f"/staff/verdicts/{DATE}", {"GET": "show verdicts"}),
-    (f"/staff/rehearsals/{DATE}/deeds/{NUMBER}/rules/{RANK}", {"PUT": "rehearse rule", "DELETE": "rehearse drop"}),
-    (
-        f"/staff/rehearsals/{DATE}/images/{NUMBER}/rules/{RANK}",
-        {"PUT": "rehearse takedown", "DELETE": "rehearse end"},
-    ),
-]
-requests_by_hand.ROUTES.extend((re.compile(path), methods) for path, methods in STAFF_ROUTES)
-
-VERDICT_COLUMNS = ["accession", "deed", "kind", "slot", "user", "name", "type", "size", "faults"]
+    (f"{REHEARSALS}/deeds/{NUMBER}/rules/{RANK}", {"PUT": "rehearse rule", "DELETE": "rehearse drop"}),
+    (f"{REHEARSALS}/images/{NUMBER}/rules/{RANK}", {"PUT": "rehearse takedown", "DELETE": "rehearse end"}),
+]]
+FILE_COLUMNS = ("slot", "user", "name", "type", "size", "faults")
+VERDICT_COLUMNS = ["accession", "deed", "kind", *FILE_COLUMNS]
 VERDICT_COLUMNS += [column for word in AUDIENCES for column in (word, f"{word}_rule")]
 REHEARSAL_COLUMNS = ["accession", "slot", "name", "audience", "effect", "rule", "then_effect", "then_rule"]
 
 
-def csv_text(rows):
+def table(rows):
     text = io.StringIO()
     csv.writer(text, lineterminator="\n").writerows(rows)
-    return text.getvalue()
+    return Due(reply(200, text.getvalue().encode(), "text/csv"))
 
 
-def is_date(text):
-    try:
-        return datetime.date.fromisoformat(text).year > 0
-    except ValueError:
-        return False
-
-
-def rule_shown(rule):
-    """A rule as the staff is shown it."""
-    return {**rule, "audiences": [word for word in AUDIENCES if word in rule["audiences"]]}
+def is_day(text):
+    """Whether the date in a path, where there is one, is a day."""
+    with contextlib.suppress(ValueError):
+        return "-" not in text or datetime.date.fromisoformat(text).year > 0
+    return False
 
 
 def holds_on(rule, day):
     return (rule["from"] or "") <= day < (rule["until"] or "9999-99-99")
+
+
+def decided(tried, audience, day, file):
+    """The label and the effect of the first of some rules that speaks of a file."""
+    for label, rule in tried:
+        if "all" in rule["select"] or model_rules.matches(rule, audience, day, file):
+            return f"{label}.{rule['rank']}", rule["effect"]
+    return "D0", "deny"
 
 
 class Disks:
@@ -72,7 +71,7 @@ class Disks:
 
     def disk(self, kind, image):
         if image not in self.disks:
-            self.disks[image] = disks_by_hand.read(kind, image)
+            self.disks[image] = model_disks.read(kind, image)
         return self.disks[image]
 
     def files(self, kind, image):
@@ -84,25 +83,27 @@ class Disks:
     def report(self, kind, image):
         return self.disk(kind, image).report
 
-    def image(self, kind, image):
-        """The bytes of a disk as a desk takes them."""
-        return image
 
-
-class Museum(desk_by_hand.Desk):
-    """A desk by hand that also answers the staff's questions, and is quick enough for 10,000 disks."""
+class Museum(model.Desk):
+    """A model of the desk that also answers the staff's questions, and is quick enough for 10,000 disks."""
 
     def __init__(self, day=None):
         super().__init__(Disks(), day or str(datetime.datetime.now(datetime.timezone.utc).date()))
         self.latest = {}
-        self.heads = {}
+
+    def due(self, data):
+        try:
+            return self.answer(model_requests.asked_by(data, STAFF_ROUTES + model_requests.ROUTES))
+        except (model_requests.Refused, model.Refusal) as fault:
+            return Due(fault.args[0])
+        except model_requests.NoBody:
+            return Due(BAD_BODY)
 
     def answer(self, asked):
         if asked.what not in FOR_STAFF:
             return super().answer(asked)
-        audience = "public"
-        if asked.key is not None:
-            audience = self.badges.get(hashlib.sha256(asked.key).hexdigest())
+        refuse_if(not all(map(is_day, asked.parts)), NO_ROUTE)
+        audience = "public" if asked.key is None else self.badges.get(hashlib.sha256(asked.key).hexdigest())
         refuse_if(audience is None, UNKNOWN_KEY)
         refuse_if(audience != "staff", STAFF_ONLY)
         numbers = [int(part) if part.isdigit() else part for part in asked.parts]
@@ -110,63 +111,40 @@ class Museum(desk_by_hand.Desk):
 
     # Verdicts
 
-    def deciding(self, acc, day, takedowns=None, rules=None):
-        """The rules of an accession that hold on a day, for each audience in the order in which they are tried."""
-        deed = self.images[acc].deed
-        bands = [
-            (f"T{acc}", self.rules.get(f"T{acc}", {}) if takedowns is None else takedowns),
-            (f"R{deed}", self.rules.get(f"R{deed}", {}) if rules is None else rules),
-        ]
-        tried = [(label, held[rank]) for label, held in bands for rank in sorted(held) if holds_on(held[rank], day)]
+    def deciding(self, acc, day, **instead):
+        """The rules of an accession that hold on a day, for each audience in the order in which they are tried;
+        `instead` has other rules by their label."""
+        tried = []
+        for label in (f"T{acc}", f"R{self.images[acc].deed}"):
+            held = instead.get(label, self.rules.get(label, {}))
+            tried += [(label, held[rank]) for rank in sorted(held) if holds_on(held[rank], day)]
         return {word: [(label, rule) for label, rule in tried if word in rule["audiences"]] for word in AUDIENCES}
 
-    @staticmethod
-    def decided(tried, audience, day, file):
-        """The label and the effect of the first of some rules that speaks of a file."""
-        for label, rule in tried:
-            if "all" in rule["select"] or rules_by_hand.matches(rule, audience, day, file):
-                return f"{label}.{rule['rank']}", rule["effect"]
-        return "D0", "deny"
+    def files_of(self, acc):
+        image = self.images[acc]
+        return self.disks.files(image.kind, image.bytes)
 
     def lines(self, acc, audience):
-        image, tried = self.image(acc), self.deciding(acc, self.day)[audience]
-        for file in self.disks.files(image.kind, image.bytes):
-            label, effect = self.decided(tried, audience, self.day, file)
+        self.image(acc)
+        tried = self.deciding(acc, self.day)[audience]
+        for file in self.files_of(acc):
+            label, effect = decided(tried, audience, self.day, file)
             if effect != "deny":
                 yield file, label, effect
-
-    def file_heads(self, acc):
-        """Each file of an accession with the front of its line in a table."""
-        image = self.images[acc]
-        if self.heads.get(acc, (None,))[0] is not image:
-            columns = ("slot", "user", "name", "type", "size", "faults")
-            files = self.disks.files(image.kind, image.bytes)
-            rows = [[acc, image.deed, image.kind, *(file[column] for column in columns)] for file in files]
-            self.heads[acc] = image, [(file, csv_text([row])[:-1]) for file, row in zip(files, rows)]
-        return self.heads[acc][1]
-
-    def ask_catalogue(self, audience):
-        lines = ["accession,deed,kind,slot,user,name,type,size,faults,rule,effect\n"]
-        for acc in sorted(self.images):
-            tried = self.deciding(acc, self.day)[audience]
-            for file, head in self.file_heads(acc):
-                label, effect = self.decided(tried, audience, self.day, file)
-                if effect != "deny":
-                    lines.append(f"{head},{label},{effect}\n")
-        return Due(reply(200, "".join(lines).encode(), "text/csv"))
 
     # The staff's questions
 
     def shown_rules(self, label):
-        return [rule_shown(rule) for rule in self.by_rank(label)] if label in self.rules else []
+        """Rules as the staff is shown them."""
+        held = self.by_rank(label) if label in self.rules else []
+        return [{**rule, "audiences": [word for word in AUDIENCES if word in rule["audiences"]]} for rule in held]
 
     def show_deeds(self, _):
         under = collections.Counter(image.deed for image in self.images.values())
-        deeds = [
+        return Due(told(deeds=[
             {"accessions": under[num], "deed": num, "donor": donor, "rules": self.shown_rules(f"R{num}"), "signed": day}
             for num, (donor, day) in sorted(self.deeds.items())
-        ]
-        return Due(told(deeds=deeds))
+        ]))
 
     def show_takedowns(self, _):
         lines = [{"accession": acc, "rules": self.shown_rules(f"T{acc}")} for acc in sorted(self.images)]
@@ -176,11 +154,8 @@ class Museum(desk_by_hand.Desk):
         return Due(told(keys=[{"audience": word, "digest": key} for key, word in sorted(self.badges.items())]))
 
     def show_checks(self, _):
-        lines = []
-        for acc in sorted(self.images):
-            day, outcome = self.latest.get(acc, (None, None))
-            lines.append({"accession": acc, "day": day, "outcome": outcome})
-        return Due(told(checks=lines))
+        latest = [(acc, *self.latest.get(acc, (None, None))) for acc in sorted(self.images)]
+        return Due(told(checks=[{"accession": acc, "day": day, "outcome": outcome} for acc, day, outcome in latest]))
 
     def check(self, body, acc):
         due = super().check(body, acc)
@@ -193,61 +168,53 @@ class Museum(desk_by_hand.Desk):
         return Due(due.reply, change)
 
     def show_verdicts(self, _, day):
-        lines = [",".join(VERDICT_COLUMNS) + "\n"]
-        for acc in sorted(self.images):
+        rows = [VERDICT_COLUMNS]
+        for acc, image in sorted(self.images.items()):
             tried = self.deciding(acc, day)
-            for file, head in self.file_heads(acc):
-                verdicts = [self.decided(tried[word], word, day, file) for word in AUDIENCES]
-                lines.append(head + "".join(f",{effect},{label}" for label, effect in verdicts) + "\n")
-        return Due(reply(200, "".join(lines).encode(), "text/csv"))
+            for file in self.files_of(acc):
+                row = [acc, image.deed, image.kind, *(file[column] for column in FILE_COLUMNS)]
+                verdicts = [decided(tried[word], word, day, file)[::-1] for word in AUDIENCES]
+                rows.append([*row, *sum(verdicts, ())])
+        return table(rows)
 
     # Rehearsals
 
-    def turns(self, day, accessions, after):
-        """The lines of a rehearsal: `after` names the rules of the other desk, as `deciding` takes them."""
+    def turns(self, day, accessions, label, rules):
+        """The lines of a rehearsal: what turns for whom where other rules stand by a label."""
         rows = [REHEARSAL_COLUMNS]
         for acc in sorted(accessions):
-            image, now, then = self.images[acc], self.deciding(acc, day), self.deciding(acc, day, **after)
-            for file in self.disks.files(image.kind, image.bytes):
+            now, then = self.deciding(acc, day), self.deciding(acc, day, **{label: rules})
+            for file in self.files_of(acc):
                 for word in AUDIENCES:
-                    (rule, effect), (new_rule, new) = (self.decided(a[word], word, day, file) for a in (now, then))
+                    (rule, effect), (new_rule, new) = (decided(a[word], word, day, file) for a in (now, then))
                     if effect != new:
                         rows.append([acc, file["slot"], file["name"], word, effect, rule, new, new_rule])
-        return Due(reply(200, csv_text(rows).encode(), "text/csv"))
+        return table(rows)
 
     def of_deed(self, num):
         refuse_if(num not in self.deeds, NO_DEED)
         return [acc for acc, image in self.images.items() if image.deed == num]
 
+    def with_rule(self, label, rank, rule):
+        """The rules by a label with one of them put, or without it."""
+        others = {other: held for other, held in self.rules.get(label, {}).items() if other != rank}
+        return others if rule is None else {**others, rank: rule}
+
     def rehearse_rule(self, body, day, num, rank):
-        rule = requests_by_hand.rule_of(body, rank, ("deny", "list", "read"))
-        accessions = self.of_deed(num)
-        return self.turns(day, accessions, {"rules": {**self.rules.get(f"R{num}", {}), rank: rule}})
+        rule = model_requests.rule_of(body, rank, ("deny", "list", "read"))
+        return self.turns(day, self.of_deed(num), f"R{num}", self.with_rule(f"R{num}", rank, rule))
 
     def rehearse_drop(self, _, day, num, rank):
-        accessions = self.of_deed(num)
-        return self.turns(day, accessions, {"rules": without(self.rules.get(f"R{num}", {}), rank)})
+        return self.turns(day, self.of_deed(num), f"R{num}", self.with_rule(f"R{num}", rank, None))
 
     def rehearse_takedown(self, body, day, acc, rank):
-        rule = requests_by_hand.rule_of(body, rank, ("deny", "list"))
+        rule = model_requests.rule_of(body, rank, ("deny", "list"))
         refuse_if(acc not in self.images, NO_ACCESSION)
-        return self.turns(day, [acc], {"takedowns": {**self.rules.get(f"T{acc}", {}), rank: rule}})
+        return self.turns(day, [acc], f"T{acc}", self.with_rule(f"T{acc}", rank, rule))
 
     def rehearse_end(self, _, day, acc, rank):
         refuse_if(acc not in self.images, NO_ACCESSION)
-        return self.turns(day, [acc], {"takedowns": without(self.rules.get(f"T{acc}", {}), rank)})
-
-    def due(self, data):
-        """As of a desk by hand; and a path with a date that is none is no route."""
-        parts = requests_by_hand.parted(data)
-        dates = re.findall(f"^/staff/(?:verdicts|rehearsals)/{DATE}", parts.target) if parts else []
-        if dates and not is_date(dates[0]):
-            data = data.replace(dates[0].encode(), b"-", 1)
-        return super().due(data)
-
-
-def without(rules, rank):
-    return {other: rule for other, rule in rules.items() if other != rank}
+        return self.turns(day, [acc], f"T{acc}", self.with_rule(f"T{acc}", rank, None))
 
 
 FOR_STAFF = {
@@ -262,13 +229,17 @@ FOR_STAFF = {
 OF_DESK = re.compile(r"/(images|accessions|deeds|badges|catalogue|staff)(/|$)")
 JOURNAL = re.compile(r"/journal(-[0-9]{4}-[0-9]{2})?")
 KINDS = {"html": "text/html", "css": "text/css; charset=utf-8", "js": "text/javascript; charset=utf-8"}
-WEB = os.path.join(ROOT, "web")
+# The folder of the pages: another one in the place of web/ shows that the tests find what is wrong there.
+WEB = os.environ.get("DESK_WEB") or os.path.join(ROOT, "web")
+# How many seconds the door reads on behind its reply, for a client that still sends.
+LINGERS = 2
 
 
 def added_fields():
     """The fields that nginx adds to each reply."""
     with open(os.path.join(ROOT, "operate", "nginx", "snippets", "desk-server.conf"), encoding="utf-8") as file:
-        return re.findall(r'^add_header (\S+) "?(?!\$)(.*?)"? always;$', file.read(), re.M)
+        found = re.findall(r'^add_header (\S+) "?(?!\$)(.*?)"? always;$', file.read(), re.M)
+    return "".join(f"\r\n{name}: {value}" for name, value in found).encode()
 
 
 def refused_by_nginx(status, phrase):
@@ -277,9 +248,9 @@ def refused_by_nginx(status, phrase):
 
 class Door(socketserver.ThreadingTCPServer):
     """The staff's door, or the one outside, at a port of loopback: a file of the pages, or else what is due from the
-    museum. `before` may answer in its place, by the method and the path: bytes of a reply, or b"" for a lost
-    connection. `folder` may have more files beside the pages. `visits` keeps what was asked of the desk and of the
-    journal, of which `journals` has the files by their paths."""
+    museum. `before` may answer in its place, by the method and the path: bytes of a reply, parts of them with pauses
+    in seconds between them, or b"" for a lost connection. `folder` may have more files beside the pages. `visits` keeps
+    what was asked of the desk and of the journal, of which `journals` has the files by their paths."""
 
     allow_reuse_address = daemon_threads = True
     request_queue_size = 128
@@ -290,12 +261,11 @@ class Door(socketserver.ThreadingTCPServer):
         self.folders = [WEB, *([folder] if folder else [])]
         self.before = lambda method, path: None
         self.visits, self.journals = [], {}
-        self.lock = threading.Lock()
-        self.added = added_fields()
+        self.lock, self.added = threading.Lock(), added_fields()
         self.address = f"http://{HOST}:{self.server_address[1]}/"
 
     def __enter__(self):
-        threading.Thread(target=self.serve_forever, daemon=True).start()
+        threading.Thread(target=self.serve_forever, args=(0.02,), daemon=True).start()
         return self
 
     def __exit__(self, *_):
@@ -316,17 +286,17 @@ class Door(socketserver.ThreadingTCPServer):
         """The reply to the bytes of a visit, as it leaves the door."""
         if parts is None:
             return refused_by_nginx(400, "Bad Request")
-        path = parts.target.partition("?")[0]
+        path, fields = parts.target.partition("?")[0], dict(parts.fields)
         if not OF_DESK.match(path) and (self.outside or not JOURNAL.fullmatch(path)):
             return self.with_added(self.file(path))
-        self.visits.append((parts.method, path, dict(parts.fields)))
+        self.visits.append((parts.method, path, fields))
         instead = self.before(parts.method, path)
         if instead is not None:
             return instead
         if self.outside and (parts.method != "GET" or path.startswith("/staff/")):
             return refused_by_nginx(403, "Forbidden")
         if JOURNAL.fullmatch(path):
-            return self.with_added(self.journal(path, dict(parts.fields)))
+            return self.with_added(self.journal(path, fields))
         with self.lock:
             due = self.museum.due(data)
             if due.change:
@@ -343,34 +313,15 @@ class Door(socketserver.ThreadingTCPServer):
             return refused_by_nginx(404, "Not Found")
         return ranged(self.journals[path], fields.get(b"range", b"").decode())
 
-    # What a test has stand there, and what came of it
+    def with_added(self, whole):
+        head, _, body = whole.partition(b"\r\n\r\n")
+        return head + self.added + b"\r\n\r\n" + body
 
-    def put_rule(self, label, rule):
-        """Has a rule stand, of a deed or a disk by its label."""
-        self.museum.rules[label][rule["rank"]] = rule
-
-    def drop_rule(self, label, rank):
-        self.museum.rules[label].pop(rank)
-
-    def put_deed(self, number, donor, signed):
-        self.museum.deeds[number] = donor, signed
-
-    def change_bytes(self, acc):
-        """A disk has changed, which a check has found."""
-        self.museum.latest[acc] = "2026-01-02", "changed"
-
-    def ranks(self, acc):
-        """The ranks of the takedowns of a disk."""
-        return sorted(self.museum.rules.get(f"T{acc}", {}))
-
-    def images(self, first, last):
-        """The bytes of the disks with these numbers."""
-        return {acc: image.bytes for acc, image in self.museum.images.items() if first <= acc <= last}
+    # What came of a test
 
     def effects(self, acc):
         """What the public and the room may do with each file of a disk."""
-        image = self.museum.images[acc]
-        files = self.museum.disks.files(image.kind, image.bytes)
+        files = self.museum.files_of(acc)
         return {word: [self.museum.verdict(acc, word, file)[1] for file in files] for word in ("public", "room")}
 
     def sent(self):
@@ -389,41 +340,6 @@ class Door(socketserver.ThreadingTCPServer):
         self.visits.clear()
         return came
 
-    def at_hand(self, replies):
-        """Has replies, by their paths, come at once: to make them takes a stand-in longer than the desk, and what is
-        measured is the page."""
-        made = {path: self.with_added(make()) for path, make in replies.items()}
-        self.before = lambda method, path: made.get(path)
-
-    @contextlib.contextmanager
-    def slow(self, _, seconds):
-        """While this is entered, each reply takes so much longer to come."""
-        self.before = lambda method, path: time.sleep(seconds)
-        yield
-        self.before = lambda method, path: None
-
-    @contextlib.contextmanager
-    def lost_at_third(self, tab):
-        """While this is entered, the connection is lost at the third change that comes."""
-        changes = []
-
-        def before(method, path):
-            if method != "PUT" or path.startswith("/staff/"):
-                return None
-            time.sleep(0.4)
-            changes.append(path)
-            return b"" if len(changes) == 3 else None
-
-        self.before = before
-        yield
-        tab.read()
-        self.before = lambda method, path: None
-
-    def with_added(self, whole):
-        head, _, body = whole.partition(b"\r\n\r\n")
-        lines = "".join(f"\r\n{name}: {value}" for name, value in self.added).encode()
-        return head + lines + b"\r\n\r\n" + body
-
 
 def ranged(data, words):
     """The reply with some bytes, or with the part of them that a field asks for."""
@@ -435,8 +351,7 @@ def ranged(data, words):
     last = min(int(found[2]), size - 1) if found[1] else size - 1
     if first >= size:
         return refused_by_nginx(416, "Requested Range Not Satisfiable")
-    place = f"Content-Range: bytes {first}-{last}/{size}"
-    part = reply(200, data[first : last + 1], kind, place)
+    part = reply(200, data[first : last + 1], kind, f"Content-Range: bytes {first}-{last}/{size}")
     return part.replace(b"200 OK", b"206 Partial Content", 1)
 
 
@@ -446,23 +361,26 @@ class Visit(socketserver.BaseRequestHandler):
     def handle(self):
         self.request.settimeout(60)
         data = b""
-        while requests_by_hand.is_waited_for(data):
-            more = self.request.recv(1 << 18)
-            if not more:
-                return
-            data += more
-        self.send(self.server.answer(data, requests_by_hand.parted(data)))
+        # a browser that goes while it asks or is answered has no need of the rest
+        with contextlib.suppress(ConnectionError, TimeoutError):
+            while model_requests.is_waited_for(data):
+                more = self.request.recv(1 << 18)
+                if not more:
+                    return
+                data += more
+            self.send(self.server.answer(data, model_requests.parted(data)))
 
     def send(self, answer):
-        """Sends a reply; in parts of its own pace where it is a list of them."""
-        parts = answer if isinstance(answer, list) else [answer]
-        try:
-            for part in parts:
-                if isinstance(part, float):
-                    time.sleep(part)
-                else:
-                    self.request.sendall(part)
-        except OSError:
+        """Sends a reply, or its parts and pauses. Then it reads on until the client closes, for a close with bytes
+        unread would make Linux drop what is not sent yet."""
+        for part in [answer] if isinstance(answer, bytes) else answer:
+            if isinstance(part, float):
+                time.sleep(part)
+            else:
+                self.request.sendall(part)
+        self.request.shutdown(socket.SHUT_WR)
+        self.request.settimeout(LINGERS)
+        while answer and self.request.recv(1 << 16):
             pass
 
 
