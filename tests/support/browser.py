@@ -44,8 +44,10 @@ return {
 """
 NAMES = """
 const tags = { button: "button, summary", link: "a[href]", field: "input, select, textarea", region: "pre, section" };
+const labelOf = (one, label) => Array.from(label.childNodes).filter((node) => !node.contains(one))
+  .map((node) => node.textContent).join("");
 const nameOf = (one) => (one.getAttribute("aria-label")
-  || Array.from(one.labels ?? [], (label) => label.textContent).join(" ") || one.textContent).trim();
+  || Array.from(one.labels ?? [], (label) => labelOf(one, label)).join(" ") || one.textContent).trim();
 """
 # Scripts: the first control of a role with a name, or else with a longer one; and the name of what has the focus.
 NAMED = NAMES + """
@@ -169,7 +171,9 @@ class Page:
     def saved(self, name):
         """The bytes of a file that the page saved, once the browser has all of it."""
         path = self.driver.downloads / name
-        is_whole = lambda: path.exists() and path.stat().st_size and not list(path.parent.glob("*.crdownload"))
+        # until then Chromium and Firefox have its bytes in another file
+        beside = lambda: [one for word in ("crdownload", "part") for one in path.parent.glob(f"*.{word}")]
+        is_whole = lambda: path.exists() and path.stat().st_size and not beside()
         wait_for(f"a download with the name {name}", is_whole)
         data = path.read_bytes()
         path.unlink()

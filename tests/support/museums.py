@@ -31,18 +31,12 @@ def put(museum, acc, kind, deed, data):
 # Disks
 
 
-class ManyDisks(stand_in.Disks):
-    """Disks of which some are made: `many:N:COUNT` has COUNT files, made when they are first asked for."""
-
-    def disk(self, kind, image):
-        if image not in self.disks and image.startswith(b"many:"):
-            _, number, count = image.decode().split(":")
-            self.disks[image] = made_disk(made_file(kind, int(number), slot) for slot in range(int(count)))
-        return super().disk(kind, image)
+class MadeDisks(stand_in.Disks):
+    """Disks of which those are made that have a few words in the place of their bytes."""
 
     def image(self, kind, image):
         """The bytes of a disk as a desk takes them."""
-        if not image.startswith((b"many:", b"files:")):
+        if image not in self.disks or not image.startswith(b"made:"):
             return image
         files = self.disk(kind, image).files
         if kind == "cpm8":
@@ -58,34 +52,28 @@ def name_of_cpm(file):
     return name.encode().ljust(8) + kind.encode().ljust(3)
 
 
-def made_disk(files):
-    made = list(files)
-    report = {"directory": "end", "faulty": 0, "files": len(made), "label": "", "map": None, "served": len(made)}
-    return Disk(made, {**report, "size_differs": 0})
-
-
 def file_of(kind, slot, name, type_, data):
     """A sound file, or, without bytes, one that the desk does not give out."""
     size, user = "" if data is None else str(len(data)), "0" if kind == "cpm8" else ""
     return File({"slot": str(slot), "user": user, "type": type_, "size": size, "faults": "", "name": name}, data)
 
 
-def made_file(kind, number, slot):
+def short_text(kind, number, slot):
     """A short text; the names of every third disk of the 1541 are in the other set of letters."""
     word = WORDS[(number + slot) % len(WORDS)]
     if kind == "cpm8":
-        data = cpm_image.text(f"{word} {slot} OF DISK {number}\n")
-        return file_of(kind, slot, f"{word.replace(' ', '')[:6]}{slot}.TXT", "TXT", data)
+        return f"{word.replace(' ', '')[:6]}{slot}.TXT", "TXT", cpm_image.text(f"{word} {slot} OF DISK {number}\n")
     name = f"{word} {slot}"
     if number % 3 == 0:
         name = "".join(f"%{ord(sign) + 128:02X}" if sign.isalpha() else sign for sign in name)
-    return file_of(kind, slot, name, "SEQ", f"{word} {slot} OF DISK {number}\r".encode())
+    return name, "SEQ", f"{word} {slot} OF DISK {number}\r".encode()
 
 
 def put_files(museum, acc, kind, deed, files):
     """Puts a disk of files of names, types and bytes."""
-    key = f"files:{acc}".encode()
-    museum.disks.disks[key] = made_disk(file_of(kind, slot, *file) for slot, file in enumerate(files))
+    key, made = f"made:{acc}".encode(), [file_of(kind, slot, *file) for slot, file in enumerate(files)]
+    report = {"directory": "end", "faulty": 0, "files": len(made), "label": "", "map": None, "served": len(made)}
+    museum.disks.disks[key] = Disk(made, {**report, "size_differs": 0})
     put(museum, acc, kind, deed, key)
 
 
@@ -100,7 +88,7 @@ def harmful_disk(museum, acc, deed):
 def empty(day=None):
     """A museum with a key of the room, and no disk."""
     museum = stand_in.Museum(day)
-    museum.disks = ManyDisks()
+    museum.disks = MadeDisks()
     museum.badges[hashlib.sha256(b"hello").hexdigest()] = "room"
     return museum
 
@@ -117,7 +105,9 @@ def many(disks, files, deeds=1000, day=None):
             30: rule(30, "read", ["public", "room", "staff"]),
         }
     for number in range(1, disks + 1):
-        put(museum, number, ("cpm8", "d64")[number % 2], 1 + number % deeds, f"many:{number}:{files}".encode())
+        kind = ("cpm8", "d64")[number % 2]
+        made = (short_text(kind, number, slot) for slot in range(files))
+        put_files(museum, number, kind, 1 + number % deeds, made)
         if number % 2:
             museum.latest[number] = "2026-01-02", "sound"
         if number % 100 == 0:

@@ -28,8 +28,11 @@ STAFF_ROUTES = [(re.compile(path), methods) for path, methods in [
     ("/staff/deeds", {"GET": "show deeds"}), ("/staff/takedowns", {"GET": "show takedowns"}),
     ("/staff/keys", {"GET": "show keys"}), ("/staff/checks", {"GET": "show checks"}),
     (f"/staff/verdicts/{DATE}", {"GET": "show verdicts"}),
-    (f"{REHEARSALS}/deeds/{NUMBER}/rules/{RANK}", {"PUT": "rehearse rule", "DELETE": "rehearse drop"}),
-    (f"{REHEARSALS}/images/{NUMBER}/rules/{RANK}", {"PUT": "rehearse takedown", "DELETE": "rehearse end"}),
+    (f"{REHEARSALS}/deeds/{NUMBER}/rules/{RANK}", {"PUT": "rehearse put rule", "DELETE": "rehearse drop rule"}),
+    (
+        f"{REHEARSALS}/images/{NUMBER}/rules/{RANK}",
+        {"PUT": "rehearse put takedown", "DELETE": "rehearse drop takedown"},
+    ),
 ]]
 FILE_COLUMNS = ("slot", "user", "name", "type", "size", "faults")
 VERDICT_COLUMNS = ["accession", "deed", "kind", *FILE_COLUMNS]
@@ -100,14 +103,16 @@ class Museum(model.Desk):
             return Due(BAD_BODY)
 
     def answer(self, asked):
-        if asked.what not in FOR_STAFF:
+        if asked.what in model.QUESTIONS:
             return super().answer(asked)
         refuse_if(not all(map(is_day, asked.parts)), NO_ROUTE)
         audience = "public" if asked.key is None else self.badges.get(hashlib.sha256(asked.key).hexdigest())
         refuse_if(audience is None, UNKNOWN_KEY)
         refuse_if(audience != "staff", STAFF_ONLY)
-        numbers = [int(part) if part.isdigit() else part for part in asked.parts]
-        return FOR_STAFF[asked.what](self, asked.body, *numbers)
+        numbers = [int(part) if part.isdigit() and len(part) < 7 else part for part in asked.parts]
+        if asked.what.startswith("rehearse"):
+            return self.rehearse(asked.what, asked.body, *numbers)
+        return getattr(self, asked.what.replace(" ", "_"))(asked.body, *numbers)
 
     # Verdicts
 
@@ -191,38 +196,18 @@ class Museum(model.Desk):
                         rows.append([acc, file["slot"], file["name"], word, effect, rule, new, new_rule])
         return table(rows)
 
-    def of_deed(self, num):
-        refuse_if(num not in self.deeds, NO_DEED)
-        return [acc for acc, image in self.images.items() if image.deed == num]
-
-    def with_rule(self, label, rank, rule):
-        """The rules by a label with one of them put, or without it."""
+    def rehearse(self, what, body, day, scope, rank):
+        """What turns on a day where a rule of a deed or a takedown of a disk is put, or dropped."""
+        is_rule, rule = what.endswith("rule"), None
+        if what.startswith("rehearse put"):
+            rule = model_requests.rule_of(body, rank, ("deny", "list", "read")[: 2 + is_rule])
+        refuse_if(is_rule and scope not in self.deeds, NO_DEED)
+        refuse_if(not is_rule and scope not in self.images, NO_ACCESSION)
+        accessions = [acc for acc, image in self.images.items() if scope == (image.deed if is_rule else acc)]
+        label = f"{'TR'[is_rule]}{scope}"
         others = {other: held for other, held in self.rules.get(label, {}).items() if other != rank}
-        return others if rule is None else {**others, rank: rule}
+        return self.turns(day, accessions, label, {**others, rank: rule} if rule else others)
 
-    def rehearse_rule(self, body, day, num, rank):
-        rule = model_requests.rule_of(body, rank, ("deny", "list", "read"))
-        return self.turns(day, self.of_deed(num), f"R{num}", self.with_rule(f"R{num}", rank, rule))
-
-    def rehearse_drop(self, _, day, num, rank):
-        return self.turns(day, self.of_deed(num), f"R{num}", self.with_rule(f"R{num}", rank, None))
-
-    def rehearse_takedown(self, body, day, acc, rank):
-        rule = model_requests.rule_of(body, rank, ("deny", "list"))
-        refuse_if(acc not in self.images, NO_ACCESSION)
-        return self.turns(day, [acc], f"T{acc}", self.with_rule(f"T{acc}", rank, rule))
-
-    def rehearse_end(self, _, day, acc, rank):
-        refuse_if(acc not in self.images, NO_ACCESSION)
-        return self.turns(day, [acc], f"T{acc}", self.with_rule(f"T{acc}", rank, None))
-
-
-FOR_STAFF = {
-    "show deeds": Museum.show_deeds, "show takedowns": Museum.show_takedowns, "show keys": Museum.show_keys,
-    "show checks": Museum.show_checks, "show verdicts": Museum.show_verdicts, "rehearse rule": Museum.rehearse_rule,
-    "rehearse drop": Museum.rehearse_drop, "rehearse takedown": Museum.rehearse_takedown,
-    "rehearse end": Museum.rehearse_end, "check": Museum.check,
-}
 
 # The door: the pages and the desk at one port
 
@@ -317,7 +302,20 @@ class Door(socketserver.ThreadingTCPServer):
         head, _, body = whole.partition(b"\r\n\r\n")
         return head + self.added + b"\r\n\r\n" + body
 
-    # What came of a test
+    # For tests
+
+    def at_hand(self, replies):
+        """Has replies, by their paths, come at once: to make them takes a stand-in longer than the desk."""
+        made = {path: self.with_added(make()) for path, make in replies.items()}
+        self.before = lambda method, path: made.get(path)
+
+    def ranks(self, acc):
+        """The ranks of the takedowns of a disk."""
+        return sorted(self.museum.rules.get(f"T{acc}", {}))
+
+    def images(self, first, last):
+        """The bytes of the disks with these numbers."""
+        return {acc: image.bytes for acc, image in self.museum.images.items() if first <= acc <= last}
 
     def effects(self, acc):
         """What the public and the room may do with each file of a disk."""
