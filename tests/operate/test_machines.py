@@ -2,13 +2,14 @@
 a store without sums, and one on which what docs/OPERATING.md and docs/BY-HAND.md say is typed."""
 
 import json
+import pathlib
 import re
 import shutil
 
 import pytest
-from conftest import ROOT
 from operate.test_package import field, made
 from support import booted
+from support.server import ROOT
 
 pytestmark = [pytest.mark.long, pytest.mark.xdist_group("machine"), pytest.mark.timeout(1800)]
 
@@ -73,7 +74,7 @@ def packages(program, tmp_path_factory):
 @pytest.fixture
 def machine(packages):
     with booted.Machine() as begun:
-        for path in (*packages, *(ROOT / "images").iterdir()):
+        for path in (*packages, *pathlib.Path(ROOT, "images").iterdir()):
             shutil.copy(path, begun.home)
         begun.boot()
         yield begun

@@ -9,9 +9,9 @@ import shutil
 import subprocess
 
 import pytest
-from conftest import ROOT
+from support.server import ROOT
 
-MAKE = ROOT / "operate" / "make-deb"
+MAKE = pathlib.Path(ROOT, "operate", "make-deb")
 NAMES = {"root": 0, "www-data": 33, "desk": 990}
 
 
@@ -158,7 +158,7 @@ def test_journals_folder_is_written_at_once(tmp_path):
     for name, rest in (("passwd", "0::/:/bin/sh"), ("group", "")):
         lines = [f"{user}:x:{number}:{rest}\n" for user, number in NAMES.items()]
         (tmp_path / "etc" / name).write_text("".join(lines))
-    words = ["systemd-tmpfiles", f"--root={tmp_path}", "--create", ROOT / "operate/package/tmpfiles.conf"]
+    words = ["systemd-tmpfiles", f"--root={tmp_path}", "--create", f"{ROOT}/operate/package/tmpfiles.conf"]
     subprocess.run(words, check=True)
     ran = subprocess.run(["lsattr", "-d", tmp_path / "var/log/desk"], capture_output=True, text=True, check=True)
     assert "S" in ran.stdout.split()[0]

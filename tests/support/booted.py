@@ -19,16 +19,10 @@ ADDED = "systemd-sysv,dbus,iproute2"
 FETCHED = "nginx openssl sqlite3 curl logrotate python3 openssh-server openssh-client"
 FETCH = f"apt-get update -qq && apt-get install -y -qq --download-only --no-install-recommends {FETCHED}"
 # What sets the clock of a machine some seconds after its start.
-LATE_CLOCK = """[Unit]
-DefaultDependencies=no
-Before=time-sync.target
-[Service]
-Type=oneshot
-RemainAfterExit=yes
-ExecStart=/bin/sleep 5
-[Install]
-WantedBy=time-sync.target
-"""
+LATE_CLOCK = (
+    "[Unit]\nDefaultDependencies=no\nBefore=time-sync.target\n[Service]\nType=oneshot\nRemainAfterExit=yes\n"
+    "ExecStart=/bin/sleep 5\n[Install]\nWantedBy=time-sync.target\n"
+)
 CGROUPS = pathlib.Path("/sys/fs/cgroup")
 # The flag CLONE_NEWNS of Linux.
 NEW_MOUNTS = 0x20000
@@ -43,8 +37,7 @@ def command(*words):
 
 
 def make_debian():
-    """Makes the Debian that is kept, where there is none that has what is wanted. It has its name only when it is
-    whole."""
+    """Makes the Debian that is kept, where none has what is wanted. It has its name only when it is whole."""
     told = KEPT / "root" / "fetched"
     if told.exists() and told.read_text() == FETCHED:
         return
@@ -62,8 +55,7 @@ def make_debian():
 
 @functools.cache
 def own_mounts():
-    """Gives this process mounts of its own, which nobody else sees, which all its machines share, and which end with
-    it."""
+    """Gives this process mounts of its own, which all its machines share, and which end with it."""
     if os.geteuid() or ctypes.CDLL(None).unshare(NEW_MOUNTS):
         raise RuntimeError("a machine is booted by root alone")
     command("mount", "--make-rprivate", "/")
@@ -80,7 +72,7 @@ class Machine:
         self.folder = pathlib.Path(tempfile.mkdtemp(prefix="booted-"))
         self.root, self.home = self.folder / "root", self.folder / "root" / "root"
         self.group = CGROUPS / self.folder.name
-        self.nspawn = self.first = self.inside = None
+        self.nspawn = self.inside = None
 
     def __enter__(self):
         command("mount", "-t", "tmpfs", "tmpfs", self.folder)
@@ -115,29 +107,23 @@ class Machine:
 
     def wait_for_start(self, told):
         ready = False
-        while not (ready and self.first):
+        while not (ready and self.inside):
             came = told.recv(65536).decode().splitlines()
             ready = ready or "READY=1" in came
-            for line in came:
-                if line.startswith("X_NSPAWN_LEADER_PID="):
-                    number = line.split("=")[1]
-                    self.first = os.pidfd_open(int(number))
-                    enter = ["nsenter", "--target", number, "--all", "env", "-i", *SETTINGS]
-                    self.inside = [*ENDS_TOO, "KILL", *enter, "bash"]
+            for number in (line.split("=")[1] for line in came if line.startswith("X_NSPAWN_LEADER_PID=")):
+                enter = ["nsenter", "--target", number, "--all", "env", "-i", *SETTINGS]
+                self.inside = [*ENDS_TOO, "KILL", *enter, "bash"]
 
     def halt(self):
-        """Has the machine end as by its switch; where it does not, its first process is killed, and so all of them."""
+        """Has the machine end as by its switch; where it does not, all its processes are killed."""
         if self.nspawn:
             self.nspawn.send_signal(signal.SIGTERM)
             try:
                 self.nspawn.wait(timeout=LIMIT)
             except subprocess.TimeoutExpired:
-                if self.first:
-                    signal.pidfd_send_signal(self.first, signal.SIGKILL)
-                else:
-                    self.nspawn.kill()
+                self.nspawn.kill()
                 self.nspawn.wait()
-        self.nspawn = self.first = None
+        self.nspawn = self.inside = None
 
     def boot_with_late_clock(self):
         """Starts the machine again, with a clock that is set some seconds after the start."""
