@@ -8,18 +8,22 @@ from support import clients, samples
 INPUTS = ("web", "images", "crates/rd_trials/data")
 
 
-@pytest.fixture(scope="session")
-def filled(desk, program, tmp_path_factory):
-    """A store with all that the samples speak of. Its desk has ended, so it is one file."""
-    store = tmp_path_factory.mktemp("filled") / "desk.sqlite"
-    assert desk("init", "--store", store, "--key", samples.STAFF).stdout == b"done\n"
-    cases = (*samples.FIRST, *samples.MORE)
+def fill(program, store, cases):
+    """Has a desk answer these, and end, so that the store is one file."""
     with clients.Serving(program, store, len(cases)) as served:
         served.listens()
         for label, asked, due in cases:
             assert clients.by_client(served.port, asked) == due, label
         assert served.end() == (0, f"served {len(cases)}\n", "")
     return store
+
+
+@pytest.fixture(scope="session")
+def filled(desk, program, tmp_path_factory):
+    """A store with all that the samples speak of."""
+    store = tmp_path_factory.mktemp("filled") / "desk.sqlite"
+    assert desk("init", "--store", store, "--key", samples.STAFF).stdout == b"done\n"
+    return fill(program, store, [*samples.FIRST, *samples.MORE])
 
 
 @pytest.fixture
@@ -45,13 +49,7 @@ def reading(serving, filled, tmp_path_factory):
 @pytest.fixture(scope="session")
 def long_store(filled, program, tmp_path_factory):
     """The filled store with a disk that is full of one file."""
-    store = shutil.copy(filled, tmp_path_factory.mktemp("long") / "desk.sqlite")
-    with clients.Serving(program, store, len(samples.LONG)) as served:
-        served.listens()
-        for label, asked, due in samples.LONG:
-            assert clients.by_client(served.port, asked) == due, label
-        assert served.end()[0] == 0
-    return store
+    return fill(program, shutil.copy(filled, tmp_path_factory.mktemp("long") / "desk.sqlite"), samples.LONG)
 
 
 @pytest.fixture

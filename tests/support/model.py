@@ -5,7 +5,6 @@ from a desk that has the disk alone. So it shows what the desk makes of requests
 describes, and not how it reads a disk."""
 
 import collections
-import datetime
 import functools
 import json
 import os
@@ -30,6 +29,9 @@ SERVED = ("SEQ", "PRG", "USR")
 Image = collections.namedtuple("Image", "kind deed digest bytes")
 # What is due to a visit: a reply, and what is to be done where it comes, or None.
 Due = collections.namedtuple("Due", "reply change", defaults=(None,))
+
+
+Refusal = Refused
 
 
 def refuse_if(holds, reply_):
@@ -208,43 +210,6 @@ class Desk:
     def drop_key(self, _, key):
         refuse_if(self.is_last_staff(key.lower()), CONFLICT)
         return Due(DONE, lambda: self.badges.pop(key.lower(), None))
-
-    # What the tables hold
-
-    def rows(self):
-        """The rows of each table, in the order of their keys."""
-        images = sorted(self.images.items())
-        return {
-            "deed": sorted((num, donor, day_number(signed)) for num, (donor, signed) in self.deeds.items()),
-            "image": [
-                (acc, int(image.kind != "cpm8"), image.deed, bytes.fromhex(image.digest), disk_of(image))
-                for acc, image in images
-            ],
-            "marks": [(acc, image.bytes[cbm_image.SIZE :]) for acc, image in images if image.kind == "d64e"],
-            "rule": sorted(rule_row(label, rule) for label in self.rules for rule in self.by_rank(label)),
-            "badge": sorted((bytes.fromhex(key), AUDIENCES.index(word)) for key, word in self.badges.items()),
-            "checked": sorted((acc, day_number(self.day), int(differs)) for acc, differs in self.checked.items()),
-        }
-
-
-def disk_of(image):
-    """The bytes of a disk without its error bytes, which have a table of their own."""
-    return image.bytes[: cbm_image.SIZE] if image.kind == "d64e" else image.bytes
-
-
-def day_number(date):
-    """The days since 1970-01-01, or None where there is no date."""
-    return date and (datetime.date.fromisoformat(date) - datetime.date(1970, 1, 1)).days
-
-
-def rule_row(label, rule):
-    """A rule as its row."""
-    [(how, value)] = rule["select"].items()
-    number, word = (value if how in ("slot", "user") else 0), (value if how in ("prefix", "type") else "")
-    audiences = sum(1 << AUDIENCES.index(audience) for audience in rule["audiences"])
-    days = day_number(rule["from"]), day_number(rule["until"])
-    select, effect = list(model_requests.SELECTORS).index(how), ("deny", "list", "read").index(rule["effect"])
-    return "TR".index(label[0]), int(label[1:]), rule["rank"], audiences, *days, select, number, word, effect
 
 
 QUESTIONS = {

@@ -20,7 +20,7 @@ Visit = collections.namedtuple("Visit", "data parts", defaults=(1,))
 DISKS = [(kind, image) for kind, _, image in IMAGES.values()]
 DISKS += [("d64", trials.image("full.image")), ("cpm8", full_record_disk(LONG_FILE)), ("d64e", MARKED_DISK)]
 DATES = ["2019-05-04", "0001-01-01", "9999-12-31", "2020-02-29"]
-accessions, deeds = (st.sampled_from([*numbers, 99]) for numbers in (range(12, 24), range(7, 12)))
+accessions, deeds = st.sampled_from([*IMAGES, 12, 20, 21, 99]), st.sampled_from([7, 8, 9, 9, 10, 11, 99])
 slots, ranks = st.sampled_from([0, 0, 0, 1, 1, 2, 3, 15]), st.sampled_from([1, 2, 10, 9999])
 keys = st.sampled_from([None, None, "hello", "reader", "second", "abc", "abc", "nobody"])
 staff_keys = st.sampled_from(["abc"] * 12 + ["second", None, "hello"])
@@ -40,20 +40,21 @@ def rules(scope, numbers, *effects):
 
 
 commands = st.one_of(
-    st.builds(survey, accessions), st.builds(check, accessions),
-    rules("deeds", deeds, "deny", "list", "read", "read", "read", None),
-    rules("images", accessions, "deny", "list", None),
+    st.builds(survey, accessions), st.builds(check, accessions), rules("images", accessions, "deny", "list", None),
+    *(rules("deeds", deeds, "deny", "list", "read", "read", "read", None) for _ in range(2)),
     st.builds(lambda number, donor, day: put(f"/deeds/{number}", {"donor": donor, "signed": day}), deeds,
               st.sampled_from([DONOR_OF_9, "x" * 1000, "|;'"]), st.sampled_from(DATES)),
-    st.builds(lambda number, deed, disk, kind: put_image(number, kind or disk[0], deed, disk[1]), accessions, deeds,
-              st.sampled_from(DISKS), st.sampled_from([None] * 9 + ["cpm8", "d64", "d64e"])),
+    st.builds(lambda number, deed, disk, kind, told: put_image(number, kind or disk[0], deed, disk[1], told),
+              accessions, deeds, st.sampled_from(DISKS), st.sampled_from([None] * 9 + ["cpm8", "d64", "d64e"]),
+              st.sampled_from([None] * 5 + [digest(b"")])),
     st.builds(lambda key, word: put(badge(key), {"audience": word}) if word else drop(badge(key)),
-              st.sampled_from(["hello", "reader", "second", "abc"]), st.sampled_from(["room", "staff", None])),
+              st.sampled_from(["hello", "reader", "second", "second", "abc"]), st.sampled_from(["room", "staff", None])),
 )
+# (of what is the same object, Hypothesis draws one)
 requests = st.one_of(
-    st.builds(get, st.one_of(st.sampled_from(["/images", "/catalogue"]), files, files), keys),
-    st.builds(get, st.builds("/images/{}".format, accessions), keys),
-    *[st.builds(lambda asked, key: asked._replace(key=key), commands, staff_keys)] * 3,
+    st.builds(get, files, keys), st.builds(get, st.builds("/images/{}".format, accessions), keys),
+    st.builds(get, st.sampled_from(["/images", "/catalogue"]), keys),
+    *(st.builds(lambda asked, key: asked._replace(key=key), commands, staff_keys) for _ in range(5)),
 )
 
 # Mutations. Words of a head or of a body stand in the place of others, or beside them

@@ -209,12 +209,12 @@ def images(*counts):
     return told(images=lines)
 
 
-def surveyed(accession, donor, signed, label, claimed_free, **files):
+def surveyed(accession, donor, signed, label, claimed_free, files, served, bad):
     """A survey of an image whose directory ends. Its block map, if it has one, has blocks of files free."""
     kind, deed, _ = IMAGES[accession]
     counts = None if claimed_free is None else {"claimed_free": claimed_free, "unclaimed_used": 0, "wrong_counts": 0}
-    keys = {"accession": accession, "deed": deed, "directory": "end", "donor": donor, "kind": kind}
-    return told(label=label, map=counts, signed=signed, size_differs=0, **keys, **files)
+    keys = {"accession": accession, "deed": deed, "directory": "end", "donor": donor, "kind": kind, "faulty": bad}
+    return told(files=files, label=label, map=counts, served=served, signed=signed, size_differs=0, **keys)
 
 
 COLUMNS = ("accession", "deed", "kind", "slot", "user", "name", "type", "size", "faults", "rule", "effect")
@@ -245,10 +245,7 @@ LOOP_LINE = listed(0, "LOOP", "PRG", None, "R9.20", faults=["loop"])
 RECORD_LINE = listed(0, "HELLO.TXT", "TXT", 128, "R9.20", user=0)
 OPEN_IMAGES = [(14, 1), (15, 1), (16, 3), (17, 4), (18, 2), (26, 2)]
 TO_STAFF, TO_OTHERS = images((12, 1), *OPEN_IMAGES), images(*OPEN_IMAGES)
-SURVEY_OF_12 = surveyed(12, "A. Curator", "2019-05-04", "MUSEUM", 2, files=1, served=1, faulty=0)
-SURVEY_OF_14 = surveyed(14, DONOR_OF_9, "0001-01-01", "MUSEUM", 3, files=1, served=0, faulty=1)
-SURVEY_OF_15 = surveyed(15, DONOR_OF_9, "0001-01-01", "", None, files=1, served=1, faulty=0)
-SURVEY_OF_26 = surveyed(26, DONOR_OF_9, "0001-01-01", "SCRATCHED", 0, files=2, served=1, faulty=1)
+SURVEY_OF_12 = surveyed(12, "A. Curator", "2019-05-04", "MUSEUM", 2, 1, 1, 0)
 
 # Each request with its label and the reply that is due.
 FIRST = [
@@ -280,7 +277,10 @@ READ_BACK = [
     ("its file to the staff", get("/images/12/files/0", STAFF), HELLO),
     ("its file to the room", get("/images/12/files/0", ROOM), denied("R7.10")),
     ("its file to the public", FOR_HELLO, denied("R7.10")),
-    ("its survey", survey(12), SURVEY_OF_12),
+    ("the survey of a disk", survey(12), SURVEY_OF_12),
+    ("of a disk with a fault", survey(14), surveyed(14, DONOR_OF_9, "0001-01-01", "MUSEUM", 3, 1, 0, 1)),
+    ("of a CP/M disk", survey(15), surveyed(15, DONOR_OF_9, "0001-01-01", "", None, 1, 1, 0)),
+    ("of a disk with error bytes", survey(26), surveyed(26, DONOR_OF_9, "0001-01-01", "SCRATCHED", 0, 2, 1, 1)),
     ("image 13 to the staff", get("/images/13", STAFF), listing(13)),
     ("its file to the staff", get("/images/13/files/0", STAFF), denied("D0")),
     ("image 14", get("/images/14"), listing(14, LOOP_LINE)),

@@ -13,8 +13,6 @@ import threading
 import time
 
 ROOT = os.path.dirname(os.path.dirname(os.path.dirname(os.path.abspath(__file__))))
-# The program where ./desk and .ci/run build it.
-PROGRAM = os.path.join(ROOT, "crates", "rd_main", "out", "rd_main")
 HOST = "127.0.0.1"
 # Ports from this one on are nobody's by custom, and no browser refuses them.
 FIRST_PORT = 10240
@@ -74,22 +72,12 @@ def socket_at(place, timeout=LIMIT):
     return connection
 
 
-class SocketConnection(http.client.HTTPConnection):
-    """A client at a Unix socket."""
-
-    def __init__(self, path, timeout):
-        super().__init__("desk", timeout=timeout)
-        self.path = path
-
-    def connect(self):
-        self.sock = socket_at(self.path, self.timeout)
-
-
 def client_at(place, timeout=LIMIT):
     """A client at a place."""
-    if isinstance(place, int):
-        return http.client.HTTPConnection(HOST, place, timeout=timeout)
-    return SocketConnection(place, timeout)
+    client = http.client.HTTPConnection(HOST, place if isinstance(place, int) else None, timeout=timeout)
+    if not isinstance(place, int):
+        client.connect = lambda: setattr(client, "sock", socket_at(place, timeout))
+    return client
 
 
 class Serving:
