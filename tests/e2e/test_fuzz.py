@@ -106,7 +106,7 @@ def machine(serving, disks, filled, tmp_path):
     return Machine
 
 
-@pytest.mark.parametrize("stories", [50, pytest.param(2000, marks=pytest.mark.long)])
+@pytest.mark.parametrize("stories", [40, pytest.param(2000, marks=pytest.mark.long)])
 @pytest.mark.timeout(3600)
 def test_mutated_visits_have_the_replies_that_are_due(machine, seed, stories):
     checks = hypothesis.settings(
