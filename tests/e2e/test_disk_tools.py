@@ -12,7 +12,8 @@ from support import cbm_image, cpm_image, model_disks
 
 FORMAT = ["-f", "ibm-3740"]
 LETTERS = "ABCDEFGHIJKLMNOPQRSTUVWXYZ0123456789$#@!-_"
-FEW, MANY = 3, 24
+COLUMNS = ("slot", "user", "type", "size", "faults", "name")
+FEW, MANY = 4, 24
 DISKS = [pytest.param(number, marks=[] if number < FEW else pytest.mark.long) for number in range(MANY)]
 
 
@@ -33,7 +34,7 @@ def run(tmp_path):
 def is_as_listed(desk, kind, path):
     """The files of a disk, once `list` and `cat` have given what the plain functions read."""
     files = model_disks.read(kind, path.read_bytes()).files
-    lines = ["\t".join(file.fields[name] for name in ("slot", "user", "type", "size", "faults", "name")) for file in files]
+    lines = ["\t".join(file.fields[name] for name in COLUMNS) for file in files]
     assert desk("list", kind, path).stdout.decode().splitlines() == [*lines, f"files\t{len(files)}\tend"]
     for file in files:
         ran = desk("cat", kind, path, file.fields["slot"])
@@ -73,45 +74,42 @@ def cpmls(run, path):
     return sorted(names)
 
 
-def cpmcp(folder, image, file):
+def cpmcp(image, file):
     """The bytes that cpmcp copies of a file, None where it does not read the file to its end."""
-    path, fields = folder / "copied", file.fields
+    path = image.with_name("copied")
     path.unlink(missing_ok=True)
-    words = ["cpmcp", *FORMAT, image, f"{fields['user']}:{fields['name'].lower()}", path]
+    words = ["cpmcp", *FORMAT, image, f"{file.fields['user']}:{file.fields['name'].lower()}", path]
     return None if subprocess.run(words, capture_output=True, timeout=60).returncode else path.read_bytes()
 
 
 def without_s1(path):
-    """A copy of an image whose byte S1 is 0 in each entry of a file: cpmcp cuts the last record at it."""
-    data = bytearray(path.read_bytes())
+    """A copy of an image whose byte S1 is 0 in each entry: cpmcp cuts the last record at it."""
+    data, copy = bytearray(path.read_bytes()), path.with_name("without-s1")
     for place in map(cpm_image.slot_place, range(64)):
-        data[place + 13] = 0 if data[place] < 16 else data[place + 13]
-    copy = path.with_name("without-s1")
+        data[place + 13] = 0
     copy.write_bytes(data)
     return copy
 
 
-def on_last_track(path):
-    """The users and names of files with a block on the last track, which cpmcp does not read."""
-    last = {}
-    for (user, name), entries in model_disks.cpm_files(path.read_bytes()).items():
-        blocks = [block for _, entry in entries for block in entry[16:] if block]
-        last[str(user), model_disks.cpm_name(name)[0]] = any(cpm_image.track(8 * block + 7) == 76 for block in blocks)
-    return last
+def names_on_last_track(image):
+    """The users and names of the files with a block on the last track, which cpmcp does not read."""
+    return {
+        (str(user), model_disks.cpm_name(name)[0]) for (user, name), slots in model_disks.cpm_files(image).items()
+        if any(block and cpm_image.track(8 * block + 7) == cpm_image.LAST_TRACK for _, row in slots for block in row[16:])
+    }
 
 
 @pytest.mark.parametrize("number", DISKS)
 def test_cpm_disk_beside_cpmtools(desk, run, seed, tmp_path, number):
     path = fill_cpm(random.Random(f"{seed} cpm8 {number}"), run, tmp_path)
-    files, whole, last = is_as_listed(desk, "cpm8", path), without_s1(path), on_last_track(path)
-    assert sorted((file.fields["user"], file.fields["name"]) for file in files) == cpmls(run, path)
-    for file in files:
-        cut, read = (cpmcp(tmp_path, image, file) for image in (path, whole))
-        assert not file.fields["faults"]
-        assert (read is None) == (cut is None) == last[file.fields["user"], file.fields["name"]], file.fields
-        if read is not None:
-            assert read == file.data, file.fields
-            assert file.data.startswith(cut) and len(file.data) - len(cut) < 128, file.fields
+    files, whole, last = is_as_listed(desk, "cpm8", path), without_s1(path), names_on_last_track(path.read_bytes())
+    names = [(file.fields["user"], file.fields["name"]) for file in files]
+    assert sorted(names) == cpmls(run, path)
+    for name, file in zip(names, files):
+        cut, read = cpmcp(path, file), cpmcp(whole, file)
+        assert (file.fields["faults"], cut is None, read is None) == ("", name in last, name in last), name
+        if name not in last:
+            assert read == file.data and file.data.startswith(cut) and len(file.data) - len(cut) < 128, name
 
 
 # 1541
@@ -121,27 +119,31 @@ def cc1541(path, *words):
     return ["cc1541", "-m", "-q", "-n", "museum", *words, path]
 
 
-def fill_cbm(chance, run, folder):
-    """Adds files of each type, some long, a REL file with its side sectors, which neither tool writes, and scratches
-    the first."""
-    path = folder / "image.d64"
-    for number in range(chance.choice([1, 5, 20, 60])):
-        kind, size = chance.choice(["PRG", "SEQ", "USR", "DEL"]), chance.choice([1, 2, 253, 254, 255, 508, 509, 3000, 20000])
-        (folder / "local").write_bytes(chance.randbytes(size))
-        words = ["-T", kind, "-s", chance.randint(1, 12), "-f", f"file{number}", "-w", "local"]
-        if run(*cc1541(path, *words)) is None:
-            break
+def with_rel(chance, run, path):
+    """Adds a REL file with its side sectors, which neither tool writes, where the disk has room for one."""
     room = sum(block[0] != 18 for block in cbm_image.free_blocks(path.read_bytes())) - 6
-    if room > 0 and chance.random() < 0.5:
+    if room > 0:
         run(*cc1541(path, "-T", "REL", "-f", "records", "-L"))
         image, record = bytearray(path.read_bytes()), chance.randint(1, 254)
         size = min(chance.choice([1, 2, 119, 120, 121, 300]), room) * 254 // record * record
         cbm_image.put_rel(image, b"RECORDS", record, chance.randbytes(size))
         path.write_bytes(image)
+
+
+def fill_cbm(chance, run, folder):
+    """Adds files of each type, some long, and on some disks a REL file, and scratches the first file of some."""
+    path = folder / "image.d64"
+    for number in range(chance.choice([1, 5, 20, 60])):
+        kind = chance.choice(["PRG", "SEQ", "USR", "DEL"])
+        (folder / "local").write_bytes(chance.randbytes(chance.choice([1, 2, 253, 254, 255, 508, 509, 3000, 20000])))
+        words = ["-T", kind, "-s", chance.randint(1, 12), "-f", f"file{number}", "-w", "local"]
+        if run(*cc1541(path, *words)) is None:
+            break
     if chance.random() < 0.5:
-        image = bytearray(path.read_bytes())
-        image[cbm_image.place(18, 1) + 2] = 0
-        path.write_bytes(image)
+        with_rel(chance, run, path)
+    image = bytearray(path.read_bytes())
+    image[cbm_image.place(18, 1) + 2] *= chance.choice([0, 1])
+    path.write_bytes(image)
     return path
 
 

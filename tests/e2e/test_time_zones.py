@@ -1,10 +1,8 @@
-"""When a day begins in twenty places of the world: `desk export --at MOMENT --zone RULE` beside what the C library makes
-of the same rule by TZ and localtime.
+"""When a day begins in twenty places: `export --at MOMENT --zone RULE` beside what the C library makes of the rule.
 
 Each rule is the last line of the place's file in /usr/share/zoneinfo, as Debian's tzdata 2025b has it. The GNU C
 library follows a rule from 1970 on."""
 
-import collections
 import csv
 import os
 import time
@@ -45,8 +43,6 @@ CHANGES = [(1989, 0, "1989-03-26"), (2026, 1, "2026-10-25")]
 STRANGE = {(22, 23, 1, 2), (21, 22, 0, 1), (23, 23, 0, 1), (22, 23, 0, 0)}
 HOUR = 3600
 
-Day = collections.namedtuple("Day", "date begins")
-
 
 # What the C library reads
 
@@ -69,57 +65,43 @@ def date_at(moment):
     return time.strftime("%Y-%m-%d", time.localtime(moment))
 
 
-def first(low, high, holds):
-    """The moment from which on something holds, which does not hold at `low` and holds at `high`."""
-    while high - low > 1:
-        middle = (low + high) // 2
-        low, high = (low, middle) if holds(middle) else (middle, high)
-    return high
-
-
-def day_of(date):
-    """A day with its first moment, which lies near the one that the C library gives for its midnight."""
+def first_of(date):
+    """The first moment of a day, which is near the C library's midnight. No rule changes a clock within a minute."""
     about = int(time.mktime(time.strptime(date, "%Y-%m-%d")))
-    return Day(date, first(about - 4 * HOUR, about + 4 * HOUR, lambda moment: date_at(moment) >= date))
+    return next(moment for moment in range(about - 4 * HOUR, about + 4 * HOUR, 60) if date_at(moment) >= date)
 
 
 def changes(year):
     """The days of a year on which the clocks change. A change at midnight belongs to the day that begins."""
-    noons = [int(time.mktime((year, 1, 1 + number, 12, 0, 0, 0, 0, -1))) for number in range(365)]
-    found = []
-    for noon, next_noon in zip(noons, noons[1:]):
-        summer = time.localtime(next_noon).tm_isdst
-        if time.localtime(noon).tm_isdst != summer:
-            found.append(first(noon, next_noon, lambda moment: time.localtime(moment).tm_isdst == summer))
+    begin, end = (int(time.mktime((year + n, 1, 1, 12, 0, 0, 0, 0, -1))) for n in (0, 1))
+    moments = range(begin, end, HOUR // 2)
+    summers = [time.localtime(moment).tm_isdst for moment in moments]
+    found = [moment for moment, before, after in zip(moments[1:], summers, summers[1:]) if before != after]
     return [date_at(moment + 2 * HOUR) for moment in found]
 
 
-def days_of():
-    """The five days of the place whose rule is set."""
+def days():
+    """The five days of the place whose rule is set, and the first moment of each."""
     told = [(changes(year), which, otherwise) for year, which, otherwise in CHANGES]
-    return [day_of(date) for date in [*DAYS, *(days[which] if days else otherwise for days, which, otherwise in told)]]
+    dates = [*DAYS, *(days[which] if days else otherwise for days, which, otherwise in told)]
+    return {date: first_of(date) for date in dates}
 
 
 def test_places_have_each_strange_midnight(take):
     met = set()
     for rule in RULES.values():
         take(rule)
-        met |= {tuple(time.localtime(day.begins + HOUR * after).tm_hour for after in (-2, -1, 0, 1)) for day in days_of()}
+        met |= {tuple(time.localtime(begins + HOUR * n).tm_hour for n in (-2, -1, 0, 1)) for begins in days().values()}
     assert STRANGE <= met
 
 
 # What desk answers
 
 
-def disk_of(files):
-    """A CP/M disk with so many empty files."""
-    return cpm_image.filled((f"DAY{slot:<5}TXT".encode(), b"") for slot in range(files))
-
-
 def commands(dates):
     """What brings in a disk with a file for each date, which the public may read from that date on."""
     yield put("/deeds/7", {"donor": "A. Curator", "signed": "1969-05-04"})
-    yield put_image(12, "cpm8", 7, disk_of(len(dates)))
+    yield put_image(12, "cpm8", 7, cpm_image.filled((f"DAY{slot:<5}TXT".encode(), b"") for slot in range(len(dates))))
     for slot, date in enumerate(dates):
         yield put_rule(f"/deeds/7/rules/{slot + 1}", "deny", {"slot": slot}, "public", until=date)
     yield put_rule("/deeds/7/rules/9999", "read", EVERY, *ALL)
@@ -130,14 +112,13 @@ def test_day_begins_when_the_c_library_says(take, desk, serving, tmp_path, place
     """An hour and a second before a day begins, at that moment and an hour later: the public finds the days that have
     begun. The program has the rule by its option alone."""
     take(RULES[place])
-    days = days_of()
-    store, slots = tmp_path / "store", {day.date: slot for slot, day in enumerate(days)}
+    store, begins = tmp_path / "store", days()
     assert desk("init", "--store", store, "--key", STAFF).stdout == b"done\n"
     with serving(store) as served:
-        for asked in commands([*slots]):
+        for asked in commands(begins):
             assert by_client(served.port, asked) == DONE
-    for moment in (day.begins + after for day in days for after in (-HOUR, -1, 0, HOUR)):
+    for moment in (begin + after for begin in begins.values() for after in (-HOUR, -1, 0, HOUR)):
         words = ["export", "--store", store, "--at", moment, "--zone", RULES[place]]
         rows = csv.DictReader(desk(*words, env={**os.environ, "TZ": "UTC0"}, text=True).stdout.splitlines())
-        wanted = sorted(slot for date, slot in slots.items() if date <= date_at(moment))
+        wanted = [slot for slot, date in enumerate(begins) if date <= date_at(moment)]
         assert [int(row["slot"]) for row in rows] == wanted, f"{date_at(moment)}, at {moment}"
