@@ -59,7 +59,7 @@ PAGES = {
 
 @pytest.fixture
 def folder(program):
-    """A copy of what the commands need, not in /tmp, of which they may have one of their own; nginx's workers read it."""
+    """A copy of what the commands need, not in /tmp, for they have one of their own. nginx's workers read it."""
     with tempfile.TemporaryDirectory(prefix="docs-", dir="/var/tmp") as name:
         copy = pathlib.Path(name)
         for part in COPIED:
@@ -79,7 +79,8 @@ def begin(folder):
     shells = []
 
     def start(prepares):
-        shells.append(doc_pages.Shell(folder, *OWN, *([] if os.geteuid() == 0 else ["--map-root-user"]), "bash", "--norc"))
+        rights = [] if os.geteuid() == 0 else ["--map-root-user"]
+        shells.append(doc_pages.Shell(folder, *OWN, *rights, "bash", "--norc"))
         assert shells[0].run(prepares, []) == b""
         return shells[0]
 

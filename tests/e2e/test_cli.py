@@ -71,6 +71,12 @@ def keys(desk, store):
 # Statuses and streams
 
 
+def test_help_is_output_and_a_mistake_an_error(desk):
+    told, mistaken = desk("--help"), desk("list", "d65", WELCOME)
+    assert (told.returncode, told.stderr, mistaken.returncode, mistaken.stdout) == (0, b"", 2, b"")
+    assert told.stdout and mistaken.stderr
+
+
 @pytest.mark.parametrize("words, wanted", [
     (["cat", "cpm8", WELCOME, "0"], (0, TEXT, b"")),
     (["list", "cpm8", "--", WELCOME], (0, LIST, b"")),
@@ -83,12 +89,6 @@ def keys(desk, store):
 ], ids=lambda case: case[0] if isinstance(case, list) else f"status-{case[0]}")
 def test_status_and_streams(program, words, wanted):
     assert ending(subprocess.run([program, *words], capture_output=True, timeout=60)) == wanted
-
-
-@pytest.mark.parametrize("words, status", [(["--help"], 0), ([], 2), (["list", "d65", WELCOME], 2)], ids=str)
-def test_help_is_output_and_a_mistake_an_error(desk, words, status):
-    ran = desk(*words)
-    assert (ran.returncode, bool(ran.stdout), bool(ran.stderr)) == (status, not status, bool(status))
 
 
 @contextlib.contextmanager
@@ -151,11 +151,15 @@ def test_long_sheet_by_a_pipe(ends, plain):
 # Paths
 
 
-@pytest.mark.parametrize("words", [["init", *KEY, "--store"], ["copy", "--store", "plain", "--to"]], ids=" ".join)
-@pytest.mark.parametrize("path", [":memory:", "file:desk", "", "no-folder/new"])
-def test_no_store_is_made_elsewhere_than_in_a_file(ends, plain, path, words):
+@pytest.mark.parametrize("words, paths", [
+    (["init", *KEY, "--store"], [":memory:", "file:desk", "", "none/new", "folder"]),
+    (["copy", "--store", "plain", "--to"], [":memory:", "file:desk", "", "none/new"]),
+    (["export", "--store"], ["", "none/store", "dangling", "text", "folder"]),
+], ids=["init", "copy", "export"])
+def test_store_is_made_and_opened_in_a_file_alone(ends, plain, words, paths):
     before = set(plain.parent.iterdir())
-    assert ends(*words, path) == refusal("store")
+    for path in paths:
+        assert ends(*words, path) == refusal("store"), path
     assert set(plain.parent.iterdir()) == before
 
 
@@ -173,13 +177,6 @@ def test_folder_is_no_sheet_and_no_image(ends, plain):
 def test_no_command_but_init_makes_a_store(ends, tmp_path, words):
     assert ends(*words, "--store", "none") == refusal("not-a-desk")
     assert list(tmp_path.iterdir()) == []
-
-
-@pytest.mark.parametrize("path", ["", "dangling", "no-folder/store", "text", "folder"])
-def test_path_without_a_store_gets_none_and_no_log(ends, plain, path):
-    before = set(plain.parent.iterdir())
-    assert ends("export", "--store", path) == refusal("store")
-    assert set(plain.parent.iterdir()) == before
 
 
 # Sums, and copies
@@ -223,15 +220,10 @@ def test_no_sums_where_a_database_is_already(ends, plain):
     assert ends("init", "--store", "empty", *KEY) == DONE
 
 
-def test_copy_is_for_its_owner_alone(desk, ends, plain):
-    assert ends("copy", "--store", "plain", "--to", "new", umask=0o022) == DONE
-    assert [kind_at(plain.with_name(name))[0] for name in ("new", "new-wal")] == ["-rw-------", "-rw-------"]
-    assert keys(desk, plain.with_name("new")) == keys(desk, plain)
-
-
-def test_copy_has_sums_where_they_are_asked_for(desk, ends, plain):
+def test_copy_is_for_its_owner_and_has_sums_where_they_are_asked_for(desk, ends, plain):
     summed, back = plain.with_name("summed"), plain.with_name("back")
-    assert ends("copy", "--store", "plain", "--to", "summed", "--sums") == DONE
+    assert ends("copy", "--store", "plain", "--to", "summed", "--sums", umask=0o022) == DONE
+    assert [kind_at(plain.with_name(name))[0] for name in ("summed", "summed-wal")] == 2 * ["-rw-------"]
     with flipped(summed, PAGE // 2):
         assert ends("show", "keys", "--store", "summed", *KEY) == refusal("store")
     assert ends("copy", "--store", "summed", "--to", "back") == DONE
@@ -262,40 +254,21 @@ def serve(*words):
     return ["serve", "--store", "other", *NO_VISIT, *words]
 
 
-@pytest.fixture
-def killed(serving, plain):
-    """The socket of a desk that was killed, as by a loss of power."""
-    path = plain.with_name("socket")
-    with serving(plain, place=path):
-        pass
-    assert kind_at(path)[0] == "srw-rw----"
-    return path
-
-
-def test_socket_of_a_desk_that_serves_stays(ends, serving, plain):
+def test_socket_of_a_desk_that_serves_stays_and_of_a_killed_one_gives_way(ends, serving, plain):
+    """What else is at its path stays too; the last desk takes the socket away again."""
     path = plain.with_name("socket")
     with serving(plain, place=path):
         assert kind_at(path)[0] == "srw-rw----"
         assert ends(*serve("--socket", "socket")) == refusal("device")
         socket_at(path).close()
-
-
-def test_socket_of_a_killed_desk_gives_way_and_goes_with_the_next(ends, killed):
+    assert kind_at(path)[0] == "srw-rw----"
+    plain.with_name("to-socket").symlink_to(path)
+    for name in ("to-socket", "folder", "text", "dangling"):
+        before = kind_at(plain.with_name(name))
+        assert ends(*serve("--socket", name)) == refusal("device")
+        assert kind_at(plain.with_name(name)) == before
     assert ends(*serve("--socket", "socket")) == (0, b"listening socket\nserved 0\n", b"")
-    assert kind_at(killed) is None
-
-
-@pytest.mark.parametrize("name", ["to-socket", "folder", "text", "dangling"])
-def test_socket_takes_the_place_of_nothing_else(ends, killed, name):
-    killed.with_name("to-socket").symlink_to(killed)
-    before = kind_at(killed), kind_at(killed.with_name(name))
-    assert ends(*serve("--socket", name)) == refusal("device")
-    assert (kind_at(killed), kind_at(killed.with_name(name))) == before
-
-
-@pytest.mark.parametrize("path", ["", 108 * "a"])
-def test_socket_that_cannot_be_made(ends, plain, path):
-    assert ends(*serve("--socket", path)) == refusal("device")
+    assert kind_at(path) is None
 
 
 @pytest.mark.parametrize("words", [["copy", "--to", "new"], ["serve", "--socket", "socket"]], ids=["copy", "serve"])

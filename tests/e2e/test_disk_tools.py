@@ -93,10 +93,10 @@ def without_s1(path):
 
 def names_on_last_track(image):
     """The users and names of the files with a block on the last track, which cpmcp does not read."""
-    return {
-        (str(user), model_disks.cpm_name(name)[0]) for (user, name), slots in model_disks.cpm_files(image).items()
-        if any(block and cpm_image.track(8 * block + 7) == cpm_image.LAST_TRACK for _, row in slots for block in row[16:])
-    }
+    on_last = [block for block in range(256) if cpm_image.track(8 * block + 7) == cpm_image.LAST_TRACK]
+    files = model_disks.cpm_files(image).items()
+    return {(str(user), model_disks.cpm_name(name)[0]) for (user, name), slots in files
+            if any(block in on_last for _, entry in slots for block in entry[16:])}
 
 
 @pytest.mark.parametrize("number", DISKS)

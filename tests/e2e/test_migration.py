@@ -89,9 +89,9 @@ def test_command_migrates_a_store_once(run, store, first, words, output):
     assert shell(store, "SELECT acc, day, outcome FROM checked ORDER BY day") == "12|18262|0\n" + added
 
 
-def test_copy_is_of_version_2(run, store, first, tmp_path):
-    assert run("copy", "--to", tmp_path / "copy") == (0, "done\n", "")
-    is_migrated(tmp_path / "copy", first)
+def test_copy_is_of_version_2(run, store, first):
+    assert run("copy", "--to", "copy") == (0, "done\n", "")
+    is_migrated(store.with_name("copy"), first)
     is_migrated(store, first)
 
 
@@ -102,10 +102,10 @@ def test_desk_that_serves_migrates_a_store(serving, store, first):
     is_migrated(store, first)
 
 
-def test_tables_are_declared_as_those_of_a_new_desk(run, store, tmp_path):
-    assert run("init", *KEY, at=tmp_path / "new") == (0, "done\n", "")
-    run("export")
-    assert shell(store, DECLARED) == shell(tmp_path / "new", DECLARED)
+def test_tables_are_declared_as_those_of_a_new_desk(run, store):
+    assert run("init", *KEY, at="new") == (0, "done\n", "")
+    assert run("export")[0] == 0
+    assert shell(store, DECLARED) == shell(store.with_name("new"), DECLARED)
 
 
 @pytest.mark.parametrize("change, name", [
