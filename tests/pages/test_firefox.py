@@ -1,0 +1,112 @@
+"""The main ways through both pages in Firefox, over the stand-in. Selenium speaks to it by Marionette, which Firefox
+has of itself."""
+
+import json
+import os
+import signal
+import socket
+import subprocess
+
+import pytest
+from selenium import webdriver
+from selenium.common.exceptions import WebDriverException
+from selenium.webdriver.remote.command import Command
+from support import museums
+from support.browser import LIMIT
+from support.server import HOST, free_port, wait_for
+from test_accessibility import CONTRAST, NAMELESS, REFUSED
+
+pytestmark = pytest.mark.xdist_group("firefox")
+# How Marionette calls the commands of Selenium.
+COMMANDS = {
+    Command.NEW_SESSION: "NewSession", Command.GET: "Navigate", Command.FIND_ELEMENTS: "FindElements",
+    Command.CLICK_ELEMENT: "ElementClick", Command.CLEAR_ELEMENT: "ElementClear", Command.REFRESH: "Refresh",
+    Command.SEND_KEYS_TO_ELEMENT: "ElementSendKeys", Command.W3C_EXECUTE_SCRIPT: "ExecuteScript",
+    Command.W3C_EXECUTE_SCRIPT_ASYNC: "ExecuteAsyncScript", Command.GET_ELEMENT_PROPERTY: "GetElementProperty",
+    Command.SET_TIMEOUTS: "SetTimeouts", Command.GO_BACK: "Back", Command.QUIT: "DeleteSession",
+}
+# It saves files without a word, and asks nobody else for anything.
+SETTINGS = {
+    "browser.download.folderList": 2, "browser.download.always_ask_before_handling_new_types": False,
+    "browser.startup.page": 0, "intl.accept_languages": "en", "app.update.enabled": False,
+    "datareporting.policy.dataSubmissionEnabled": False, "network.captive-portal-service.enabled": False,
+    "network.connectivity-service.enabled": False, "extensions.systemAddon.update.enabled": False,
+    "services.settings.server": "data:,", "dom.ipc.processCount": 1,
+}
+
+
+class Marionette:
+    """Commands and replies of Marionette: texts of JSON, each behind its length."""
+
+    def __init__(self, port):
+        self.stream, self.number = socket.create_connection((HOST, port), LIMIT).makefile("rwb"), 0
+        self.taken()
+
+    def taken(self):
+        length = b""
+        while not length.endswith(b":"):
+            length += self.stream.read(1) or pytest.fail("Firefox has ended")
+        return json.loads(self.stream.read(int(length[:-1])))
+
+    def execute(self, command, values):
+        if command == Command.GET_LOG:
+            return {"value": []}
+        if command == Command.NEW_SESSION:
+            values = {"acceptInsecureCerts": True}
+        self.number += 1
+        text = json.dumps([0, self.number, f"WebDriver:{COMMANDS[command]}", values]).encode()
+        self.stream.write(b"%d:%s" % (len(text), text))
+        self.stream.flush()
+        _, _, fault, value = self.taken()
+        if fault:
+            raise WebDriverException(fault["message"] or fault["error"])
+        return {"value": value["value"] if isinstance(value, dict) and "value" in value else value}
+
+    def close(self):
+        self.stream.close()
+
+
+@pytest.fixture(scope="module")
+def driver(tmp_path_factory):
+    """Firefox, with a profile and a home of its own."""
+    folder, port = tmp_path_factory.mktemp("firefox"), free_port()
+    settings = {**SETTINGS, "marionette.port": port, "browser.download.dir": str(folder)}
+    lines = [f"user_pref({json.dumps(name)}, {json.dumps(value)});\n" for name, value in settings.items()]
+    (folder / "user.js").write_text("".join(lines))
+    words = ["firefox-esr", "--headless", "--marionette", "--no-remote", "--profile", str(folder)]
+    quiet = {name: subprocess.DEVNULL for name in ("stdin", "stdout", "stderr")}
+    process = subprocess.Popen(words, env={**os.environ, "HOME": str(folder)}, start_new_session=True, **quiet)
+    try:
+        wait_for(port, process, 2 * LIMIT)
+        begun = webdriver.Remote(Marionette(port), options=webdriver.FirefoxOptions())
+        begun.downloads = folder
+        yield begun
+    finally:
+        # the processes that it starts are of the same group, which lives until it is waited for
+        os.killpg(process.pid, signal.SIGKILL)
+        process.wait()
+
+
+def test_reader_finds_reads_and_saves_a_file(museum, reader):
+    museums.harmful_disk(museum, 1066, 9)
+    assert reader.go("1066")["rows"][2][1].startswith("<IMG") and reader.harmed() == [None, 0]
+    assert reader.find("welcome")["rows"][0][:2] == ["Disk 1001", "0"]
+    reader.go("1001/0")
+    reader.push("As bytes")
+    assert reader.text("pre").startswith("000000  ")
+    reader.named("link", "Download the bytes").click()
+    assert len(reader.saved("WELCOME.TXT")) == 896
+
+
+def test_staff_rehearses_and_puts_a_takedown(staff):
+    staff.go("takedowns")
+    assert "GUIDE (disk 1002, slot 2)" in staff.take_down("1002", "", "2", "public", "room")["sure"]
+    assert staff.answer(True)["result"] == ["Done: takedown 1000 of disk 1002."]
+    assert staff.door.effects(1002)["public"] == ["read", "read", "deny"]
+
+
+@pytest.mark.parametrize("place", ["", "1002", "1001/0", "find/welcome"])
+def test_view_has_names_and_contrast_and_refuses_markup(reader, place):
+    reader.go(place)
+    assert (reader.script(NAMELESS), reader.script(CONTRAST)) == ([], [])
+    assert reader.driver.execute_async_script(REFUSED) == ["TypeError"] * 3
