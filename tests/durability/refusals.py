@@ -4,6 +4,7 @@ import collections
 import contextlib
 import dataclasses
 import hashlib
+import os
 import pathlib
 import re
 import shutil
@@ -19,6 +20,10 @@ from support.samples import DONE
 STORE, LIMIT = "museum.sqlite", 600
 # Lines by which a command says that its store failed, which cannot tell why, and that it cannot read the last checks.
 NO_STORE, NO_CHECKS = b"desk: store", b"desk: clock"
+
+UNAVAILABLE = DONE.replace(b"200 OK", b"503 Service Unavailable").replace(b"13\r\n", b"23\r\n").replace(
+    b'"done":true', b'"error":"unavailable"'
+)
 
 # How a run ended, with the reply to a visitor.
 Ended = collections.namedtuple("Ended", "status output errors reply")
@@ -60,7 +65,8 @@ class Disk:
         before = collections.Counter(self.made[: at - 1])
         refused = [f"-einject={name}:error=EIO:when={before[name] + 1}+" for name in self.names if at]
         files = [f"-P{path}" for path in (place.now, place.now / STORE, place.now / f"{STORE}-wal")]
-        return ["strace", "-f", "-q", "--seccomp-bpf", "-o", self.told, f"-etrace={','.join(self.names)}", *refused, *files]
+        traced = f"-etrace={','.join(self.names)}"
+        return ["strace", "-f", "-q", "--seccomp-bpf", "-o", self.told, traced, *refused, *files]
 
     def calls(self):
         self.made = re.findall(r"^\d+ +(\w+)\(", self.told.read_text(), re.M)
@@ -75,14 +81,14 @@ class Place:
 
     def __init__(self, program, folder):
         self.work, self.now, self.port = folder / "given", folder / "now", server.free_port()
-        self.names = {"desk": program, "store": self.now / STORE, "folder": self.now, "port": self.port, "work": self.work}
+        self.names = {"desk": program, "store": self.now / STORE, "folder": self.now, "work": self.work}
         (self.work / "none").mkdir(parents=True)
         refused_commands.fill(self.work)
         self.dumps, self.known = {}, {}
 
     def run(self, command, before=()):
         """How a command ends, behind some words that have something refused to it."""
-        words = [*map(str, before), *(word.format(**self.names) for word in command.words)]
+        words = [*map(str, before), *(word.format(port=self.port, **self.names) for word in command.words)]
         pipe, begins, reply = subprocess.PIPE, b"", b""
         with subprocess.Popen(words, stdin=pipe, stdout=pipe, stderr=pipe) as process:
             try:
@@ -113,19 +119,29 @@ class Place:
         """What SQLite dumps of the store, and the digests of what else is in its folder."""
         digests = self.digests()
         if digests not in self.dumps:
-            self.dumps[digests] = dump_of(self.now), [one for one in digests if not one[0].startswith(STORE)]
+            self.dumps[digests] = dump_of(self.now / STORE), [one for one in digests if not one[0].startswith(STORE)]
         return self.dumps[digests]
 
 
-def dump_of(folder):
-    """All statements that make a store, of a copy of which SQLite reads them, as a digest; or SQLite's fault."""
-    with tempfile.TemporaryDirectory(dir=folder.parent) as name:
-        copy = pathlib.Path(shutil.copytree(folder, pathlib.Path(name, "copy")), STORE)
-        with contextlib.closing(sqlite3.connect(copy)) as connection:
-            try:
-                return hashlib.sha256("\n".join(connection.iterdump()).encode()).hexdigest()
-            except sqlite3.DatabaseError as fault:
-                return str(fault)
+@contextlib.contextmanager
+def copied(store):
+    """SQLite's connection to a copy of a store and its log, and the copy's path."""
+    with tempfile.TemporaryDirectory(dir=pathlib.Path(store).parent.parent) as name:
+        path = pathlib.Path(name, STORE)
+        for suffix in ("", "-wal"):
+            if os.path.exists(f"{store}{suffix}"):
+                shutil.copy(f"{store}{suffix}", f"{path}{suffix}")
+        with contextlib.closing(sqlite3.connect(path)) as connection:
+            yield connection, path
+
+
+def dump_of(store):
+    """The digest of all statements that make a store; or SQLite's fault."""
+    with copied(store) as (connection, _):
+        try:
+            return hashlib.sha256("\n".join(connection.iterdump()).encode()).hexdigest()
+        except sqlite3.DatabaseError as fault:
+            return str(fault)
 
 
 def reply_to(request, place):
@@ -162,7 +178,7 @@ class Sweep:
         return self.place.held() in [self.place.known[name] for name in names]
 
     def faults(self, chance, most):
-        """What is wrong where some calls are refused one by one, the first and the last among them; or where all are."""
+        """What is wrong where some calls are refused, each in turn, the first and the last among them; or all."""
         every = range(1, self.count + 1)
         numbers = sorted({1, self.count, *chance.sample(every, min(most, self.count))}) if most else every
         found = ((at, self.fault(at)) for at in numbers)
@@ -196,7 +212,8 @@ class Sweep:
         named = {self.refusal.line, NO_CHECKS if lines and not command.has_rows else self.refusal.line}
         named |= {NO_STORE} if "{store}" in command.words and (command.has_rows or not lines) else set()
         says_so = ran.status == 3 and told in named and all(line.startswith(b"  ") for line in explained)
-        return (says_so and is_front) or (bool(command.request) and ran[:3] == self.ever[:3])
+        is_told = DONE.startswith(ran.reply) or ran.reply == UNAVAILABLE
+        return ((says_so and is_front) or (bool(command.request) and ran[:3] == self.ever[:3])) and is_told
 
     def may_hold(self, ran):
         """The stores that a run may leave that was refused."""

@@ -1,6 +1,6 @@
 /* A preloaded allocator: it counts the calls of malloc and realloc, and answers NULL to the one of number REFUSE_AT.
-   With REFUSE_EACH it refuses each in turn, in a child of the process, which goes on alone; the process waits for it and
-   goes on with the call. Random numbers are the same in each run, so that runs which do the same leave the same bytes. */
+   With REFUSE_EACH it refuses each in turn, in a child of the process, for which the process waits before it goes on.
+   Random numbers are the same in each run, so that runs which do the same leave the same bytes. */
 #define _GNU_SOURCE
 #include <dlfcn.h>
 #include <errno.h>

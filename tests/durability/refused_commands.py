@@ -88,7 +88,7 @@ SHEETS = {
     "plain": [(12, "cpm8", "image")], "marked": [(13, "d64e", "marked.d64")], "program": [(12, "d64", "program.d64")],
     "three": [(12, "d64", "program.d64"), (12, "d64", "program.d64", b"abc"), NO_ROW],
     "another": [NO_ROW, (12, "d64", "program.d64"), (13, "d64", "program.d64")],
-    "holed": [(13, "d64", "nothing.d64", b"abc"), (12, "d64", "program.d64")],
+    "second": [(13, "d64", "program.d64")], "holed": [(13, "d64", "nothing.d64", b"abc"), (12, "d64", "program.d64")],
 }
 
 
@@ -118,7 +118,7 @@ STORES = {
     "filled": ("ruled", words_of(f"{IMPORT}plain.csv")),
     "marked": ("ruled", words_of(f"{IMPORT}marked.csv")),
     "program": ("ruled", words_of(f"{IMPORT}program.csv")),
-    "programs": ("ruled", ("sh", "-c", "{desk} import --store {store} --key abc --sheet {work}/another.csv || test $? = 1")),
+    "programs": ("program", words_of(f"{IMPORT}second.csv")),
     "checked": ("filled", words_of(CHECK)),
     "harmed": ("program", (*SQLITE, f"{CHANGED}; INSERT INTO checked VALUES (12, 21915, 0)")),
     "told": ("harmed", (*SQLITE, "UPDATE checked SET outcome = 1")),

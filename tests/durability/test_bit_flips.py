@@ -4,13 +4,12 @@ disk has changed, or no reply changes. Of the bits of a log none loses more than
 import collections
 import contextlib
 import pathlib
-import shutil
 import sqlite3
 import subprocess
 import tempfile
 
 import pytest
-from refusals import reply_to
+from refusals import copied, reply_to
 from support.clients import noon_zone
 from support.samples import (
     ALL, DONE, EVERY, MARKED_DISK, PROGRAM_DISK, ROOM, SOUND, STAFF, badge, check, get, put, put_image, put_rule, raw,
@@ -81,13 +80,10 @@ class Store:
 
     def pages(self):
         """The pages that stand in the file and the log, as SQLite reads them in a copy; or its fault."""
-        with tempfile.TemporaryDirectory(dir=pathlib.Path(self.path).parent) as name:
-            for suffix in (FILE, LOG):
-                shutil.copy(self.path + suffix, f"{name}/copy{suffix}")
+        with copied(self.path) as (connection, path):
             try:
-                with contextlib.closing(sqlite3.connect(f"{name}/copy")) as connection:
-                    connection.execute("PRAGMA wal_checkpoint")
-                return pathlib.Path(name, "copy").read_bytes()
+                connection.execute("PRAGMA wal_checkpoint")
+                return path.read_bytes()
             except sqlite3.DatabaseError as fault:
                 return repr(fault)
 
@@ -130,7 +126,7 @@ class OfFile:
 
 
 class OfLog:
-    """Judges flips in the log of a desk that ended, or was killed after its last command, which the file does not have."""
+    """Judges flips in the log of a desk that ended, or was killed after its last command, which the log alone has."""
 
     def __init__(self, store):
         self.store, self.suffix = store, LOG
@@ -184,10 +180,11 @@ def small(made):
 @pytest.fixture(scope="module")
 def logs(made):
     """The logs of desks that were killed after they had put a deed or a disk."""
-    found = {name: OfLog(made([*COMMANDS, last], is_killed=True)) for name, last in (("deed", CORRECTED), ("disk", DISK))}
+    found = {}
     for name, last in (("deed", CORRECTED), ("disk", DISK)):
-        assert found[name].after[0] == made([*COMMANDS, last]).shown()
-        assert found[name].before[0] == made(COMMANDS).shown() and found[name].before != found[name].after
+        found[name] = judge = OfLog(made([*COMMANDS, last], is_killed=True))
+        assert judge.after[0] == made([*COMMANDS, last]).shown() and judge.before[0] == made(COMMANDS).shown()
+        assert judge.before != judge.after
     return found
 
 

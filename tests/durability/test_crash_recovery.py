@@ -4,19 +4,17 @@ same commands were never cut off. This is what a kill leaves on this machine, an
 
 import collections
 import contextlib
-import hashlib
 import itertools
 import pathlib
 import shutil
 import signal
-import sqlite3
 import subprocess
 import tempfile
 import threading
 import time
 
 import pytest
-from refusals import reply_to
+from refusals import copied, reply_to
 from support.clients import noon_zone
 from support.samples import ALL, DONE, SOUND, STAFF, badge, check, digest, drop, put, put_image, put_rule, raw
 from support.server import LIMIT, Serving, bytes_of
@@ -25,7 +23,7 @@ DEEDS, ROWS = range(1, 4), range(101, 141)
 DISKS = [("cpm8", "welcome.img"), ("d64", "museum.d64"), ("d64e", "damaged.d64")]
 # How often a run is killed while it opens the store, and at which of its commands it is killed at the latest.
 EARLY, LATEST = 0.1, 8
-SIGNS, DAYS = "AÄß 字'\"\\", ["0001-01-01", "2019-05-04", "2030-01-01", "9999-12-31"]
+DAYS = ["0001-01-01", "2019-05-04", "2030-01-01", "9999-12-31"]
 SELECTS = [{"all": True}, {"slot": 1}, {"prefix": "FILE"}, {"user": 3}, {"type": "PRG"}]
 LOG = "-wal"
 
@@ -37,52 +35,27 @@ def disk_of(number):
     return kind, image[:100] + number.to_bytes(4, "big") + image[104:]
 
 
-class Commands:
-    """Commands of all kinds by chance, none of which is refused."""
-
-    def __init__(self, chance):
-        self.chance, self.numbers = chance, itertools.count(1001)
-        self.weights = {"image": 6, "deed": 3, "rule": 4, "drop_rule": 4, "key": 2, "drop_key": 1, "takedown": 4, "check": 2}
-
-    def any(self, tables):
-        """The name and the request of a command for a store with some tables."""
-        names = [name for name in self.weights if tables["image"] or name not in ("takedown", "check")]
-        [name] = self.chance.choices(names, [self.weights[name] for name in names])
-        return name, getattr(self, name)(tables)
-
-    def image(self, _):
-        number = next(self.numbers)
-        kind, image = disk_of(number)
-        return put_image(number, kind, self.chance.choice(DEEDS), image)
-
-    def deed(self, _):
-        donor = "".join(self.chance.choices(SIGNS, k=self.chance.randint(1, 300)))
-        return put(f"/deeds/{self.chance.randint(1, 9)}", {"donor": donor, "signed": self.chance.choice(DAYS)})
-
-    def rule(self, _):
-        return self.at_rank(f"/deeds/{self.chance.choice(DEEDS)}", ["deny", "list", "read"])
-
-    def takedown(self, tables):
-        return self.at_rank(f"/images/{self.chance.choice(tables['image'])[0]}", ["deny", "list"])
-
-    def at_rank(self, scope, effects):
-        audiences = self.chance.sample(ALL, self.chance.randint(1, 3))
-        days = {name: self.chance.choice(DAYS) for name in ("from", "until") if self.chance.random() < 0.3}
-        path = f"{scope}/rules/{self.chance.randint(1, 4)}"
-        return put_rule(path, self.chance.choice(effects), self.chance.choice(SELECTS), *audiences, **days)
-
-    def drop_rule(self, tables):
-        band, scope, rank = self.chance.choice([row[:3] for row in tables["rule"]] or [(1, 1, 1)])
-        return drop(f"/{('images', 'deeds')[band]}/{scope}/rules/{rank}")
-
-    def key(self, _):
-        return put(badge(f"key {self.chance.randint(1, 4)}"), {"audience": self.chance.choice(["room", "staff"])})
-
-    def drop_key(self, _):
-        return drop(badge(f"key {self.chance.randint(1, 4)}"))
-
-    def check(self, tables):
-        return check(self.chance.choice(tables["image"])[0])
+def drawn(chance, tables, number):
+    """A command of any kind over a store with these tables, none of which is refused: its name and its request."""
+    pick, accs, rules = chance.choice, [row[0] for row in tables["image"]], [row[:3] for row in tables["rule"]]
+    kind, image = disk_of(number)
+    band, scope, rank = pick(rules or [(1, 1, 1)])
+    days = {name: pick(DAYS) for name in ("from", "until") if chance.random() < 0.3}
+    audiences, key = chance.sample(ALL, chance.randint(1, 3)), badge(f"key {chance.randint(1, 4)}")
+    donor = "".join(chance.choices("AÄß 字'\"\\", k=chance.randint(1, 300)))
+    path, acc, any_disk = f"/deeds/{pick(DEEDS)}/rules/{number % 4 + 1}", pick(accs or [0]), bool(accs)
+    makers = {
+        "image": (6, lambda: put_image(number, kind, pick(DEEDS), image)),
+        "deed": (3, lambda: put(f"/deeds/{chance.randint(1, 9)}", {"donor": donor, "signed": pick(DAYS)})),
+        "rule": (4, lambda: put_rule(path, pick(["deny", "list", "read"]), pick(SELECTS), *audiences, **days)),
+        "drop rule": (4, lambda: drop(f"/{('images', 'deeds')[band]}/{scope}/rules/{rank}")),
+        "key": (2, lambda: put(key, {"audience": pick(["room", "staff"])})),
+        "drop key": (1, lambda: drop(key)),
+        "takedown": (4 * any_disk, lambda: put_rule(f"/images/{acc}/rules/1", "deny", pick(SELECTS), *audiences)),
+        "check": (2 * any_disk, lambda: check(acc)),
+    }
+    [name] = chance.choices(list(makers), [weight for weight, _ in makers.values()])
+    return name, makers[name][1]()
 
 
 class Store:
@@ -101,13 +74,10 @@ class Store:
 
     def tables(self):
         """The rows of each table of a store that SQLite finds whole, with sums in the place of long values."""
-        with tempfile.TemporaryDirectory(dir=self.path.parent) as name:
-            for suffix in ("", LOG):
-                shutil.copy(f"{self.path}{suffix}", f"{name}/copy{suffix}")
-            with contextlib.closing(sqlite3.connect(f"{name}/copy")) as connection:
-                assert connection.execute("PRAGMA integrity_check").fetchall() == [("ok",)]
-                names = connection.execute("SELECT name FROM sqlite_schema WHERE type = 'table'").fetchall()
-                rows = {name: connection.execute(f"SELECT * FROM {name}").fetchall() for (name,) in names}
+        with copied(self.path) as (connection, _):
+            assert connection.execute("PRAGMA integrity_check").fetchall() == [("ok",)]
+            names = connection.execute("SELECT name FROM sqlite_schema WHERE type = 'table'").fetchall()
+            rows = {name: connection.execute(f"SELECT * FROM {name}").fetchall() for (name,) in names}
         return {name: sorted((tuple(map(cell, row)) for row in found), key=repr) for name, found in rows.items()}
 
     def catalogue(self):
@@ -125,7 +95,7 @@ class Story:
 
     def __init__(self, stack, program, folder, chance):
         self.stack, self.program, self.folder, self.chance = stack, program, folder, chance
-        self.commands, self.sheet = Commands(chance), folder / "sheet.csv"
+        self.numbers, self.sheet = itertools.count(1001), folder / "sheet.csv"
         self.taken, self.done, self.seen = collections.defaultdict(lambda: 0.05), set(), collections.Counter()
         lines = ["accession,kind,deed,sha256,file"]
         for acc in ROWS:
@@ -177,8 +147,8 @@ class Story:
             serving.listens()
             self.taken["serve"] = time.monotonic() - begun
             for _ in range(last - 1):
-                assert self.visit(serving, *self.commands.any(self.tables)) is None
-            name, asked = self.commands.any(self.tables)
+                assert self.visit(serving, *drawn(self.chance, self.tables, next(self.numbers))) is None
+            name, asked = drawn(self.chance, self.tables, next(self.numbers))
             timer = self.kill_later(serving.process, name)
             cut = self.visit(serving, name, asked)
             timer.join()
@@ -239,7 +209,7 @@ def test_killed_desk_keeps_what_it_told_as_done(kills, story):
         assert story.kill_once(number) == ([], []), f"kill {number}, {story.seen}"
     assert 3 * story.seen["cut off"] >= kills and story.seen["cut off and there"] < story.seen["cut off"], story.seen
     if kills > 100:
-        assert story.seen["cut off and there"] and story.done == set(story.commands.weights), (story.seen, story.done)
+        assert story.seen["cut off and there"] and len(story.done) == 8, (story.seen, story.done)
 
 
 def test_lost_log_is_seen(story):

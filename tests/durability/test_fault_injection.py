@@ -1,5 +1,5 @@
-"""A growth of memory is refused to a command, or the disk fails from a call on: it does its work, or says what failed and
-leaves its store whole, and a second run does the work. The tests of crates pass with each growth of memory refused."""
+"""A growth of memory is refused to a command, or the disk fails from a call on: it does its work, or says what failed
+and leaves its store whole, and a second run does the work. The tests of crates pass with each growth refused."""
 
 import concurrent.futures
 import os
