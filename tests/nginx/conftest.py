@@ -1,6 +1,7 @@
 """Fixtures of a reading room behind the real nginx: the room, its two doors, and its journal."""
 
 import contextlib
+import errno
 import gzip
 import itertools
 import json
@@ -151,10 +152,9 @@ class FakeDesk(threading.Thread):
     def run(self):
         try:
             while True:
-                connection = self.port.accept()[0]
-                with connection:
+                with self.port.accept()[0] as connection:
                     self.answer(connection)
-        except OSError as fault:
+        except Exception as fault:  # the test's thread looks at it
             self.fault = fault
 
     def answer(self, connection):
@@ -224,6 +224,8 @@ def fake_desk(room):
     for one in made:
         one.port.shutdown(socket.SHUT_RDWR)
         one.join(LIMIT)
+        # which is how a port that is shut ends it
+        assert isinstance(one.fault, OSError) and one.fault.errno == errno.EINVAL, one.fault
         one.port.close()
         room.place.unlink()
         room.start_desk()

@@ -218,6 +218,7 @@ OF_KEYS += [f"/badges/{NUMBER.upper()}", f"{KEY_PATH}?x", f"{KEY_PATH}#x", f"{KE
 BEFORE = """/BADGES/ /%42adges/ /%2562adges/ /badge/ /x/badges/ /images/ /images?key= /x#/badges/ /staff/keys/ badges/
     /%zz/badges/ /../../badges/""".split()
 LIKE_KEYS = [before + number for before in BEFORE for number in (NUMBER, CODED, CODED.replace("%", "%2525"))]
+LIKE_KEYS += ["/x/badges/none", "/BADGES/none"]
 # Lines that are no request, or one of a method that nobody has.
 NO_REQUESTS = [
     f"{KEY_PATH}", f" {KEY_PATH} HTTP/1.1", f"get {KEY_PATH} HTTP/1.1", f"PUT\t{KEY_PATH} HTTP/1.1",

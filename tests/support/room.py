@@ -87,15 +87,18 @@ class Room:
     def desk_down(self):
         """While this is entered, the desk does not run."""
         self.stop_desk()
-        yield
-        self.start_desk()
+        try:
+            yield
+        finally:
+            self.start_desk()
 
     @contextlib.contextmanager
     def desk_stalled(self):
         """While this is entered, the desk takes connections and does not answer."""
         self.desk.send_signal(signal.SIGSTOP)
-        yield
-        if self.desk:
+        try:
+            yield
+        finally:
             self.desk.send_signal(signal.SIGCONT)
 
     def ask_desk(self, asked):
