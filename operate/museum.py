@@ -223,9 +223,15 @@ class Folder:
             write_at(file.fileno(), data, 0)
             os.fsync(file.fileno())
 
+    def move(self, name, target, to=None):
+        """Gives a name in it to another folder, as the same name or another one."""
+        os.rename(name, to or name, src_dir_fd=self.descriptor, dst_dir_fd=target.descriptor)
+
     def drop(self, name):
         """Takes away a file, a link or a folder with all in it, of a file a little at a time."""
         about = self.about(name)
+        if about is None:
+            return
         if stat.S_ISDIR(about.st_mode):
             with self.folder(name) as inner:
                 for one in inner.names():

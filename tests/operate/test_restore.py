@@ -1,24 +1,18 @@
-"""A restore keeps closed what was closed since the backup, and names what it leaves out and what it cannot bring back."""
+"""A restore keeps closed what was closed since the backup, and names what it leaves out."""
 
-import contextlib
 import json
-import random
 import re
 import shutil
-import sqlite3
 import subprocess
-import threading
 import time
 
 import pytest
-from support.house import DONE, IMAGE, READERS, Reader, backed_up, done, fill, journaled, leftovers, listed, restored
+from support.house import IMAGE, READERS, Reader, backed_up, done, fill, journaled, leftovers, listed, restored
 from support.house import spoil, status_outside, takedown
 from support.samples import ROOM, STAFF, badge, check, digest, drop, get, put, put_image, put_rule
 
 FILES = ["/images/13/files/2", "/images/14/files/0", "/images/15/files/0", "/images/13/files/0", "/images/16/files/0"]
 CLOSED = FILES[0]
-# A byte of the disk that is no link, and in no entry of its directory; and a text of the disk, which is in the store.
-FLIPPED, TEXT = 1000, b"A GUIDE TO THE ROOM"
 # How many bytes of a page are left alone in a store with sums, and where the file says it.
 SUMMED, LEFT_ALONE = 8, 20
 DAY = 24 * 3600
@@ -55,25 +49,12 @@ def tuesday_of(house):
     journaled(house, drop("/images/13/rules/5"), "begun", "499")
 
 
-def flip(house, accession):
-    """One bit of a disk flips in the store. With sums the desk does not open it again; without them only a check of
-    that disk finds it."""
-    store = house.room.store
+def flip(house):
+    """One bit of a disk flips in a store with sums, which the desk does not open again."""
     house.room.stop_desk()
-    if left_alone(store) == SUMMED:
-        data = bytearray(store.read_bytes())
-        data[data.index(TEXT)] ^= 1
-        store.write_bytes(data)
-        return
-    with contextlib.closing(sqlite3.connect(store)) as opened, opened:
-        disk = bytearray(opened.execute("SELECT bytes FROM image WHERE acc = ?", [accession]).fetchone()[0])
-        disk[FLIPPED] ^= 1
-        opened.execute("UPDATE image SET bytes = ? WHERE acc = ?", [bytes(disk), accession])
-    house.start()
-
-
-def outcome(house, accession):
-    return json.loads(house.room.ask_staffs_door(check(accession, NEW_KEY))[1])["outcome"]
+    data = bytearray(house.room.store.read_bytes())
+    data[data.index(b"A GUIDE TO THE ROOM")] ^= 1
+    house.room.store.write_bytes(data)
 
 
 @pytest.mark.parametrize("house", [True, False], indirect=True, ids=["sums", "no-sums"])
@@ -85,7 +66,8 @@ def test_week_is_restored_while_readers_ask(house, tmp_path):
         assert left_alone(backup / "museum.sqlite") == sums
         reader.turn("tuesday")
         tuesday_of(house)
-        flip(house, 14)
+        if sums == SUMMED:
+            flip(house)
         reader.turn("without the disk")
         before = {path.name: path.read_bytes() for path in house.room.folder.glob("museum.sqlite")}
         status, out, errors = house.run("desk-restore", "--disks", tmp_path, backup)
@@ -109,7 +91,7 @@ def test_week_is_restored_while_readers_ask(house, tmp_path):
 def see_wednesday(house, sums):
     """What the staff is shown after a restore."""
     assert listed(house, "keys", NEW_KEY) == [{"audience": "staff", "digest": digest(NEW_KEY.encode())}]
-    assert outcome(house, 14) == "sound"
+    assert json.loads(house.room.ask_staffs_door(check(14, NEW_KEY))[1]) == {"outcome": "sound"}
     assert [deed["donor"] for deed in listed(house, "deeds", NEW_KEY)] == ["A", "\u017dofie"]
     assert left_alone(house.room.store) == sums
 
@@ -222,39 +204,3 @@ def test_check_of_a_day_to_come_stops_neither_backup_nor_restore(house):
     house.start("--trust-clock")
     restored(house, backed_up(house))
     assert house.room.ask_staffs_door(get("/staff/checks", STAFF))[0] == 200
-
-
-class Takedowns(threading.Thread):
-    """Takedowns without a rest at the staff's door, each of another rank of disk 13, and those that were told done.
-    nginx's processes are killed meanwhile, which breaks connections."""
-
-    def __init__(self, room, ranks):
-        super().__init__(daemon=True)
-        self.room, self.ranks, self.done, self.is_over = room, ranks, set(), threading.Event()
-
-    def run(self):
-        for rank in self.ranks:
-            if self.is_over.is_set():
-                return
-            with contextlib.suppress(ConnectionError):
-                if self.room.ask_staffs_door(takedown(13, rank, 2)) == DONE:
-                    self.done.add(rank)
-
-
-@pytest.mark.parametrize("kills", [30, pytest.param(150, marks=pytest.mark.long)])
-def test_takedown_told_done_stands_again_whenever_nginx_was_killed(house, monday, seed, kills):
-    chance, senders = random.Random(seed), [Takedowns(house.room, ranks) for ranks in (range(10, 5000), range(5000, 9999))]
-    for sender in senders:
-        sender.start()
-    for _ in range(kills):
-        time.sleep(chance.uniform(0.02, 0.1))
-        house.room.kill_workers()
-    for sender in senders:
-        sender.is_over.set()
-        sender.join()
-    told = {1}.union(*(sender.done for sender in senders))
-    spoil(house)
-    restored(house, monday)
-    ranks = {rule["rank"] for one in listed(house, "takedowns") if one["accession"] == 13 for rule in one["rules"]}
-    assert len(told) > kills and told <= ranks, (kills, len(told), told - ranks)
-    assert status_outside(house.room, CLOSED) == 403
