@@ -55,7 +55,7 @@ def fill_cpm(chance, run, folder):
         size = chance.choice([0, 1, 127, 128, 129, 1000, 1024, 5000, 16384, 16385, 40000, 70000])
         (folder / "local").write_bytes(chance.randbytes(size))
         stem, end = ("".join(chance.choices(LETTERS, k=chance.randint(*few))) for few in ((1, 6), (0, 3)))
-        name = f"{chance.randint(0, 15)}:{stem}{number}{end and '.' + end}"
+        name = f"{chance.randint(0, 15)}:{stem}{number:02}{end and '.' + end}"
         if run("cpmcp", *FORMAT, path, "local", name) is not None:
             held.append(name)
         if len(held) > 2 and chance.random() < 0.2:
