@@ -49,7 +49,8 @@ commands = st.one_of(
               accessions, deeds, st.sampled_from(DISKS), st.sampled_from([None] * 9 + ["cpm8", "d64", "d64e"]),
               st.sampled_from([None] * 5 + [digest(b"")])),
     st.builds(lambda key, word: put(badge(key), {"audience": word}) if word else drop(badge(key)),
-              st.sampled_from(["hello", "reader", "second", "second", "abc"]), st.sampled_from(["room", "staff", None])),
+              st.sampled_from(["hello", "reader", "second", "second", "abc"]),
+              st.sampled_from(["room", "staff", None])),
 )
 # (of what is the same object, Hypothesis draws one)
 requests = st.one_of(
