@@ -1,5 +1,5 @@
-"""Ratios of times, taken in turn so that the load of the machine is the same. Each test reports its ratios; the long ones
-also bound them."""
+"""Ratios of times, taken in turn so that the load of the machine is the same. Each test reports its ratios; the long
+ones also bound them."""
 
 import pytest
 from large_museums import Museum

@@ -12,7 +12,7 @@ import time
 
 import pytest
 from support import cbm_image
-from support.samples import ALL, ROOM, STAFF, badge, put, put_image, put_rule
+from support.samples import ROOM, STAFF, badge, put, put_image
 from support.server import Serving, bytes_of, client_at
 
 LONG = [pytest.mark.long, pytest.mark.timeout(3600)]
@@ -21,7 +21,6 @@ LARGE_DEED, TENTH, CHECKS = 7, 10, 30
 # The files of each disk: those that the reading room may read, and one that is denied to it.
 FILES = [(0x82, b"FILE %d" % n, (bytes(range(250)) * 20)[: 2000 + 500 * n]) for n in range(7)]
 DISK = cbm_image.filled(b"MUSEUM", [*FILES, (0x82, b"SECRET", bytes(900))])
-EVERYBODY = {"all": True}
 FIRST = [
     put(f"/deeds/{LARGE_DEED}", {"donor": "A. Curator", "signed": "2019-05-04"}),
     put(badge(ROOM), {"audience": "room"}),
@@ -62,8 +61,8 @@ def disk_of(acc):
 
 
 class Museum:
-    """A store of so many disks. The desk makes it, with one disk, and SQLite the other rows: the desk records no check of
-    another day than today's. When the desk opens a store, it refuses what it could not have written itself."""
+    """A store of so many disks. The desk makes it, with one disk, and SQLite the other rows, since the desk records no
+    check of another day than today's. It refuses to open what it could not have written itself."""
 
     def __init__(self, program, store, disks):
         self.program, self.store, self.disks = program, store, disks
@@ -105,8 +104,9 @@ class Museum:
     @contextlib.contextmanager
     def serving(self):
         """A desk that serves the museum, with the variable of the C library that the service sets."""
-        variable = re.search(r"^Environment=(MALLOC_TRIM_THRESHOLD_)=(\d+)$", bytes_of("operate", "desk.service").decode(), re.M)
-        with Serving(self.program, self.store, environment={variable[1]: variable[2]}) as server:
+        service = bytes_of("operate", "desk.service").decode()
+        name, value = re.search(r"^Environment=(MALLOC_TRIM_THRESHOLD_)=(\d+)$", service, re.M).groups()
+        with Serving(self.program, self.store, environment={name: value}) as server:
             server.listens()
             yield server
 

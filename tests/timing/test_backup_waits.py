@@ -19,8 +19,8 @@ DEED = {"donor": "D", "signed": "2020-01-01"}
 
 
 def fill(house, disks):
-    rule = put_rule("/deeds/1/rules/10", "read", {"all": True}, "public")
-    for asked in (put("/deeds/1", DEED), rule, *(put_image(acc, "d64", 1, disk_of(acc)) for acc in range(1, disks + 1))):
+    first = [put("/deeds/1", DEED), put_rule("/deeds/1/rules/10", "read", {"all": True}, "public")]
+    for asked in (*first, *(put_image(acc, "d64", 1, disk_of(acc)) for acc in range(1, disks + 1))):
         assert house.room.ask_desk(asked)[0] == 200
 
 

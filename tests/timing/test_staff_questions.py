@@ -8,7 +8,7 @@ import json
 
 import pytest
 from large_museums import FILES, LARGE_DEED, LONG, TENTH, medians, megabytes, seconds
-from support.samples import ALL, STAFF, get, put_rule
+from support.samples import STAFF, get, put_rule
 
 pytestmark = pytest.mark.alone
 DAY, DENY = "2030-01-01", ("deny", {"all": True}, "public", "room")
