@@ -169,19 +169,21 @@ def test_desk_gets_no_names(fake_desk, staff):
     assert not re.search(b"desk-staff|desk-note|anna", b"".join(desk.asked), re.IGNORECASE)
 
 
-def test_command_has_begun_before_the_desk_has_answered(fake_desk, room, staff):
+def test_command_stands_in_the_journal_before_the_desk_has_it(fake_desk, room, staff):
     """And where the desk ends without a reply, nobody knows the outcome, which both lines say."""
-    begun = []
+    path, begun = room.folder / "journal", []
 
-    def end(_):
-        begun.extend((room.folder / "journal").read_bytes().splitlines()[-1:])
+    def end(came):
+        begun.append(came.split()[1] in path.read_bytes())
         return b""
 
     fake_desk(end)
-    assert staff.ask("PUT", "/deeds/75", *NAMES, body=DEED, key=STAFF).is_refusal(502)
-    wait_until(lambda: b'"status":"502"' in (room.folder / "journal").read_bytes().splitlines()[-1])
-    ended = (room.folder / "journal").read_bytes().splitlines()[-1:]
-    assert lasting(map(json.loads, begun + ended)) == two_lines(502, "PUT", "/deeds/75", text(DEED))
+    for number in range(20):
+        assert staff.ask("PUT", f"/deeds/{800 + number}", *NAMES, body=DEED, key=STAFF).is_refusal(502)
+    assert begun == [True] * 20
+    wait_until(lambda: path.read_bytes().count(b'"/deeds/819"') == 2)
+    lines = [json.loads(line) for line in path.read_bytes().splitlines() if b'"/deeds/819"' in line]
+    assert lasting(lines) == two_lines(502, "PUT", "/deeds/819", text(DEED))
 
 
 @pytest.mark.parametrize("method, path, body", [("PUT", "/deeds/74", DEED), ("DELETE", badge(STAFF), b"")])
