@@ -17,7 +17,7 @@ import threading
 import time
 
 import pytest
-from support.house import DONE, IMAGE, Reader, backed_up, done, ended, leftovers
+from support.house import DONE, IMAGE, Reader, backed_up, done, ended, fill, leftovers, status_outside
 from support.room import OPERATE, wait_until
 from support.samples import STAFF, Asked, digest, put
 
@@ -25,6 +25,7 @@ DEEDS, DISKS = 20, 12
 # How many bytes of a page are left alone in a store with sums; where the file says it; and how long a page is.
 SUMMED, LEFT_ALONE, PAGE = 8, 20, 4096
 NIGHT = 24 * 3600
+UNIT = os.path.join(OPERATE, "package", "desk-backup.service")
 LISTS = ["checks.json", "deeds.json", "keys.json", "takedowns.json"]
 FILES = sorted(["museum.sqlite", "museum.sqlite-wal", "journal-mark", *LISTS])
 COMMAND = put("/deeds/1", {"donor": "D", "signed": "2020-01-01"})
@@ -327,8 +328,29 @@ def test_file_that_is_not_the_desks_is_not_copied(house, plant, words):
 
 def test_unit_of_the_backup_has_few_rights_of_root():
     """By what systemd itself says of the unit, from 0 for none to 10."""
-    unit = os.path.join(OPERATE, "package", "desk-backup.service")
-    words = ["systemd-analyze", "security", "--offline=true", "--no-pager", unit]
+    words = ["systemd-analyze", "security", "--offline=true", "--no-pager", UNIT]
     said = subprocess.run(words, capture_output=True, text=True)
     exposure = re.search(r"Overall exposure level for desk-backup.service: ([0-9.]+)", said.stdout + said.stderr)
     assert exposure and float(exposure[1]) < 4, said.stdout + said.stderr
+
+
+def test_backup_and_restore_work_with_the_rights_of_the_unit_and_the_desks_own_user(house, tmp_path):
+    """The folder of the store belongs to a user desk, as by the package; the unit leaves root few rights."""
+    room, user = house.room, 64999
+    fill(house, 13)
+    (room.folder / "backups").mkdir(mode=0o700)
+    for path in (room.folder, *room.folder.glob("museum.sqlite*")):
+        os.chown(path, user, user)
+    passwd = pathlib.Path("/etc/passwd").read_text()
+    (tmp_path / "passwd").write_text(f"{passwd}desk:x:{user}:{user}::/:/usr/sbin/nologin\n")
+    in_place = f'mount --bind {tmp_path}/passwd /etc/passwd && exec "$@"'
+    packaged = ("unshare", "-m", "sh", "-c", in_place, "sh")
+    rights = re.search(r"^CapabilityBoundingSet=(.+)", pathlib.Path(UNIT).read_text(), re.M)[1].lower().split()
+    few = ",".join(["-all", *(right.replace("cap_", "+") for right in rights)])
+    restricted = (*packaged, "setpriv", "--no-new-privs", f"--bounding-set={few}")
+    for number in range(2):
+        status, out, errors = house.run("desk-backup", under=restricted)
+        assert (status, errors) == (0, ""), number
+        status, _, errors = house.run("desk-restore", out.split(": ")[0], under=packaged)
+        assert (status, errors) == (0, ""), number
+        assert (room.store.stat().st_uid, status_outside(room, "/images/13/files/0")) == (user, 200)

@@ -196,8 +196,9 @@ def test_second_restore_at_once_is_refused(house, monday):
     house.after_stop(f"until [ -e {house.room.folder}/go ]; do sleep 0.05; done")
     first = house.begin("desk-restore", monday)
     wait_until(lambda: house.lines("calls") == ["stop"])
-    assert house.run("desk-restore", monday) == (1, "", "desk-restore: another backup or restore is at work\n")
-    assert house.back_up() == (1, "", "desk-backup: another backup or restore is at work\n")
+    for tool, *words in (["desk-restore", monday], ["desk-backup"]):
+        came = house.run(tool, *words, under=("timeout", "60"))
+        assert came == (1, "", f"{tool}: another backup or restore is at work\n"), "two work at once"
     (house.room.folder / "go").touch()
     assert ended(first)[::2] == (0, "")
     see_old_room(house)
