@@ -14,11 +14,14 @@ pub use Rattle.rd_messages.specs.Fields
 pub use Rattle.rd_messages.specs.Framing
 pub use Rattle.rd_messages.specs.Heads
 pub use Rattle.rd_messages.specs.Taken
+pub use Rattle.rd_messages.specs.PathDays
 pub use Rattle.rd_messages.specs.Patterns
 pub use Rattle.rd_messages.specs.Routes
 pub use Rattle.rd_messages.specs.Objects
 pub use Rattle.rd_messages.specs.RequestBodies
+pub use Rattle.rd_messages.specs.ShownRules
 pub use Rattle.rd_messages.specs.MemoryDoors
+pub use Rattle.rd_messages.specs.Streams
 pub use Rattle.rd_messages.specs.ReplyText
 pub use Rattle.rd_messages.specs.Sent
 -- ---- inside: what only private functions and proofs cite

@@ -9,7 +9,7 @@ mod visit;
 pub use laws::{hidden_bytes_reach_no_visitor, visits_are_replied_until_shut};
 pub use rd_messages::{
     Broken, Clock, Door, Listener, MemoryDoor, MemoryVisit, MemoryWire, Shut, Stream, StreamDoor,
-    StreamWire, TcpDoor, TcpWire, TimeLimits, UnixDoor, Wire, memory_reads, one_asked,
+    StreamWire, TcpDoor, TimeLimits, Wire, each_asked, memory_reads, one_asked,
 };
 pub use serve::{Ended, Served, serve_in_memory, serve_many};
 pub use visit::{WireFault, serve_one};

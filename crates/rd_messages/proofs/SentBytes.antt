@@ -1,7 +1,7 @@
 -- What of a text has gone out.
-use Rattle.std.proofs.Common.{◌≡◌, ◌∙◌, ℕ, ◌+◌, ◌-◌, ◌<◌, ◌≤◌, List, [], ◌∷◌, ◌++◌, IfSome, IsErr, IsOk, None, Option, Result, Some, Ok, Err, append-nil, append_assoc, drop, length, length-append, length-drop, refl, take, subst, sym, ap, arith}
+use Rattle.std.proofs.Common.{◌≡◌, ◌∙◌, ℕ, ◌+◌, ◌-◌, ◌<◌, ◌≤◌, List, [], ◌∷◌, ◌++◌, IfSome, IsErr, IsOk, OnOk, None, Option, Result, Some, Ok, Err, append-nil, append_assoc, drop, length, length-append, length-drop, refl, take, subst, sym, ap, arith}
 use Rattle.std.specs.List.{concat}
-use Rattle.std.specs.Io.KnownBytes.{Appends, Keeps}
+use Rattle.std.specs.Io.KnownBytes.{Appends, Keeps, append_known}
 use Rattle.std.proofs.KnownBytes.{Appends-kept, Appends-trans}
 use Rattle.std.proofs.lemmas.List.{length-take-le, take-append-drop, take-append-le, take-take, take_all}
 use Rattle.std.proofs.Math.Seq.{take-append-add}
@@ -135,3 +135,58 @@ nothing_sent (Some before) new (Err fault) text some kept told failed = absurd c
 pub part_sent : {E : Type 0} (old new : Option (List ℕ)) (result : Result (Unit {0}) E) (text : List ℕ) → IsErr result → SendsPart old new text → Sends old new result text
 part_sent old new (Ok done) text failed part = absurd cc
 part_sent old new (Err fault) text failed part = part
+
+-- What was put into a connection, where all that it held back has gone out.
+pub held_sent : (old new : Option (List ℕ)) (held rest : List ℕ) → rest ≡ [] → Appends old new held
+    → Keeps (append_known old held) (append_known new rest)
+held_sent None new held rest none sent = tt
+held_sent (Some before) None held rest none sent = absurd sent
+held_sent (Some before) (Some after) held rest none sent = ap (λ l. after ++ l) none ∙ append-nil after ∙ sent
+
+-- .. where that went well
+pub held_sent_ok : {E : Type 0} (sent : Result (Unit {0}) E) (old new : Option (List ℕ)) (held rest : List ℕ) → rest ≡ []
+    → OnOk sent (Appends old new held) → OnOk sent (Keeps (append_known old held) (append_known new rest))
+held_sent_ok (Ok done) old new held rest none went = held_sent old new held rest none went
+held_sent_ok (Err fault) old new held rest none went = tt
+
+-- Bytes that are held back behind those that were held back before.
+pub put_held : (old new : Option (List ℕ)) (held more after : List ℕ) → new ≡ old → after ≡ held ++ more
+    → Appends (append_known old held) (append_known new after) more
+put_held None new held more after same are = tt
+put_held (Some sent) None held more after same are = absurd cc
+put_held (Some sent) (Some gone) held more after same are =
+    let stays : gone ≡ sent = grind (arith, same) in
+    ap (λ l. gone ++ l) are ∙ sym (append_assoc gone held more) ∙ ap (λ l. (l ++ held) ++ more) stays
+
+-- .. and that are counted
+pub put_counted : (old new : Option (List ℕ)) (held more after : List ℕ) → new ≡ old → after ≡ held ++ more
+    → Appends (append_known old held) (append_known new after) (take (length more) more)
+put_counted old new held more after same are =
+    subst (Appends (append_known old held) (append_known new after)) (sym (take_all (length more) more (omega arith))) (put_held old new held more after same are)
+
+-- Bytes that go out at once, where nothing is held back.
+pub put_out : (old new : Option (List ℕ)) (held rest more : List ℕ) → held ≡ [] → rest ≡ [] → Appends old new more
+    → Appends (append_known old held) (append_known new rest) more
+put_out None new held rest more none nothing sent = tt
+put_out (Some before) None held rest more none nothing sent = absurd sent
+put_out (Some before) (Some after) held rest more none nothing sent =
+    ap (λ l. after ++ l) nothing ∙ append-nil after ∙ sent
+    ∙ ap (λ l. l ++ more) (sym (ap (λ l. before ++ l) none ∙ append-nil before))
+
+-- Pieces that are held back behind the bytes that were held back before.
+pub put_pieces : (before after : List (List ℕ)) (stream : Option (List ℕ)) (old new : List ℕ) → PutsFront before after (Some old) (Some new)
+    → PutsFront before after (append_known stream old) (append_known stream new)
+put_pieces before after stream old new put =
+    record { front = put.front; left = put.left; out = put_held stream stream old (concat put.front) new refl put.out }
+
+-- what is known stays as it is
+pub keeps_same : (known : Option (List ℕ)) → Keeps known known
+keeps_same None = tt
+keeps_same (Some bytes) = refl
+
+-- bytes behind those that stayed
+pub keeps_then : (old mid new : Option (List ℕ)) (more : List ℕ) → Keeps old mid → Appends mid new more → Appends old new more
+keeps_then None mid new more kept put = tt
+keeps_then (Some before) None new more kept put = absurd kept
+keeps_then (Some before) (Some between) None more kept put = absurd put
+keeps_then (Some before) (Some between) (Some after) more kept put = put ∙ ap (λ l. l ++ more) kept

@@ -1,6 +1,6 @@
 -- What writing a text leaves.
-use Rattle.std.specs.Prelude.{◌≡◌, ◌<◌, ℕ, List, ◌++◌, length, Option, Result, Ok, Err}
-use Rattle.std.specs.Io.KnownBytes.{Appends}
+use Rattle.std.specs.Prelude.{◌≡◌, ◌<◌, ℕ, List, ◌++◌, length, take, Option, Result, Ok, Err}
+use Rattle.std.specs.Io.KnownBytes.{Appends, append_known}
 use Rattle.std.specs.List.{concat}
 
 -- Pieces were left, and fewer are left now: those that are not went from the front, and all their bytes went out, one
@@ -19,3 +19,8 @@ SendsPart old new text =
 abbrev pub Sends : {E : Type 0} → Option (List ℕ) → Option (List ℕ) → Result (Unit {0}) E → List ℕ → Type 0
 Sends old new (Ok done) text = Appends old new text
 Sends old new (Err fault) text = SendsPart old new text
+
+-- What was put into a connection: what went out, if its stream shows that, and behind it the first so many bytes of a room,
+-- which it holds back.
+abbrev pub put_so_far : Option (List ℕ) → ℕ → List ℕ → Option (List ℕ)
+put_so_far sent held room = append_known sent (take held room)

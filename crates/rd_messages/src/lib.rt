@@ -33,6 +33,6 @@ pub use memory::{MemoryDoor, MemoryVisit, MemoryWire, memory_reads};
 pub use pace::{Clock, TimeLimits};
 pub use request_laws::{each_asked, one_asked, shown_rules_are_sent_back};
 pub use stream::{Listener, Stream};
-pub use tcp::{StreamDoor, StreamWire, TcpDoor, TcpWire, UnixDoor};
+pub use tcp::{StreamDoor, StreamWire, TcpDoor};
 pub use wire::{Broken, Door, Shut, Wire};
 pub use workspace::Workspace;

@@ -1,7 +1,7 @@
 //! How long a visitor may take.
 
 ghost use Rattle.std.specs.Duration.{as_nanos};
-ghost use Rattle.std.specs.Prelude.{◌≡◌, ◌↔◌, ◌≤◌, ◌<◌, ◌+◌, ◌*◌, IfSome, IsSome, None, Option, Some, ℕ};
+ghost use Rattle.std.specs.Prelude.{◌≡◌, ◌↔◌, ◌≤◌, ◌<◌, ◌+◌, ◌-◌, ◌*◌, IfSome, IsSome, None, Option, Some, min, ℕ};
 
 use std::time::Duration;
 
@@ -60,8 +60,7 @@ pub(crate) fn time_left<C: Clock>(clock: &mut C, began: u64, whole: Duration) ->
 
 /// The shorter of two times.
 fn shorter(one: Duration, other: Duration) -> Duration
-    ensures one { as_nanos result ≤ as_nanos one }
-    ensures other { as_nanos result ≤ as_nanos other }
+    ensures { as_nanos result ≡ min (as_nanos one) (as_nanos other) }
 {
     if one.as_nanos() <= other.as_nanos() {
         one
@@ -103,6 +102,8 @@ impl<C: Clock> Pace<C> {
         ensures request { IfSome result (λ time. as_nanos time ≤ as_nanos self.old.limits.request) }
         ensures left { IfSome (C.shows self.old.clock) (λ at. IfSome result (λ time.
             as_nanos time + at * 1_000_000 ≡ as_nanos self.old.limits.request + self.old.admitted * 1_000_000)) }
+        ensures lasts { IfSome (C.shows self.old.clock) (λ at. IsSome result ↔ ((self.old.admitted ≤ at)
+            × (at * 1_000_000 < as_nanos self.old.limits.request + self.old.admitted * 1_000_000))) }
         ensures limits { self.new.limits ≡ self.old.limits }
         ensures admitted { self.new.admitted ≡ self.old.admitted }
         ensures replying { self.new.replying ≡ self.old.replying }
@@ -130,7 +131,11 @@ impl<C: Clock> Pace<C> {
         ensures write { IfSome result (λ time. as_nanos time ≤ as_nanos self.old.limits.write) }
         ensures reply { IfSome result (λ time. as_nanos time ≤ as_nanos self.old.limits.reply) }
         ensures left { IfSome self.old.replying (λ began. IfSome (C.shows self.old.clock) (λ at. IfSome result (λ time.
-            as_nanos time + at * 1_000_000 ≤ as_nanos self.old.limits.reply + began * 1_000_000))) }
+            as_nanos time ≡ min (as_nanos self.old.limits.reply + began * 1_000_000 - at * 1_000_000) (as_nanos self.old.limits.write)))) }
+        ensures lasts { IfSome self.old.replying (λ began. IfSome (C.shows self.old.clock) (λ at. IsSome result ↔ ((began ≤ at)
+            × (at * 1_000_000 < as_nanos self.old.limits.reply + began * 1_000_000)))) }
+        ensures begins { self.old.replying ≡ None → IfSome (C.shows self.old.clock) (λ at. IfSome result (λ _.
+            self.new.replying ≡ Some at)) }
         ensures stays { IfSome self.old.replying (λ began. self.new.replying ≡ Some began) }
         ensures begun { IfSome result (λ _. IsSome self.new.replying) }
         ensures limits { self.new.limits ≡ self.old.limits }

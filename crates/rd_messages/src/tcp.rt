@@ -2,10 +2,10 @@
 
 ghost use Rattle.std.specs.Duration.{as_nanos};
 ghost use Rattle.std.specs.Io.{ReadsAtMost, WritesAtMost};
-ghost use Rattle.std.specs.Io.KnownBytes.{Appends, WriteAppends};
-ghost use Rattle.std.specs.Prelude.{◌≡◌, ◌↔◌, ◌≤◌, ◌*◌, ◌+◌, ◌<◌, ◌++◌, None, Some, true, false, length, take, vec_len, IfOk, IfSome, IsErr, OnOk};
+ghost use Rattle.std.specs.Io.KnownBytes.{Appends, Keeps, ReadConsumes, WriteAppends};
+ghost use Rattle.std.specs.Prelude.{◌≡◌, ◌↔◌, ◌≤◌, ◌*◌, ◌+◌, ◌<◌, ◌++◌, None, Some, true, false, length, take, vec_len, IfOk, IfSome, IsErr, IsSome, OnOk};
 ghost use Rattle.rd_protocol.specs.BodyPieces.{pieces_left};
-ghost use Rattle.rd_messages.specs.Sent.{PutsFront};
+ghost use Rattle.rd_messages.specs.Sent.{PutsFront, put_so_far};
 ghost use Rattle.rd_messages.specs.Streams.{limits_of};
 
 use crate::pace::{Clock, Pace, TimeLimits, time_left};
@@ -14,8 +14,7 @@ use crate::wire::{Broken, Door, Shut, Wire};
 use rd_protocol::BodyPieces;
 use std::alloc::Global;
 use std::mem;
-use std::net::{TcpListener, TcpStream};
-use std::os::unix::net::UnixListener;
+use std::net::TcpListener;
 use std::time::Duration;
 
 /// How long a connection lingers at most, in milliseconds.
@@ -115,6 +114,8 @@ impl<S: Stream, C: Clock + Drop> StreamWire<S, C> {
         ensures take { result.read_failed ≡ false }
         ensures put { result.write_failed ≡ false }
         ensures unsent { result.held ≡ 0 }
+        ensures stream { result.stream ≡ stream }
+        ensures time { result.pace ≡ pace }
     {
         StreamWire {
             stream,
@@ -133,7 +134,8 @@ impl<S: Stream, C: Clock + Drop> StreamWire<S, C> {
         ensures failed { IsErr sent ↔ (self.new.write_failed ≡ true) }
         ensures reads_unchanged { self.new.read_failed ≡ self.old.read_failed }
         ensures held { self.new.held ≡ self.old.held }
-        ensures room { vec_len self.new.room ≡ vec_len self.old.room }
+        ensures room { self.new.room ≡ self.old.room }
+        ensures stream { self.new.stream ≡ self.old.stream }
     {
         if sent.is_err() {
             self.write_failed = true;
@@ -149,6 +151,11 @@ impl<S: Stream, C: Clock + Drop> StreamWire<S, C> {
     fn send_held(&mut self) -> Result<(), Broken>
         requires { self.old.write_failed ≡ false }
         ensures sent { self.new.held ≡ 0 }
+        ensures bytes { OnOk result (Appends (S.Write.contents self.old.stream) (S.Write.contents self.new.stream)
+            (take self.old.held self.old.room.items)) }
+        ensures kept { OnOk result (Keeps
+            (put_so_far (S.Write.contents self.old.stream) self.old.held self.old.room.items)
+            (put_so_far (S.Write.contents self.new.stream) self.new.held self.new.room.items)) }
         ensures room { vec_len self.new.room ≡ vec_len self.old.room }
         ensures failed { IsErr result ↔ (self.new.write_failed ≡ true) }
         ensures reads_unchanged { self.new.read_failed ≡ self.old.read_failed }
@@ -165,6 +172,9 @@ impl<S: Stream, C: Clock + Drop> StreamWire<S, C> {
         requires ready { self.old.write_failed ≡ false }
         requires room { 0 < vec_len self.old.room }
         ensures room { IfOk result (λ _. self.new.held < vec_len self.new.room) }
+        ensures kept { OnOk result (Keeps
+            (put_so_far (S.Write.contents self.old.stream) self.old.held self.old.room.items)
+            (put_so_far (S.Write.contents self.new.stream) self.new.held self.new.room.items)) }
         ensures failed { IsErr result ↔ (self.new.write_failed ≡ true) }
         ensures reads_unchanged { self.new.read_failed ≡ self.old.read_failed }
     {
@@ -181,6 +191,10 @@ impl<S: Stream, C: Clock + Drop> StreamWire<S, C> {
         requires ready { self.old.write_failed ≡ false }
         requires none { self.old.held ≡ 0 }
         ensures count { IfOk result (λ count. count ≡ length bytes.now) }
+        ensures bytes { OnOk result (Appends
+            (put_so_far (S.Write.contents self.old.stream) self.old.held self.old.room.items)
+            (put_so_far (S.Write.contents self.new.stream) self.new.held self.new.room.items)
+            bytes.now) }
         ensures failed { IsErr result ↔ (self.new.write_failed ≡ true) }
         ensures reads_unchanged { self.new.read_failed ≡ self.old.read_failed }
     {
@@ -195,6 +209,7 @@ impl<S: Stream, C: Clock + Drop> StreamWire<S, C> {
         requires { self.old.held + length bytes.now ≤ vec_len self.old.room }
         ensures held { take self.new.held self.new.room.items ≡ take self.old.held self.old.room.items ++ bytes.now }
         ensures count { self.new.held ≡ self.old.held + length bytes.now }
+        ensures stream { S.Write.contents self.new.stream ≡ S.Write.contents self.old.stream }
         ensures unchanged { self.new.write_failed ≡ self.old.write_failed }
         ensures reads_unchanged { self.new.read_failed ≡ self.old.read_failed }
     {
@@ -210,6 +225,7 @@ impl<S: Stream, C: Clock + Drop> StreamWire<S, C> {
     fn hold_front_of(&mut self, pieces: &mut BodyPieces<'_>)
         ensures held { PutsFront (pieces_left pieces.old) (pieces_left pieces.new)
             (Some (take self.old.held self.old.room.items)) (Some (take self.new.held self.new.room.items)) }
+        ensures stream { self.new.stream ≡ self.old.stream }
         ensures unchanged { self.new.write_failed ≡ self.old.write_failed }
         ensures reads_unchanged { self.new.read_failed ≡ self.old.read_failed }
     {
@@ -228,6 +244,9 @@ impl<S: Stream, C: Clock + Drop> StreamWire<S, C> {
         requires some { 0 < length bytes.now }
         ensures bound { WritesAtMost result bytes.now }
         ensures some { IfOk result (λ count. 0 < count) }
+        ensures bytes { IfOk result (λ count. Appends
+            (put_so_far (S.Write.contents self.old.stream) self.old.held self.old.room.items)
+            (put_so_far (S.Write.contents self.new.stream) self.new.held self.new.room.items) (take count bytes.now)) }
         ensures failed { IsErr result ↔ (self.new.write_failed ≡ true) }
         ensures reads_unchanged { self.new.read_failed ≡ self.old.read_failed }
     {
@@ -265,7 +284,17 @@ impl<S: Stream, C: Clock + Drop> Wire for StreamWire<S, C> {
     }
 
     #[inline]
-    fn put(&mut self, bytes: &[u8]) -> Result<usize, Broken> {
+    fn put(&mut self, bytes: &[u8]) -> Result<usize, Broken>
+        requires { self.old.write_failed ≡ false }
+        ensures bound { WritesAtMost result bytes.now }
+        ensures some { IfOk result (λ n. n ≡ 0 → length bytes.now ≡ 0) }
+        ensures bytes { WriteAppends None None result bytes.now }
+        ensures failed { IsErr result ↔ (self.new.write_failed ≡ true) }
+        ensures reads_unchanged { self.new.read_failed ≡ self.old.read_failed }
+        ensures sent { IfOk result (λ count. Appends
+            (put_so_far (S.Write.contents self.old.stream) self.old.held self.old.room.items)
+            (put_so_far (S.Write.contents self.new.stream) self.new.held self.new.room.items) (take count bytes.now)) }
+    {
         if bytes.len() <= self.room.len() - self.held {
             self.hold(bytes);
             return Ok(bytes.len());
@@ -273,12 +302,28 @@ impl<S: Stream, C: Clock + Drop> Wire for StreamWire<S, C> {
         self.put_front(bytes)
     }
 
-    #[tactic(auto, using(crate::proofs::SentBytes::untold_put))]
-    fn put_front_of(&mut self, pieces: &mut BodyPieces<'_>) {
+    #[tactic(auto, using(crate::proofs::SentBytes::untold_put, crate::proofs::SentBytes::put_pieces))]
+    fn put_front_of(&mut self, pieces: &mut BodyPieces<'_>)
+        requires { self.old.write_failed ≡ false }
+        ensures bytes { PutsFront (pieces_left pieces.old) (pieces_left pieces.new) None None }
+        ensures working { self.new.write_failed ≡ false }
+        ensures reads_unchanged { self.new.read_failed ≡ self.old.read_failed }
+        ensures sent { PutsFront (pieces_left pieces.old) (pieces_left pieces.new)
+            (put_so_far (S.Write.contents self.old.stream) self.old.held self.old.room.items)
+            (put_so_far (S.Write.contents self.new.stream) self.new.held self.new.room.items) }
+    {
         self.hold_front_of(pieces);
     }
 
-    fn flush(&mut self) -> Result<(), Broken> {
+    fn flush(&mut self) -> Result<(), Broken>
+        requires { self.old.write_failed ≡ false }
+        ensures sent { self.new.held ≡ 0 }
+        ensures failed { IsErr result ↔ (self.new.write_failed ≡ true) }
+        ensures reads_unchanged { self.new.read_failed ≡ self.old.read_failed }
+        ensures kept { OnOk result (Keeps
+            (put_so_far (S.Write.contents self.old.stream) self.old.held self.old.room.items)
+            (put_so_far (S.Write.contents self.new.stream) self.new.held self.new.room.items)) }
+    {
         self.send_held()
     }
 }
@@ -299,14 +344,8 @@ pub struct StreamDoor<L, C> {
     has_shut: bool,
 }
 
-/// A connection over TCP.
-pub type TcpWire<C> = StreamWire<TcpStream, C>;
-
 /// A door at a port.
 pub type TcpDoor<C> = StreamDoor<TcpListener, C>;
-
-/// A door at a Unix socket.
-pub type UnixDoor<C> = StreamDoor<UnixListener, C>;
 
 impl<L: Listener, C: Clock + Copy + Drop> StreamDoor<L, C> {
     /// The door of a listener, with a clock and the usual limits. It takes no memory; its connections take some for
@@ -371,7 +410,10 @@ fn read_within<S: Stream>(stream: &mut S, buffer: &mut [u8], time: Duration) -> 
 /// What is left of the time that a connection lingers, which began at this millisecond; `None` if it is over, or if
 /// the clock fails or has gone back.
 fn linger_time<C: Clock>(clock: &mut C, began: u64) -> Option<Duration>
-    ensures { IfSome result (λ left. as_nanos left ≤ 200 * 1_000_000) }
+    ensures within { IfSome result (λ left. as_nanos left ≤ 200 * 1_000_000) }
+    ensures left { IfSome (C.shows clock.old) (λ at. IfSome result (λ left.
+        as_nanos left + at * 1_000_000 ≡ (200 + began) * 1_000_000)) }
+    ensures lasts { IfSome (C.shows clock.old) (λ at. IsSome result ↔ ((began ≤ at) × (at < 200 + began))) }
 {
     time_left(clock, began, Duration::from_millis(LINGER_MILLISECONDS))
 }
@@ -405,7 +447,14 @@ impl<L: Listener, C: Clock + Copy + Drop> Door for StreamDoor<L, C> {
 
     ghost has_shut = { λ door. door.has_shut };
 
-    fn admit(&mut self) -> Result<(i64, StreamWire<L::Stream, C>), Shut> {
+    fn admit(&mut self) -> Result<(i64, StreamWire<L::Stream, C>), Shut>
+        ensures ready { IfOk result (λ visit. visit.1.read_failed ≡ false) }
+        ensures write_ready { IfOk result (λ visit. visit.1.write_failed ≡ false) }
+        ensures unsent { IfOk result (λ visit. visit.1.held ≡ 0) }
+        ensures time { IfOk result (λ visit. visit.1.pace.limits ≡ self.old.limits) }
+        ensures shut { IsErr result ↔ (self.new.has_shut ≡ true) }
+        ensures stays { self.old.has_shut ≡ true → IsErr result }
+    {
         if self.has_shut {
             return Err(Shut);
         }
