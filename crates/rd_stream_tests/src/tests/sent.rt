@@ -1,10 +1,10 @@
 //! What goes out to two visitors of one door: to each their own reply, and nothing of the other's.
 
-use super::new_desk;
 use super::notes::{Hand, Manner, Notes, Visitor, Visitors};
+use super::{new_desk, served};
 use rd_fakes::desk::Memory;
 use rd_geometry::NoMemory;
-use rd_http::{Clock, Ended, Listener, Served, StreamDoor, serve_in_memory};
+use rd_http::{Clock, Listener, Served, StreamDoor, serve_in_memory};
 use rd_samples::days::AFTER;
 use std::alloc::{AllocGlobal, Global};
 use std::io::{Read, Write};
@@ -89,15 +89,6 @@ fn all_deeds(alloc: Global) -> Result<String, NoMemory> {
     Ok(format!(in alloc;
         "HTTP/1.1 200 OK\r\nContent-Type: application/json\r\nContent-Length: {length}\r\nConnection: close\r\n\r\n{body}"
     )?)
-}
-
-fn served(visits: u32, read_faults: u32, write_faults: u32) -> Served {
-    Served {
-        visits,
-        read_faults,
-        write_faults,
-        ended: Ended::Count,
-    }
 }
 
 /// How a run of all these visitors goes, through one door.

@@ -1,8 +1,8 @@
 //! When a visit begins, and how long its stream may wait.
 
-use super::new_desk;
 use super::notes::{Hand, Manner, Notes, Visitors};
-use rd_http::{Ended, Served, StreamDoor, TimeLimits, serve_in_memory};
+use super::{new_desk, served};
+use rd_http::{Served, StreamDoor, TimeLimits, serve_in_memory};
 use rd_samples::days::AFTER;
 use rd_samples::table;
 use std::alloc::Global;
@@ -13,7 +13,7 @@ use std::time::Duration;
 const ASKED: &[u8] = b"GET /images HTTP/1.1\r\nHost: the desk is\r\n\r\n";
 
 /// A visitor who comes half a minute after the one before, and takes this long for a read and a write of so many bytes.
-const fn visitor(read_time: u64, most_taken: usize, stays: bool) -> Manner {
+fn visitor(read_time: u64, most_taken: usize, stays: bool) -> Manner {
     Manner {
         idle: 30_000,
         seconds: AFTER,
@@ -80,24 +80,20 @@ const STAYS: &str = "30000 read 12000
 46194 read 1
 ";
 
-/// Visits: their name, how the visitors behave, how many there are, how the run goes, and what the streams are asked.
-type Call = (&'static str, Manner, u32, Served, &'static str);
-
-/// How a run of visits went: how many there were, and how many reads and writes failed.
-const fn served(visits: u32, read_faults: u32, write_faults: u32) -> Served {
-    Served {
-        visits,
-        read_faults,
-        write_faults,
-        ended: Ended::Count,
-    }
-}
+/// A call: its name; how many milliseconds a read of the visitors takes, how many bytes a write, and whether they stay; how
+/// many there are, and how many reads and writes fail; and what the streams are asked.
+type Call = (
+    &'static str,
+    (u64, usize, bool),
+    (u32, u32, u32),
+    &'static str,
+);
 
 const CALLS: &[Call] = table![
-    ("two visitors, the second after a while", visitor(1_000, 30, false), 2, served(2, 0, 0), IN_TIME);
-    ("a request that takes too long", visitor(4_000, 30, false), 1, served(1, 1, 0), SLOW_REQUEST);
-    ("a reply that takes too long", visitor(1_000, 20, false), 1, served(1, 0, 1), SLOW_REPLY);
-    ("a visitor who sends a byte each 199 milliseconds, and does not go", visitor(199, 1_000, true), 1, served(1, 0, 0), STAYS);
+    ("two visitors, the second after a while", (1_000, 30, false), (2, 0, 0), IN_TIME);
+    ("a request that takes too long", (4_000, 30, false), (1, 1, 0), SLOW_REQUEST);
+    ("a reply that takes too long", (1_000, 20, false), (1, 0, 1), SLOW_REPLY);
+    ("a visitor who sends a byte each 199 milliseconds, and stays", (199, 1_000, true), (1, 0, 0), STAYS);
 ];
 
 /// Twelve seconds for a request, twenty for a write and fifty for a reply: none of them is as usual.
@@ -109,7 +105,8 @@ fn limits() -> TimeLimits {
     }
 }
 
-/// How a run of visits goes at a new desk, through one door.
+/// How a run of so many visits goes at a new desk, through one door: how many there were, how many reads and writes failed,
+/// and how it ended.
 fn run(alloc: Global, notes: &Notes, manner: Manner, count: u32) -> Result<Served, Fail> {
     let mut desk = new_desk(alloc)?;
     let visitors = [(ASKED, manner), (ASKED, manner)];
@@ -120,13 +117,11 @@ fn run(alloc: Global, notes: &Notes, manner: Manner, count: u32) -> Result<Serve
 
 #[test]
 fn a_stream_waits_for_what_is_left(rt: HostRuntime) -> Result<(), Fail> {
-    for (label, manner, count, served, asked) in CALLS {
+    for (label, (read_time, most_taken, stays), (visits, reads, writes), asked) in CALLS {
         let notes = Notes::new(rt.alloc(), AFTER);
-        assert_eq!(rt;
-            run(rt.alloc(), &notes, *manner, *count)?,
-            *served,
-            "{label}"
-        );
+        let manner = visitor(*read_time, *most_taken, *stays);
+        let went = run(rt.alloc(), &notes, manner, *visits)?;
+        assert_eq!(rt; went, served(*visits, *reads, *writes), "{label}");
         let noted = notes.asked();
         assert_eq!(rt; noted.as_str(), *asked, "{label}");
     }
