@@ -6,6 +6,7 @@ import pytest
 from support import clients, samples
 
 INPUTS = ("web", "images", "crates/rd_trials/data")
+DRAWS = True
 
 
 def fill(program, store, cases):

@@ -14,6 +14,7 @@ from support.samples import DONE, STAFF
 from support.server import HOST, LIMIT
 
 INPUTS = ("operate", "web", "images", "crates/rd_trials/data")
+DRAWS = True
 # After how many seconds to try again.
 RETRY = {429: "2", 502: "5", 503: "5", 504: "60"}
 # Fields of a reply that depend on the moment or on the connection.

@@ -6,7 +6,8 @@ import pytest
 from support.house import House, backed_up, done, fill, takedown
 from support.room import Room
 
-INPUTS = ("operate", "web", "images")
+INPUTS = ("operate", "web", "images", "docs")
+DRAWS = True
 
 
 @pytest.fixture

@@ -1,4 +1,4 @@
-"""A restore refuses what would open what was closed, or bring in what nobody of the staff did, and says why; and however
+"""A restore refuses what would open what was closed, or bring in what nobody of the staff did, and says why; however
 it ends, the room is open."""
 
 import contextlib

@@ -123,7 +123,7 @@ SAVED_AS = ["HELLO.prg", "LETTER.seq", "____X.usr", "_CON.usr", "_IMG SRC_X ONER
 
 @pytest.fixture
 def museum(museum):
-    """Disk 2001 has a program, texts and names that may harm, 2002 a text of WordStar, 2003 a program on real blocks."""
+    """Disk 2001 has a program, texts and names that may harm, 2002 a text of WordStar, 2003 a long program."""
     museums.put_files(museum, 2001, "d64", 9, FILES)
     museums.put_files(museum, 2002, "cpm8", 9, [("LETTER.TXT", "TXT", STAR)])
     museums.put(museum, 2003, "d64", 9, cbm_image.filled(b"BASIC", [(0x82, b"\xc8ELLO", BASIC)]))
@@ -183,7 +183,7 @@ def test_line_of_bytes_fits_a_phone(reader):
     with reader.phone():
         reader.go("2001/8")
         assert bytes_shown(reader) == hexed(DATA, 8)
-        wide = "const at = arguments[0]; return [document.documentElement.scrollWidth, at.scrollWidth <= at.clientWidth]"
+        wide = "const [at] = arguments; return [document.documentElement.scrollWidth, at.scrollWidth <= at.clientWidth]"
         assert reader.script(wide, reader.named("region", "The bytes of the file")) == [360, True]
 
 

@@ -151,7 +151,8 @@ def test_check_says_whether_a_disk_has_changed(museum, staff):
 
 def test_survey_describes_a_disk(staff):
     staff.go("checks")
-    words = ["1002, Commodore 1541, called \u201cREADING ROOM\u201d", '9, of C. "Sea" Müller \\ Söhne, signed on 0001-01-01']
+    words = ["1002, Commodore 1541, called \u201cREADING ROOM\u201d"]
+    words += ['9, of C. "Sea" Müller \\ Söhne, signed on 0001-01-01']
     words += ["3 files: 2 can be given out, 0 damaged", "it ends well"]
     exact = ["0 blocks in use are marked free, 0 unused ones not; 0 tracks have a wrong count"]
     exact += ["0 files with another size than the directory says"]
