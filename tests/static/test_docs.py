@@ -10,7 +10,7 @@ from static.rattle import ROOT, text_of
 
 LINK = re.compile(r"(?<!!)\[[^\]]*\]\(([^)\s]+)\)")
 # A path in a page's text, as far as it is that of a file: no part of it in capitals stands for another word.
-PATH = re.compile(r"(?<![\w./-])((?:scripts|tests|tools|docs|operate|web|images|bench|crates|records)/[\w.*/-]*\w/?)")
+PATH = re.compile(r"(?<![\w./-])((?:tests|tools|docs|operate|web|images|bench|crates|records)/[\w.*/-]*\w/?)")
 NO_PATH = re.compile(r"/out(/|$)|\*|(^|/)(NAME|CRATE|PROGRAM|PAGE|SUITE)")
 HYPHENS = re.compile(r"(\|:?-+:?)+\|")
 COUNTED = re.compile(r"\.(md|py|sh|rt|record|js|css|c)$|^(tools|tests)/[\w-]+$")

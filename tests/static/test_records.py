@@ -43,7 +43,6 @@ THERE = {
 
 def is_in_python(path, name):
     """Whether a file of tests/ is one that pytest runs, with a test of this name, or any where none is named."""
-    if path.startswith("scripts/"): return text_of(path) and not name  # goes with the last script
     found = re.findall(r"(?m)^ *def (test_\w+)", text_of(path))
     return re.fullmatch(r"tests/\w+/test_\w+\.py", path) and (name in found if name else found)
 
