@@ -115,32 +115,15 @@ def test_cpm_disk_beside_cpmtools(desk, run, seed, tmp_path, number):
 # 1541
 
 
-def cc1541(path, *words):
-    return ["cc1541", "-m", "-q", "-n", "museum", *words, path]
-
-
-def with_rel(chance, run, path):
-    """Adds a REL file with its side sectors, which neither tool writes, where the disk has room for one."""
-    room = sum(block[0] != 18 for block in cbm_image.free_blocks(path.read_bytes())) - 6
-    if room > 0:
-        run(*cc1541(path, "-T", "REL", "-f", "records", "-L"))
-        image, record = bytearray(path.read_bytes()), chance.randint(1, 254)
-        size = min(chance.choice([1, 2, 119, 120, 121, 300]), room) * 254 // record * record
-        cbm_image.put_rel(image, b"RECORDS", record, chance.randbytes(size))
-        path.write_bytes(image)
-
-
 def fill_cbm(chance, run, folder):
-    """Adds files of each type, some long, and on some disks a REL file, and scratches the first file of some."""
+    """Adds files of each type that cc1541 writes, some long, and scratches the first of some."""
     path = folder / "image.d64"
     for number in range(chance.choice([1, 5, 20, 60])):
         kind = chance.choice(["PRG", "SEQ", "USR", "DEL"])
         (folder / "local").write_bytes(chance.randbytes(chance.choice([1, 2, 253, 254, 255, 508, 509, 3000, 20000])))
-        words = ["-T", kind, "-s", chance.randint(1, 12), "-f", f"file{number}", "-w", "local"]
-        if run(*cc1541(path, *words)) is None:
+        words = ["-n", "museum", "-T", kind, "-s", chance.randint(1, 12), "-f", f"file{number}", "-w", "local"]
+        if run("cc1541", "-m", "-q", *words, path) is None:
             break
-    if chance.random() < 0.5:
-        with_rel(chance, run, path)
     image = bytearray(path.read_bytes())
     image[cbm_image.place(18, 1) + 2] *= chance.choice([0, 1])
     path.write_bytes(image)

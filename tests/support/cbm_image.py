@@ -3,7 +3,6 @@
 It shares no code with the program: blocks are placed by counting the sectors of the tracks."""
 
 SECTORS = {track: 21 if track < 18 else 19 if track < 25 else 18 if track < 31 else 17 for track in range(1, 36)}
-SIDE_ROOM = 120
 BLOCKS = sum(SECTORS.values())
 SIZE = 256 * BLOCKS
 # That of an image with an error byte for each block behind it.
@@ -109,21 +108,3 @@ def free_blocks(image):
     """The blocks that the disk's map marks free, in order."""
     bits = {track: int.from_bytes(image[MAP + 4 * track - 3 : MAP + 4 * track], "little") for track in SECTORS}
     return [(track, sector) for track in SECTORS for sector in range(SECTORS[track]) if bits[track] >> sector & 1]
-
-
-def put_rel(image, name, record, data):
-    """Gives the entry of a name a REL file of records of a length, on free blocks. Of its side sectors each has its
-    number, the length of a record, where all of them are, and where up to 120 blocks of the data are."""
-    parts, free = parts_of(data), [block for block in free_blocks(image) if block[0] != 18]
-    blocks, rest = free[: len(parts)], free[len(parts) :]
-    groups = [blocks[at : at + SIDE_ROOM] for at in range(0, len(blocks), SIDE_ROOM)]
-    sides = rest[: len(groups)]
-    all_sides = b"".join(map(bytes, sides)).ljust(12, b"\x00")
-    put_chain(image, blocks, parts)
-    put_chain(image, sides, [bytes([n, record]) + all_sides + b"".join(map(bytes, group))
-                             for n, group in enumerate(groups)])
-    image[MAP : MAP + 140] = free_map(set(free_blocks(image)) - {*blocks, *sides})
-    at = image.index(padded(name), place(18, 1)) - 5
-    image[at + 3 : at + 5] = bytes(blocks[0])
-    image[at + 21 : at + 24] = bytes([*sides[0], record])
-    image[at + 30 : at + 32] = len(blocks + sides).to_bytes(2, "little")
