@@ -3,7 +3,7 @@ mod sent;
 mod waits;
 
 use rd_fakes::desk::{Memory, desk_over, new_store};
-use rd_http::{Ended, Served};
+use rd_http::{Clock, Ended, Listener, Served, StreamDoor, TimeLimits, serve_in_memory};
 use rd_samples::days::CENTRAL;
 use std::alloc::Global;
 use std::test::Fail;
@@ -21,4 +21,17 @@ fn served(visits: u32, read_faults: u32, write_faults: u32) -> Served {
         write_faults,
         ended: Ended::Count,
     }
+}
+
+/// Serves so many visitors of a listener through a new door, with a clock and how long they may take.
+fn serve<L: Listener, C: Clock + Copy + Drop>(
+    alloc: Global,
+    listener: L,
+    clock: C,
+    limits: TimeLimits,
+    desk: &mut Memory,
+    count: u32,
+) -> Served {
+    let mut door = StreamDoor::with_limits(alloc, listener, clock, limits);
+    serve_in_memory(alloc, &mut door, desk, count)
 }

@@ -1,10 +1,10 @@
 //! What goes out to two visitors of one door: to each their own reply, and nothing of the other's.
 
 use super::notes::{Hand, Manner, Notes, Visitor, Visitors};
-use super::{new_desk, served};
+use super::{new_desk, serve, served};
 use rd_fakes::desk::Memory;
 use rd_geometry::NoMemory;
-use rd_http::{Clock, Listener, Served, StreamDoor, serve_in_memory};
+use rd_http::{Clock, Listener, Served, TimeLimits};
 use rd_samples::days::AFTER;
 use std::alloc::{AllocGlobal, Global};
 use std::io::{Read, Write};
@@ -68,7 +68,10 @@ fn filled_desk(rt: &impl Abort, alloc: Global) -> Result<Memory, Fail> {
         let notes = Notes::new(alloc, AFTER);
         let request = deed(alloc, number)?;
         let visitors = [(request.as_slice(), QUICK)];
-        assert_eq!(rt; run(alloc, &mut desk, &notes, &visitors), served(1, 0, 0));
+        assert_eq!(rt;
+            run(alloc, &mut desk, &notes, &visitors, 1),
+            served(1, 0, 0)
+        );
     }
     Ok(desk)
 }
@@ -91,23 +94,24 @@ fn all_deeds(alloc: Global) -> Result<String, NoMemory> {
     )?)
 }
 
-/// How a run of all these visitors goes, through one door.
+/// How a run of so many of these visitors goes, through one door.
 fn run<'a>(
     alloc: Global,
     desk: &mut Memory,
     notes: &'a Notes,
     visitors: &'a [Visitor<'a>],
+    count: u32,
 ) -> Served {
     let listener = Visitors::new(notes, visitors);
-    let mut door = StreamDoor::new(alloc, listener, Hand(notes));
-    serve_in_memory(alloc, &mut door, desk, visitors.len() as u32)
+    let limits = TimeLimits::usual();
+    serve(alloc, listener, Hand(notes), limits, desk, count)
 }
 
 /// How the run of two visitors goes, and what goes out to both.
 fn sent_to(alloc: Global, desk: &mut Memory, first: Manner) -> Result<(Served, String), NoMemory> {
     let notes = Notes::new(alloc, AFTER);
     let visitors = [(FOR_DEEDS, first), (FOR_IMAGES, QUICK)];
-    let went = run(alloc, desk, &notes, &visitors);
+    let went = run(alloc, desk, &notes, &visitors, 2);
     let out = notes.out();
     Ok((went, String::from_utf8_lossy(alloc, out.as_slice())?))
 }
@@ -177,11 +181,9 @@ where
     let mut desk = filled_desk(rt, alloc)?;
     first.write_all(FOR_DEEDS)?;
     second.write_all(FOR_IMAGES)?;
-    let mut door = StreamDoor::new(alloc, listener, Standing);
-    assert_eq!(rt;
-        serve_in_memory(alloc, &mut door, &mut desk, 2),
-        served(2, 0, 0)
-    );
+    let limits = TimeLimits::usual();
+    let went = serve(alloc, listener, Standing, limits, &mut desk, 2);
+    assert_eq!(rt; went, served(2, 0, 0));
     let mut read = Vec::new(alloc);
     first.read_to_end(&mut read)?;
     let long = all_deeds(alloc)?;

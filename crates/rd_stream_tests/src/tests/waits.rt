@@ -1,8 +1,8 @@
 //! When a visit begins, and how long its stream may wait.
 
 use super::notes::{Hand, Manner, Notes, Visitors};
-use super::{new_desk, served};
-use rd_http::{Served, StreamDoor, TimeLimits, serve_in_memory};
+use super::{new_desk, serve, served};
+use rd_http::{Served, TimeLimits};
 use rd_samples::days::AFTER;
 use rd_samples::table;
 use std::alloc::Global;
@@ -111,8 +111,7 @@ fn run(alloc: Global, notes: &Notes, manner: Manner, count: u32) -> Result<Serve
     let mut desk = new_desk(alloc)?;
     let visitors = [(ASKED, manner), (ASKED, manner)];
     let listener = Visitors::new(notes, &visitors);
-    let mut door = StreamDoor::with_limits(alloc, listener, Hand(notes), limits());
-    Ok(serve_in_memory(alloc, &mut door, &mut desk, count))
+    Ok(serve(alloc, listener, Hand(notes), limits(), &mut desk, count))
 }
 
 #[test]
