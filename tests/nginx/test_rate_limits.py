@@ -17,8 +17,9 @@ FILE, LONG_PATH = "/images/15/files/0", "/images/21/files/0"
 # The configuration's numbers: requests in a second, and in a burst beyond; and of an address under way.
 RATES = {FILE: (20, 60), "/room.css": (50, 200), "/catalogue": (1, 20)}
 AT_A_TIME = 20
-# In what time a visitor is answered beside slow ones, and after what times these are ended, in seconds.
-SOON, LATE = 3, 5
+# In what time a visitor is answered beside slow ones, of which one would hold the desk itself for ten seconds; and how
+# much later than it says nginx may end these, in seconds.
+SOON, LATE = 8, 8
 
 
 def visit(door, path, count):
