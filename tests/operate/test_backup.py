@@ -1,9 +1,8 @@
 """A backup holds what was done at one moment, and opens; it trusts nothing of the desk's user, and a failed one leaves
 nothing."""
 
+import concurrent.futures
 import contextlib
-import importlib.machinery
-import importlib.util
 import json
 import os
 import pathlib
@@ -13,7 +12,6 @@ import shutil
 import signal
 import sqlite3
 import subprocess
-import sys
 import threading
 import time
 
@@ -21,9 +19,9 @@ import pytest
 from support.house import DONE, IMAGE, Reader, backed_up, done, ended, fill, leftovers, restored
 from support.house import status_outside
 from support.room import OPERATE, wait_until
-from support.samples import STAFF, Asked, digest, put
+from support.samples import STAFF, digest, put, put_image
 
-DEEDS, DISKS = 20, 12
+DEEDS, FIRST = 20, 70
 # How many bytes of a page are left alone in a store with sums; where the file says it; and how long a page is.
 SUMMED, LEFT_ALONE, PAGE = 8, 20, 4096
 NIGHT = 24 * 3600
@@ -36,49 +34,38 @@ COMMAND = put("/deeds/1", {"donor": "D", "signed": "2020-01-01"})
 # What a backup holds
 
 
-class Writer(threading.Thread):
-    """Commands one after the other, each with another value: those that were begun, how many were done, and what broke
-    it."""
+class Writer:
+    """Commands one after the other, each with another value: those that were begun, and how many were done."""
 
     def __init__(self, house, seed):
-        super().__init__(daemon=True)
         self.ask, self.chance, self.sent, self.done = house.room.ask_staffs_door, random.Random(seed), [], 0
-        self.fault, self.may_send, self.is_over = None, threading.Event(), threading.Event()
-
-    def __enter__(self):
-        for _ in range(DEEDS + DISKS):
+        for _ in range(FIRST):
             self.send(*self.command())
-        self.start()
-        return self
 
-    def __exit__(self, kind, *_):
-        self.is_over.set()
-        self.may_send.set()
-        self.join()
-        if self.fault and kind is None:
-            raise self.fault
+    @contextlib.contextmanager
+    def at_work(self):
+        """While this is entered, commands come without a rest."""
+        is_over = threading.Event()
+        with concurrent.futures.ThreadPoolExecutor(1) as pool:
+            work = pool.submit(self.work_until, is_over)
+            try:
+                yield
+            finally:
+                is_over.set()
+            work.result()
 
-    def run(self):
-        try:
-            while not self.is_over.is_set():
-                self.may_send.wait()
-                self.send(*self.command())
-        except Exception as fault:  # the test's thread raises it
-            self.fault = fault
+    def work_until(self, is_over):
+        while not is_over.is_set():
+            self.send(*self.command())
 
     def command(self):
-        """What a command sets, its value, and its path and body. The first ones are deeds, and then disks."""
+        """What a command sets, its value, and the request. The first ones are all deeds."""
         number = len(self.sent) + 1
         deed = number if number <= DEEDS else self.chance.randint(1, DEEDS)
-        if number <= DEEDS or number > DEEDS + DISKS and self.chance.random() < 0.5:
+        if number <= DEEDS or self.chance.random() < 0.8:
             return ("deed", deed), f"D{number}", put(f"/deeds/{deed}", {"donor": f"D{number}", "signed": "2020-01-01"})
-        if number <= DEEDS + DISKS or self.chance.random() < 0.1:
-            image = IMAGE[:100] + number.to_bytes(8, "big") + IMAGE[108:]
-            asked = Asked("PUT", f"/accessions/{number}/d64/{deed}/{digest(image)}", STAFF, image)
-            return ("image", number), digest(image), asked
-        rank = self.chance.randint(1, 9)
-        rule = {"audiences": ["public"], "select": {"prefix": f"P{number}"}, "effect": "read"}
-        return ("rule", deed, rank), f"P{number}", put(f"/deeds/{deed}/rules/{rank}", rule)
+        image = IMAGE[:100] + number.to_bytes(8, "big") + IMAGE[108:]
+        return ("image", number), digest(image), put_image(number, "d64", deed, image)
 
     def send(self, what, value, asked):
         self.sent.append((what, value))
@@ -106,8 +93,6 @@ def held(folder):
     assert store.execute("PRAGMA integrity_check").fetchone() == ("ok",)
     found = {("deed", number): donor for number, donor in store.execute("SELECT num, donor FROM deed")}
     found |= {("image", number): sum_.hex() for number, sum_ in store.execute("SELECT acc, digest FROM image")}
-    rules = store.execute("SELECT scope, rank, word FROM rule WHERE band = 1")
-    found |= {("rule", deed, rank): word for deed, rank, word in rules}
     store.close()
     return found
 
@@ -116,15 +101,15 @@ def held(folder):
 def test_backup_under_commands_holds_what_was_done_at_a_moment(house, seed, around, tmp_path):
     """Commands come without a rest, at the staff's door, or to the desk's own socket, where the desk is frozen for the
     copy; and a reader asks all the time."""
-    with Writer(house, seed) as writer, Reader(house.room, ["/health"]) as reader:
-        if around:
-            writer.ask = house.room.ask_desk
+    writer = Writer(house, seed)
+    if around:
+        writer.ask = house.room.ask_desk
+    with Reader(house.room, ["/health"]) as reader:
         for number in range(3):
             least = writer.done
-            writer.may_send.set()
-            reader.turn(number)
-            backup = backed_up(house)
-            writer.may_send.clear()
+            with writer.at_work():
+                reader.turn(number)
+                backup = backed_up(house)
             most = len(writer.sent)
             assert [path.name for path in sorted(backup.iterdir())] == FILES
             assert (backup / "museum.sqlite").read_bytes()[LEFT_ALONE] == SUMMED
@@ -175,12 +160,6 @@ def test_backup_that_fails_says_why_and_leaves_nothing(house, key, served_by, wo
     done(house, COMMAND)
 
 
-def test_backup_of_a_desk_that_is_down_says_so(house):
-    house.stop()
-    status, out, errors = house.back_up()
-    assert (status, errors) == (0, "") and "the desk was down" in out
-
-
 def flip(path, at):
     """Flips a bit of a file."""
     with open(path, "r+b") as file:
@@ -203,7 +182,9 @@ def test_flipped_bit_of_any_page_stops_the_backup(house):
         assert status == 1 and errors.endswith("museum.sqlite: desk: store\n"), (at, errors)
         flip(store, at)
     assert house.backups() == []
-    backed_up(house)
+    house.stop()
+    status, out, errors = house.back_up()
+    assert (status, errors) == (0, "") and "the desk was down" in out
 
 
 def test_killed_backup_lets_commands_go_on_and_the_next_one_clears_up(house):
@@ -237,41 +218,24 @@ def test_second_backup_at_once_is_refused(house):
 # Which are kept
 
 
-@pytest.fixture
-def tool(monkeypatch):
-    """The tool as a module."""
-    monkeypatch.syspath_prepend(OPERATE)
-    loader = importlib.machinery.SourceFileLoader("desk_backup", os.path.join(OPERATE, "desk-backup"))
-    module = importlib.util.module_from_spec(importlib.util.spec_from_loader("desk_backup", loader))
-    loader.exec_module(module)
-    yield module
-    sys.modules.pop("museum", None)
-
-
-def test_latest_backups_of_days_weeks_and_months_are_kept(tool):
-    """One is made each night for two years, with some nights left out."""
-    names, begin = [], 1767225600  # 2026-01-01
-    for night in range(730):
-        if night % 11 != 5:
-            names.append(time.strftime("%Y-%m-%dT031000Z", time.gmtime(begin + night * NIGHT)))
-            gone = tool.superfluous(names, names[-1])
-            names = [name for name in names if name not in gone]
-    # the last backup of each month, of each of five weeks that begin on Mondays, and of seven days
-    assert [name[:10] for name in names] == [
-        "2027-01-31", "2027-02-27", "2027-03-31", "2027-04-30", "2027-05-31", "2027-06-30", "2027-07-31", "2027-08-31",
-        "2027-09-30", "2027-10-31", "2027-11-29", "2027-12-05", "2027-12-12", "2027-12-19", "2027-12-25", "2027-12-26",
-        "2027-12-27", "2027-12-28", "2027-12-29", "2027-12-30", "2027-12-31",
-    ]
-    assert tool.superfluous(["mine", "2026-01-01", "lost+found"], names[-1]) == []
-
-
-def test_both_backups_of_a_day_stay_until_the_next_day(house):
-    """Backups of an earlier day are there twice, too: of these the later one stays."""
+def test_latest_backups_of_days_weeks_and_months_are_kept_and_all_of_a_day_until_the_next(house):
+    """There is one of each night of two years, with some nights left out, and two of the last one."""
     done(house, COMMAND)
-    for hour in ("03", "12"):
-        (house.room.folder / "backups" / f"2026-01-01T{hour}0000Z").mkdir(parents=True)
+    folder, begin = house.room.folder / "backups", 1704067200  # 2024-01-01
+    for night in range(731):
+        if night % 11 != 5:
+            (folder / time.strftime("%Y-%m-%dT031000Z", time.gmtime(begin + night * NIGHT))).mkdir(parents=True)
+    (folder / "2025-12-31T020000Z").mkdir()
+    (folder / "mine").mkdir()
     made = [backed_up(house).name for _ in range(2)]
-    assert [path.name for path in house.backups()] == ["2026-01-01T120000Z", *made], "a backup of this day is gone"
+    names = [path.name for path in house.backups()]
+    assert names[-3:] == [*made, "mine"], "a backup of this day is gone"
+    # beside this day: the last one of each of 11 months, of four weeks that begin on Mondays, and of six days
+    assert [name.removesuffix("T031000Z") for name in names[:-3]] == [
+        "2025-02-28", "2025-03-31", "2025-04-30", "2025-05-31", "2025-06-30", "2025-07-30", "2025-08-31", "2025-09-30",
+        "2025-10-31", "2025-11-30", "2025-12-14", "2025-12-20", "2025-12-26", "2025-12-27", "2025-12-28", "2025-12-29",
+        "2025-12-30", "2025-12-31",
+    ]
 
 
 def test_backup_that_is_kept_by_a_name_stays(house):
@@ -282,11 +246,7 @@ def test_backup_that_is_kept_by_a_name_stays(house):
     backed_up(house)
     assert {"2026-01-01T110000Z-before-0.2", kept.name} <= {path.name for path in house.backups()}
     restored(house, kept)
-
-
-@pytest.mark.parametrize("name", ["", "a/b", "..", "-x", "a b"])
-def test_name_that_is_no_part_of_a_folder_is_refused(house, name):
-    assert house.back_up("--keep", name)[0] == 2 and house.backups() == []
+    assert [house.back_up("--keep", name)[0] for name in ("", "a/b", "..", "-x", "a b")] == [2] * 5
 
 
 # What whoever runs as the desk's user may leave in the folder of the store
@@ -303,26 +263,17 @@ def test_link_in_the_store_folder_empties_nothing(house):
     assert came[::2] == (0, "") and leftovers(house) == []
 
 
-def secret_link(room):
-    room.store.symlink_to(room.folder / "secret")
-
-
-def secret_log(room):
-    shutil.move(room.folder / "own.sqlite", room.store)
-    pathlib.Path(f"{room.store}-wal").unlink(missing_ok=True)
+def linked(room):
+    """The secret in place of the log of a store that is there."""
+    shutil.copy(room.folder / "own.sqlite", room.store)
+    pathlib.Path(f"{room.store}-wal").unlink()
     pathlib.Path(f"{room.store}-wal").symlink_to(room.folder / "secret")
 
 
-def secret_name(room):
-    """A second name of another user's file."""
-    os.chown(room.folder / "secret", 65534, 65534)
-    os.link(room.folder / "secret", room.store)
-
-
 @pytest.mark.parametrize("plant, words", [
-    (secret_link, "museum.sqlite: a link"),
-    (secret_log, "museum.sqlite-wal: a link"),
-    (secret_name, "museum.sqlite: not a file of the folder's owner"),
+    (lambda room: room.store.symlink_to(room.folder / "secret"), "museum.sqlite: a link"),
+    (linked, "museum.sqlite-wal: a link"),
+    (lambda room: os.link(room.folder / "secret", room.store), "museum.sqlite: not a file of the folder's owner"),
     (lambda room: os.mkfifo(room.store), "museum.sqlite: not a file of the folder's owner"),
 ], ids=["the-store-is-a-link", "the-log-is-a-link", "another-users-file", "a-pipe"])
 def test_file_that_is_not_the_desks_is_not_copied(house, plant, words):
@@ -330,6 +281,7 @@ def test_file_that_is_not_the_desks_is_not_copied(house, plant, words):
     room = house.room
     done(house, COMMAND)
     (room.folder / "secret").write_text("the site's key")
+    os.chown(room.folder / "secret", 65534, 65534)
     shutil.move(room.store, room.folder / "own.sqlite")
     plant(room)
     room.write_places(room.folder / "places", PROGRAM=script(room, f'for one; do cp "$one" {room.folder}/leaked; done'))

@@ -1,5 +1,5 @@
-"""A restore refuses what would open what was closed, or bring in what nobody of the staff did, and says why; however
-it ends, the room is open."""
+"""A restore refuses what would open what was closed, or do what nobody of the staff did; and the room is open in the
+end."""
 
 import contextlib
 import datetime
@@ -151,23 +151,20 @@ def test_new_store_of_a_new_machine_takes_nothing_back(house, monday):
 # Disks
 
 
-def test_disk_that_only_the_old_store_has_is_named_and_can_be_put_again(house, monday, tmp_path):
+def test_disk_that_only_the_old_store_has_is_named_and_given_up_or_put_again(house, monday, tmp_path):
     """It came to the desk's own socket, as by an import: it is in no journal."""
     assert house.room.ask_desk(put_image(15, "d64", 7, OTHER)) == DONE
     errors = refused(house, f"disk 15, SHA-256 {digest(OTHER)}", monday)
     assert "the store is as it was, and the room is open" in errors
     see_old_room(house)
+    out = restored(house, monday, "--give-up", 15)
+    assert "disk 15 is given up, with its takedowns" in out
+    assert f"only in the old store: /accessions/15/d64/7/{digest(OTHER)}" in out
+    assert house.room.ask_desk(put_image(15, "d64", 7, OTHER)) == DONE
     done(house, takedown(15, 1, 0))
     (tmp_path / "15.d64").write_bytes(OTHER)
     restored(house, monday, "--disks", tmp_path)
     assert [status_outside(house.room, f"/images/15/files/{slot}") for slot in (0, 2)] == [403, 200]
-
-
-def test_disk_that_only_the_old_store_has_can_be_given_up(house, monday):
-    assert house.room.ask_desk(put_image(15, "d64", 7, OTHER)) == DONE
-    out = restored(house, monday, "--give-up", 15)
-    assert "disk 15 is given up, with its takedowns" in out
-    assert f"only in the old store: /accessions/15/d64/7/{digest(OTHER)}" in out
 
 
 # The room is open

@@ -1,7 +1,10 @@
 """A room with the places of a museum's machine, for the tools in operate/ that need systemd: in its place there is a
 systemctl that starts, stops, freezes and thaws the desk of the room."""
 
+import collections
+import concurrent.futures
 import contextlib
+import itertools
 import json
 import os
 import pathlib
@@ -11,7 +14,7 @@ import subprocess
 import threading
 import time
 
-from support.room import OPERATE
+from support.room import OPERATE, wait_until
 from support.samples import STAFF, bytes_of, get, put, put_image, put_rule
 from support.server import ENDLESS, LIMIT
 
@@ -156,48 +159,40 @@ def status_outside(room, path, address="127.0.7.1"):
         return reply.status
 
 
-class Reader(threading.Thread):
+class Reader:
     """A reader without a key, who asks for some files all the time: how often each status of each file came, by the
     part of the week. No address asks more often than it may. What breaks it is raised where it ends."""
 
     def __init__(self, room, paths):
-        super().__init__(daemon=True)
-        self.room, self.paths, self.part = room, paths, "monday"
-        self.seen, self.fault, self.is_over = {}, None, threading.Event()
+        self.room, self.paths, self.part, self.seen, self.is_over = room, paths, "monday", {}, threading.Event()
+        self.pool = concurrent.futures.ThreadPoolExecutor(1)
 
     def __enter__(self):
-        self.start()
+        self.work = self.pool.submit(self.read)
         self.turn("monday")
         return self
 
     def __exit__(self, kind, *_):
         self.is_over.set()
-        self.join()
-        if self.fault and kind is None:
-            raise self.fault
+        self.pool.shutdown()
+        if kind is None:
+            self.work.result()
 
-    def run(self):
-        number = 0
-        try:
-            while not self.is_over.is_set():
-                for path in self.paths:
-                    part, number = self.part, number + 1
-                    status = status_outside(self.room, path, f"127.0.6.{1 + number % 200}")
-                    if part == self.part:
-                        found = self.seen.setdefault((part, path), {})
-                        found[status] = found.get(status, 0) + 1
-                    time.sleep(0.01)
-        except Exception as fault:  # the test's thread raises it
-            self.fault = fault
+    def read(self):
+        for number, path in enumerate(itertools.cycle(self.paths)):
+            if self.is_over.wait(0.01):
+                return
+            part, status = self.part, status_outside(self.room, path, f"127.0.6.{1 + number % 200}")
+            if part == self.part:
+                found = self.seen.setdefault((part, path), collections.Counter())
+                found[status] += 1
 
     def turn(self, part):
         """Begins a part of the week, and waits until each file was asked for in it."""
-        self.part, end = part, time.monotonic() + LIMIT
-        while not all((part, path) in self.seen for path in self.paths):
-            if self.fault:
-                raise self.fault
-            assert time.monotonic() < end, f"no replies in {part}: {self.seen}"
-            time.sleep(0.02)
+        self.part = part
+        wait_until(lambda: self.work.done() or all((part, path) in self.seen for path in self.paths))
+        if self.work.done():
+            self.work.result()
 
     def statuses(self, part, path):
         return set(self.seen[part, path])
