@@ -3,6 +3,7 @@
 import hashlib
 import io
 import json
+import types
 import zipfile
 
 import pytest
@@ -18,13 +19,6 @@ MARKUP = disk([(0x81, (17, 0), b"<script>alert(1)", 1)], {(17, 0): b"\x00\x11<B>
 OPEN = {f"Disk {number}" for number in (14, 15, 16, 17, 18, 26)}
 
 
-class Door:
-    """A door of the room, as a page needs it."""
-
-    def __init__(self, address):
-        self.address = address
-
-
 @pytest.fixture(scope="module")
 def driver(request, tmp_path_factory):
     begun = chromium(tmp_path_factory.mktemp("downloads"), request.config.getoption("--headed"))
@@ -34,12 +28,12 @@ def driver(request, tmp_path_factory):
 
 @pytest.fixture
 def reader(driver, room):
-    return ReadersPage(driver, Door(f"https://{SITE}:{room.https_port}/"))
+    return ReadersPage(driver, types.SimpleNamespace(address=f"https://{SITE}:{room.https_port}/"))
 
 
 @pytest.fixture
 def staffs(driver, room):
-    return StaffPage(driver, Door(f"http://{HOST}:{room.staff_port}/")).begin()
+    return StaffPage(driver, types.SimpleNamespace(address=f"http://{HOST}:{room.staff_port}/")).begin()
 
 
 def files_at(room, number, key):

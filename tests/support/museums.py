@@ -2,9 +2,8 @@
 
 import hashlib
 import itertools
-import urllib.parse
 
-from support import cbm_image, cpm_image, model, stand_in
+from support import cpm_image, model, stand_in
 from support.model_disks import Disk, File
 from support.server import bytes_of
 
@@ -12,44 +11,17 @@ WORDS = ("LETTER", "GAME", "NOTES", "INDEX", "SPRITES", "DIARY", "SONGS", "MAPS"
 DONORS = ("A. Curator", "B. Donor", "The Sea Club", "E. Müller", "C. Nowak")
 # Names that are paths, devices, markup and formulas.
 HARMFUL = ["../../X", "CON", "<img src=x onerror=window.harmed=1>", "=1+1", 'A "quoted", name']
-TYPES = {"SEQ": 0x81, "PRG": 0x82, "USR": 0x83, "REL": 0x84}
 
 
 def rule(rank, effect, audiences, select=None, start=None, until=None):
     """A rule as a model of the desk keeps it."""
-    select = select or {"all": True}
-    return {
-        "rank": rank, "audiences": list(audiences), "effect": effect, "select": select, "from": start, "until": until
-    }
+    days, select = {"from": start, "until": until}, select or {"all": True}
+    return {"rank": rank, "audiences": list(audiences), "effect": effect, "select": select, **days}
 
 
 def put(museum, acc, kind, deed, data):
     """Puts an image as it stands."""
     museum.images[acc] = model.Image(kind, deed, hashlib.sha256(data).hexdigest(), data)
-
-
-# Disks
-
-
-class MadeDisks(stand_in.Disks):
-    """Disks of which those are made that have a few words in the place of their bytes."""
-
-    def image(self, kind, image):
-        """The bytes of a disk as a desk takes them."""
-        if image not in self.disks or not image.startswith(b"made:"):
-            return image
-        files = self.disk(kind, image).files
-        if kind == "cpm8":
-            return cpm_image.filled((name_of_cpm(file), file.data) for file in files)
-        named = [(file, urllib.parse.unquote_to_bytes(file.fields["name"])) for file in files]
-        entries = [(TYPES[file.fields["type"]], name, file.data or b"A") for file, name in named]
-        return cbm_image.filled(b"MUSEUM", entries)
-
-
-def name_of_cpm(file):
-    """The eleven bytes of a name and its type."""
-    name, _, kind = file.fields["name"].partition(".")
-    return name.encode().ljust(8) + kind.encode().ljust(3)
 
 
 def file_of(kind, slot, name, type_, data):
@@ -82,13 +54,9 @@ def harmful_disk(museum, acc, deed):
     put_files(museum, acc, "d64", deed, [(name, "SEQ", b"TEXT") for name in HARMFUL])
 
 
-# Museums
-
-
 def empty(day=None):
     """A museum with a key of the room, and no disk."""
     museum = stand_in.Museum(day)
-    museum.disks = MadeDisks()
     museum.badges[hashlib.sha256(b"hello").hexdigest()] = "room"
     return museum
 

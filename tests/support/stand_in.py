@@ -66,8 +66,7 @@ def decided(tried, audience, day, file):
 
 
 class Disks:
-    """The disks of a museum by their bytes: those that were made, and those that are read when they are first asked
-    for."""
+    """The disks of a museum by their bytes: those that were made, and those that are read when they are asked for."""
 
     def __init__(self):
         self.disks = {}
@@ -130,12 +129,9 @@ class Museum(model.Desk):
         return self.disks.files(image.kind, image.bytes)
 
     def lines(self, acc, audience):
-        self.image(acc)
-        tried = self.deciding(acc, self.day)[audience]
-        for file in self.files_of(acc):
-            label, effect = decided(tried, audience, self.day, file)
-            if effect != "deny":
-                yield file, label, effect
+        tried = self.image(acc) and self.deciding(acc, self.day)[audience]
+        verdicts = ((file, *decided(tried, audience, self.day, file)) for file in self.files_of(acc))
+        return [line for line in verdicts if line[2] != "deny"]
 
     # The staff's questions
 
@@ -198,9 +194,8 @@ class Museum(model.Desk):
 
     def rehearse(self, what, body, day, scope, rank):
         """What turns on a day where a rule of a deed or a takedown of a disk is put, or dropped."""
-        is_rule, rule = what.endswith("rule"), None
-        if what.startswith("rehearse put"):
-            rule = model_requests.rule_of(body, rank, ("deny", "list", "read")[: 2 + is_rule])
+        is_rule, is_put = what.endswith("rule"), "put" in what
+        rule = model_requests.rule_of(body, rank, ("deny", "list", "read")[: 2 + is_rule]) if is_put else None
         refuse_if(is_rule and scope not in self.deeds, NO_DEED)
         refuse_if(not is_rule and scope not in self.images, NO_ACCESSION)
         accessions = [acc for acc, image in self.images.items() if scope == (image.deed if is_rule else acc)]
@@ -237,8 +232,7 @@ class Door(socketserver.ThreadingTCPServer):
     in seconds between them, or b"" for a lost connection. `folder` may have more files beside the pages. `visits` keeps
     what was asked of the desk and of the journal, of which `journals` has the files by their paths."""
 
-    allow_reuse_address = daemon_threads = True
-    request_queue_size = 128
+    daemon_threads, request_queue_size = True, 128
 
     def __init__(self, museum, outside=False, folder=None):
         super().__init__((HOST, 0), Visit)
@@ -294,9 +288,8 @@ class Door(socketserver.ThreadingTCPServer):
         due = self.museum.due(b"GET /staff/keys HTTP/1.1\r\nHost: desk\r\n%s\r\n" % key).reply
         if not due.startswith(b"HTTP/1.1 200 "):
             return due
-        if path not in self.journals:
-            return refused_by_nginx(404, "Not Found")
-        return ranged(self.journals[path], fields.get(b"range", b"").decode())
+        data, part = self.journals.get(path), fields.get(b"range", b"").decode()
+        return refused_by_nginx(404, "Not Found") if data is None else ranged(data, part)
 
     def with_added(self, whole):
         head, _, body = whole.partition(b"\r\n\r\n")
@@ -324,19 +317,15 @@ class Door(socketserver.ThreadingTCPServer):
 
     def sent(self):
         """The changes that came since this was asked last: method, path, name and reason."""
-        fields = (b"desk-staff", b"desk-note")
-        came = [
-            (method, path, *(field.get(name, b"").decode() for name in fields))
-            for method, path, field in self.visits if method != "GET" and not path.startswith("/staff/")
-        ]
-        self.visits.clear()
-        return came
+        visits, self.visits = self.visits, []
+        told = [(*visit[:2], *(visit[2].get(name, b"").decode() for name in (b"desk-staff", b"desk-note")))
+                for visit in visits]
+        return [visit for visit in told if visit[0] != "GET" and not visit[1].startswith("/staff/")]
 
     def visited(self):
         """What was asked of the desk since this was asked last: methods and paths."""
-        came = [(method, path) for method, path, _ in self.visits]
-        self.visits.clear()
-        return came
+        visits, self.visits = self.visits, []
+        return [visit[:2] for visit in visits]
 
 
 def ranged(data, words):
