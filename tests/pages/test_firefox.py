@@ -48,8 +48,8 @@ class Marionette:
             return {"value": []}
         values = {"acceptInsecureCerts": True} if command == Command.NEW_SESSION else values
         self.number += 1
-        text = json.dumps([0, self.number, f"WebDriver:{COMMANDS[command]}", values]).encode()
-        self.stream.write(b"%d:%s" % (len(text), text))
+        text = json.dumps([0, self.number, f"WebDriver:{COMMANDS[command]}", values])
+        self.stream.write(f"{len(text)}:{text}".encode())
         self.stream.flush()
         _, _, fault, value = self.taken()
         if fault:

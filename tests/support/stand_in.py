@@ -18,7 +18,7 @@ import time
 from support import model, model_disks, model_requests, model_rules
 from support.model import AUDIENCES, Due, refuse_if
 from support.samples import (
-    BAD_BODY, NO_ACCESSION, NO_DEED, NO_ROUTE, STAFF_ONLY, UNKNOWN_KEY, compact, reply, told,
+    BAD_BODY, NO_ACCESSION, NO_DEED, STAFF_ONLY, UNKNOWN_KEY, compact, reply, told,
 )
 from support.server import HOST, ROOT
 
@@ -47,9 +47,8 @@ def table(rows):
 
 
 def is_day(text):
-    """Whether the date in a path, where there is one, is a day."""
     with contextlib.suppress(ValueError):
-        return "-" not in text or datetime.date.fromisoformat(text).year > 0
+        return datetime.date.fromisoformat(text).year > 0
     return False
 
 
@@ -94,6 +93,9 @@ class Museum(model.Desk):
         self.latest = {}
 
     def due(self, data):
+        """As of a model of the desk; and a path with a date that is none is no route."""
+        for date in re.findall(rb"^[A-Z]+ /staff/(?:verdicts|rehearsals)/([0-9-]{10})", data):
+            data = data if is_day(date.decode()) else data.replace(date, b"-", 1)
         try:
             return self.answer(model_requests.asked_by(data, STAFF_ROUTES + model_requests.ROUTES))
         except (model_requests.Refused, model.Refusal) as fault:
@@ -104,7 +106,6 @@ class Museum(model.Desk):
     def answer(self, asked):
         if asked.what in model.QUESTIONS:
             return super().answer(asked)
-        refuse_if(not all(map(is_day, asked.parts)), NO_ROUTE)
         audience = "public" if asked.key is None else self.badges.get(hashlib.sha256(asked.key).hexdigest())
         refuse_if(audience is None, UNKNOWN_KEY)
         refuse_if(audience != "staff", STAFF_ONLY)
