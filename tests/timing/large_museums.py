@@ -12,29 +12,25 @@ import time
 
 import pytest
 from support import cbm_image
+from support.room import asked_at
 from support.samples import ROOM, STAFF, badge, put, put_image
-from support.server import Serving, bytes_of, client_at
+from support.server import Serving, bytes_of
 
 LONG = [pytest.mark.long, pytest.mark.timeout(3600)]
+SIZES = pytest.mark.parametrize("disks", [300, pytest.param(10_000, marks=LONG)])
 # One deed has a tenth of the disks, there are ten disks for each deed, and each tenth disk has a takedown.
 LARGE_DEED, TENTH, CHECKS = 7, 10, 30
 # The files of each disk: those that the reading room may read, and one that is denied to it.
 FILES = [(0x82, b"FILE %d" % n, (bytes(range(250)) * 20)[: 2000 + 500 * n]) for n in range(7)]
 DISK = cbm_image.filled(b"MUSEUM", [*FILES, (0x82, b"SECRET", bytes(900))])
-FIRST = [
-    put(f"/deeds/{LARGE_DEED}", {"donor": "A. Curator", "signed": "2019-05-04"}),
-    put(badge(ROOM), {"audience": "room"}),
-    put_image(1, "d64", LARGE_DEED, DISK),
-]
+DEED = put(f"/deeds/{LARGE_DEED}", {"donor": "A. Curator", "signed": "2019-05-04"})
+FIRST = [DEED, put(badge(ROOM), {"audience": "room"}), put_image(1, "d64", LARGE_DEED, DISK)]
 
 
 def ask(server, asked):
     """The body of a reply that is 200."""
-    with contextlib.closing(client_at(server.port)) as connection:
-        connection.request(asked.method, asked.path, asked.body, {} if asked.key is None else {"Desk-Key": asked.key})
-        reply = connection.getresponse()
-        body = reply.read()
-    assert reply.status == 200, (asked[:3], body[:300])
+    status, body = asked_at(server.port, asked)
+    assert status == 200, (asked[:3], body[:300])
     return body
 
 
@@ -66,7 +62,6 @@ class Museum:
 
     def __init__(self, program, store, disks):
         self.program, self.store, self.disks = program, store, disks
-        self.large = range(1, disks // TENTH + 1)
         self.deeds = [LARGE_DEED, *range(1001, 1000 + max(2, disks // TENTH))]
         self.takedowns = range(TENTH, disks + 1, TENTH)
         subprocess.run([program, "init", "--store", store, "--key", STAFF], check=True, capture_output=True)
@@ -79,27 +74,24 @@ class Museum:
     def write(self, connection):
         """The rows that the desk would have written by PUT, and on thirty days by POST."""
         rest, last = range(2, self.disks + 1), (datetime.date.today() - datetime.date(1970, 1, 1)).days
-        connection.executemany("INSERT INTO deed VALUES (?, 'B. Donor', 18321)", ((num,) for num in self.deeds[1:]))
-        connection.executemany("INSERT INTO image VALUES (?, 1, ?, ?, ?)", map(self.image_row, rest))
         columns = "slot, name, ty, user_no, served, size, faults, units, last_len"
-        copies = f"INSERT INTO found SELECT ?, {columns} FROM found WHERE acc = 1"
-        connection.executemany(copies, ((acc,) for acc in rest))
-        connection.executemany("INSERT INTO rule VALUES (?, ?, ?, ?, NULL, NULL, ?, ?, ?, ?)", self.rule_rows())
+        # the band, the scope, the rank, the audiences, the selector and the effect of two rules of each deed
+        rules = [(1, num, *rule) for num in self.deeds for rule in ((10, 3, 2, 0, "SECRET", 0), (30, 7, 0, 0, "", 2))]
+        rules += [(0, acc, 1, 7, 1, 150, "", 0) for acc in self.takedowns]
         days = [(acc, day) for acc in range(1, self.disks + 1) for day in range(last - CHECKS, last)]
-        connection.executemany("INSERT INTO checked VALUES (?, ?, 0)", days)
+        for statement, values in (
+            ("INSERT INTO deed VALUES (?, 'B. Donor', 18321)", ((num,) for num in self.deeds[1:])),
+            ("INSERT INTO image VALUES (?, 1, ?, ?, ?)", map(self.image_row, rest)),
+            (f"INSERT INTO found SELECT ?, {columns} FROM found WHERE acc = 1", ((acc,) for acc in rest)),
+            ("INSERT INTO rule VALUES (?, ?, ?, ?, NULL, NULL, ?, ?, ?, ?)", rules),
+            ("INSERT INTO checked VALUES (?, ?, 0)", days),
+        ):
+            connection.executemany(statement, values)
 
     def image_row(self, acc):
-        image = disk_of(acc)
-        deed = LARGE_DEED if acc in self.large else self.deeds[1 + acc % (len(self.deeds) - 1)]
+        image, others = disk_of(acc), self.deeds[1:]
+        deed = LARGE_DEED if acc <= self.disks // TENTH else others[acc % len(others)]
         return acc, deed, hashlib.sha256(image).digest(), image
-
-    def rule_rows(self):
-        """Two rules of each deed, and the takedowns: band, scope, rank, audiences, selector, effect."""
-        for num in self.deeds:
-            yield 1, num, 10, 3, 2, 0, "SECRET", 0
-            yield 1, num, 30, 7, 0, 0, "", 2
-        for acc in self.takedowns:
-            yield 0, acc, 1, 7, 1, 150, "", 0
 
     @contextlib.contextmanager
     def serving(self):

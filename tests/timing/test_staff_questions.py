@@ -2,13 +2,12 @@
 memory of them."""
 
 import csv
-import datetime
 import io
 import json
 
 import pytest
-from large_museums import FILES, LARGE_DEED, LONG, TENTH, medians, megabytes, seconds
-from support.samples import STAFF, get, put_rule
+from large_museums import FILES, LARGE_DEED, SIZES, TENTH, medians, megabytes, seconds
+from support.samples import STAFF, drop, get, put_rule
 
 pytestmark = pytest.mark.alone
 DAY, DENY = "2030-01-01", ("deny", {"all": True}, "public", "room")
@@ -24,30 +23,18 @@ def listed(key, count):
     return lambda body: len(json.loads(body)[key]) == count
 
 
-def last_sound(count):
-    """Whether each of so many accessions was sound at its latest check, the day before the museum was made or then."""
-
-    def is_due(body):
-        checks = json.loads(body)["checks"]
-        latest = datetime.date.today() - datetime.timedelta(2)
-        return len(checks) == count and all(
-            one["outcome"] == "sound" and one["day"] >= latest.isoformat() for one in checks
-        )
-
-    return is_due
-
-
-def drop(path):
-    return get(path, STAFF)._replace(method="DELETE")
+def sound(count):
+    """Whether each of so many accessions was sound at its latest check."""
+    return lambda body: [one["outcome"] for one in json.loads(body)["checks"]] == ["sound"] * count
 
 
 def questions(museum):
     """How often each is asked, what all may ask, and what the staff may ask: how many times as long that may take."""
-    disks, rehearsed, acc = museum.disks, f"/staff/rehearsals/{DAY}", museum.disks // 2
-    due = [("deeds", len(museum.deeds)), ("takedowns", len(museum.takedowns)), ("keys", 2)]
-    lists = [(f"/staff/{name}", listed(name, count)) for name, count in due] + [("/staff/checks", last_sound(disks))]
+    disks, rehearsed, acc, large = museum.disks, f"/staff/rehearsals/{DAY}", museum.disks // 2, museum.disks // TENTH
+    counts = {"deeds": len(museum.deeds), "takedowns": len(museum.takedowns), "keys": 2}
+    lists = [(f"/staff/{name}", listed(name, count)) for name, count in counts.items()]
+    lists.append(("/staff/checks", sound(disks)))
     of_deed, of_disk = f"{rehearsed}/deeds/{LARGE_DEED}/rules", f"{rehearsed}/images/{acc}/rules"
-    large = disks // TENTH
     yield 7, (get("/images", STAFF), listed("images", disks)), [((get(path, STAFF), due), 2) for path, due in lists]
     yield 7, (get("/catalogue", STAFF), rows(disks * OF_A_DISK)), [
         ((get(f"/staff/verdicts/{DAY}", STAFF), rows(disks * OF_A_DISK)), 4),
@@ -59,13 +46,13 @@ def questions(museum):
     ]
 
 
-@pytest.mark.parametrize("disks", [300, pytest.param(10_000, marks=LONG)])
+@SIZES
 def test_questions_of_the_staff_take_little_longer_than_those_of_all(disks, museums, bounded):
     museum = museums(disks)
     with museum.serving() as server:
         asked = list(questions(museum))
-        for _, question, others in asked:
-            medians([lambda one=one: seconds(server, one) for one in (question, *(other for other, _ in others))], 1)
+        for one in [one for _, question, others in asked for one in (question, *(other for other, _ in others))]:
+            seconds(server, one)
         for times, question, others in asked:
             for other, most in others:
                 before = megabytes(server, "VmRSS")
