@@ -99,7 +99,8 @@ class Museum:
         service = bytes_of("operate", "desk.service").decode()
         name, value = re.search(r"^Environment=(MALLOC_TRIM_THRESHOLD_)=(\d+)$", service, re.M).groups()
         with Serving(self.program, self.store, environment={name: value}) as server:
-            server.listens()
+            # (a large store takes longer to open than other tests wait; the limit of the test bounds this)
+            assert server.process.stdout.readline().decode() == server.wanted_line()
             yield server
 
 
