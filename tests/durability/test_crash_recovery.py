@@ -165,9 +165,11 @@ class Story:
             timer = None if last else self.kill_later(run, "import")
             for line in itertools.chain([b""], run.stdout):
                 lines += [line] if line.endswith(b"\n") else []
+                if line:
+                    name = "row" if len(lines) > standing else "row that stands"
+                    self.taken[name if lines[1:] else "import"], begun = time.monotonic() - begun, time.monotonic()
                 if last and len(lines) == killed_at and not timer:
                     timer = self.kill_later(run, "row" if lines else "import")
-                self.taken["row" if len(lines) > 1 else "import"], begun = time.monotonic() - begun, time.monotonic()
             errors = run.stderr.read()
         timer.join()
         assert errors == b"" and lines == [f"{acc} done\n".encode() for acc in list(ROWS)[: len(lines)]]
