@@ -6,7 +6,7 @@ import pytest
 from support.house import House, backed_up, done, fill, takedown
 from support.room import Room
 
-INPUTS = ("operate", "web", "images", "docs")
+INPUTS = ("operate", "web", "images", "docs", "crates.txt", "crates/rd_trials/data")
 DRAWS = True
 
 

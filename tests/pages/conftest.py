@@ -4,7 +4,7 @@ import pytest
 from support import museums, stand_in
 from support.browser import TODAY, ReadersPage, StaffPage, chromium
 
-INPUTS = ("web", "images")
+INPUTS = ("web", "images", "operate/nginx", "crates/rd_trials/data")
 NEEDS_PROGRAM = False
 
 

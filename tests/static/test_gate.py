@@ -3,16 +3,19 @@
 import importlib.machinery
 import importlib.util
 import os
+import pathlib
 import re
 import types
 
 import pytest
 import unchanged
-from conftest import ROOT
+from support import server
 
+ROOT = pathlib.Path(server.ROOT)
 LOADER = importlib.machinery.SourceFileLoader("gate", str(ROOT / "tests" / "run"))
 gate = importlib.util.module_from_spec(importlib.util.spec_from_loader("gate", LOADER))
 LOADER.exec_module(gate)
+PROGRAM = gate.PROGRAM.relative_to(ROOT)
 SUITES = [suite for suite in gate.SUITES if gate.files_of([suite])]
 
 
@@ -28,12 +31,13 @@ def tree(tmp_path):
         text = conftest.read_text() if conftest.exists() else ""
         (tmp_path / "tests" / suite / "conftest.py").write_text(text)
         (tmp_path / "tests" / suite / "test_one.py").write_text("\n")
-    (tmp_path / "program").write_text("\n")
+    (tmp_path / PROGRAM).parent.mkdir(parents=True)
+    (tmp_path / PROGRAM).write_text("\n")
     return tmp_path
 
 
 def key(tree, suite, versions="one 1", seed=1):
-    return unchanged.key_of(tree, f"tests/{suite}/test_one.py", tree / "program", versions, seed)
+    return unchanged.key_of(tree, f"tests/{suite}/test_one.py", tree / PROGRAM, versions, seed)
 
 
 def touch(path):
@@ -55,7 +59,8 @@ def test_declared_input_exists_and_its_change_runs_the_file_again(tree, suite, p
 
 @pytest.mark.parametrize("suite", SUITES)
 @pytest.mark.parametrize("path", [
-    "tests/{}/test_one.py", "tests/{}/conftest.py", "tests/{}/helpers.py", "tests/{}/refuse.c", "tests/conftest.py",
+    "tests/{}/test_one.py", "tests/{}/test_two.py", "tests/{}/conftest.py", "tests/{}/helpers.py", "tests/{}/refuse.c",
+    "tests/conftest.py",
     "tests/pytest.ini", "tests/support/server.py", "tests/run",
 ])
 def test_change_of_what_tests_share_runs_the_file_again(tree, suite, path):
@@ -67,7 +72,7 @@ def test_change_of_what_tests_share_runs_the_file_again(tree, suite, path):
 @pytest.mark.parametrize("suite", SUITES)
 def test_another_program_runs_the_file_again_where_it_needs_one(tree, suite):
     before = key(tree, suite)
-    touch(tree / "program")
+    touch(tree / PROGRAM)
     needs = unchanged.declared(ROOT / "tests" / suite / "conftest.py", "NEEDS_PROGRAM", True)
     assert (key(tree, suite) != before) == needs
     assert (suite in gate.AFTER) == needs
@@ -89,7 +94,7 @@ def test_seed_counts_where_cases_are_drawn_by_it(tree, suite):
 def test_file_of_another_suite_leaves_the_key(tree):
     before = key(tree, "pages")
     touch(tree / "tests" / "e2e" / "test_two.py")
-    touch(tree / "tests" / "pages" / "test_two.py")
+    touch(tree / "tests" / "pages" / "out" / "built")
     assert key(tree, "pages") == before
 
 
@@ -136,3 +141,34 @@ def test_skipped_test_counts_as_failed(monkeypatch, tmp_path, capsys):
     run.name, run.files, run.log, run.table = "one", ["tests/e2e/test_x.py"], tmp_path / "one.log", tmp_path / "one.xml"
     run.process = types.SimpleNamespace(wait=lambda: 0)
     assert run.end() == ({"tests/e2e/test_x.py": [1, 1, 3.0]}, 1, 1)
+
+
+@pytest.mark.parametrize("status, table", [(2, None), (3, None), (-9, None), (0, None), (0, "<testsuites><tests")])
+def test_run_without_a_whole_table_has_failed_and_keeps_no_key(monkeypatch, tmp_path, status, table):
+    monkeypatch.setattr(gate, "LOGS", tmp_path)
+    (tmp_path / "one.log").write_text("")
+    if table:
+        (tmp_path / "one.xml").write_text(table)
+    run = gate.Run.__new__(gate.Run)
+    run.name, run.files, run.log, run.table = "one", ["tests/e2e/test_x.py"], tmp_path / "one.log", tmp_path / "one.xml"
+    run.process = types.SimpleNamespace(wait=lambda: status)
+    found, passed, failed = run.end()
+    assert (passed, failed, found["tests/e2e/test_x.py"][1]) == (0, 1, 1)
+
+
+def test_no_two_files_of_tests_have_one_name():
+    names = [pathlib.PurePath(file).name for suite in SUITES for file in gate.files_of([suite]) if suite != "static"]
+    assert len(names) == len(set(names))
+
+
+@pytest.mark.parametrize("text", ["", "{", None])
+def test_times_that_cannot_be_read_are_none(tmp_path, text):
+    if text is not None:
+        (tmp_path / "seconds.json").write_text(text)
+    assert gate.read_json(tmp_path / "seconds.json", {}) == {}
+
+
+def test_what_breaks_is_told_in_the_last_line(monkeypatch, capsys):
+    monkeypatch.setattr(gate, "main", lambda words: 1 / 0)
+    assert gate.end(["ci"]) == 1
+    assert capsys.readouterr().out == "0 passed, 1 failed\n"

@@ -4,7 +4,7 @@ ones also bound them."""
 import pytest
 from large_museums import Museum
 
-INPUTS = ("operate", "web", "images")
+INPUTS = ("operate", "web", "images", "crates/rd_trials/data")
 
 
 @pytest.fixture(scope="module")
