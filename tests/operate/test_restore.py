@@ -187,8 +187,9 @@ def test_desk_that_does_not_start_leaves_the_restored_store(house, monday):
     (["--give-up", "x", "b"], 2, "usage: desk-restore"),
     (["none"], 1, "no backup that desk-backup has made"),
     (["2026-01-01"], 1, "no backup that desk-backup has made"),
+    (["2026-13-01T000000Z"], 1, "no backup that desk-backup has made"),
     (["2026-01-01T000000Z"], 1, "no backup that desk-backup has made"),
-], ids=["usage", "no-folder", "no-moment", "nothing-of-that-moment"])
+], ids=["usage", "no-folder", "no-moment", "no-day", "nothing-of-that-moment"])
 def test_words_that_name_no_backup_stop_nothing(house, words, status, told):
     came = house.run("desk-restore", *words)
     assert came[:2] == (status, "") and told in came[2], came
