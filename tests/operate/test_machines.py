@@ -2,6 +2,7 @@
 a store without sums, and one on which what docs/OPERATING.md and docs/BY-HAND.md say is typed."""
 
 import json
+import os
 import pathlib
 import re
 import shutil
@@ -65,10 +66,12 @@ def install(machine, package, options=""):
 
 @pytest.fixture(scope="module")
 def packages(program, tmp_path_factory):
-    """The package, and one of the same program under a lower number."""
+    """The package, and the one before: what DESK_BEFORE names, or one of the same program under a lower number."""
     folder = tmp_path_factory.mktemp("packages")
     package = made(folder, program)
-    return made(folder, program, "--version", re.split("[+~]", field(package, "Version"))[0]), package
+    before = os.environ.get("DESK_BEFORE")
+    before = before or made(folder, program, "--version", re.split("[+~]", field(package, "Version"))[0])
+    return pathlib.Path(before), package
 
 
 @pytest.fixture
@@ -243,6 +246,12 @@ def test_upgrade_keeps_the_store_and_what_is_the_museums_own(machine, packages):
     install(machine, package, KEEP)
     see(machine, *STANDS, (SUMS, "0"))
     assert answers(machine) == kept
+    # a version that kept no mark of the journal in its backups wants a word more
+    has_mark = machine.says(f"ls {NEWEST}/journal-mark 2>/dev/null")
+    word = "" if has_mark else "--without-journal "
+    refused = machine.says(f"desk-restore {NEWEST} 2>&1 | grep -c 'an older version made the backup'") if word else "1"
+    assert refused == "1"
     see(machine, ("cmp /proc/$(systemctl show -p MainPID --value desk)/exe /usr/bin/desk; echo $?", "0"),
-        (f"desk-restore {NEWEST} >/root/restored; echo $?; grep -c '^only' /root/restored", "0\n0"), *STANDS,
+        ("nginx -t 2>&1 | tail -n 1 | grep -c successful; systemctl is-active desk-space", "1\nactive"),
+        (f"desk-restore {word}{NEWEST} >/root/restored; echo $?; grep -c '^only' /root/restored", "0\n0"), *STANDS,
         (send("DELETE", "/images/13/rules/1"), DONE), ("desk-look; echo $?", "0"))
