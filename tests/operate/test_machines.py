@@ -85,7 +85,8 @@ def machine(packages):
 
 TAKEDOWN = (f"{VISIT}/images/13/files/2", '{"error":"denied","rule":"T13.1"}')
 INSTALLED = [
-    ("systemctl is-active desk nginx desk-backup.timer desk-check.timer desk-look.timer", "\n".join(["active"] * 5)),
+    ("systemctl is-active desk nginx desk-space desk-backup.timer desk-check.timer desk-look.timer",
+     "\n".join(["active"] * 6)),
     ("systemctl is-enabled desk desk-backup.timer", "enabled\nenabled"),
     (f"{VISIT}/ | {TITLE}", READERS), (f"{VISIT}/images", '{"images":[]}'), (SUMS, "8"),
     (f"curl -s {DOOR}/ | {TITLE}", STAFFS),
