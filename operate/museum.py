@@ -20,6 +20,8 @@ import threading
 
 PLACES = "/etc/desk/places"
 HOST = "127.0.0.1"
+# The folder of desk-space's socket, where a file of places of an older version does not name it.
+SPACE = "/run/desk-space"
 # After how many seconds without a byte a connection counts as broken.
 LIMIT = 60
 UNIT, USER = "desk.service", "desk"

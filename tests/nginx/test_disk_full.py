@@ -1,9 +1,14 @@
 """Commands at the staff's door while the disk of the journal or of the store is nearly full."""
 
+import contextlib
+import os
+import pathlib
+import re
 import socket
+import subprocess
 
 import pytest
-from support.room import give_to_nginx
+from support.room import OPERATE, give_to_nginx
 from support.samples import NOBODY, STAFF, bytes_of, digest
 
 DEED = b'{"donor":"A. Curator","signed":"2020-02-29"}'
@@ -52,3 +57,16 @@ def test_where_nobody_says_whether_there_is_room_commands_go_on(room, staff):
         (room.folder / "space" / "socket").unlink()
     (room.folder / "space").rmdir()
     assert statuses == [200, 200]
+
+
+def test_places_of_an_older_version_listen_where_the_packages_nginx_asks(room):
+    """Such a file, which an upgrade keeps, does not name the folder of the socket."""
+    places = room.write_places(room.folder / "older-places")
+    places.write_text(re.sub("(?m)^SPACE=.*\n", "", places.read_text()))
+    packaged = re.search("(?m)^SPACE=(.*)$", pathlib.Path(OPERATE, "package", "places").read_text())[1]
+    words = ["strace", "-e", "trace=bind", os.path.join(OPERATE, "desk-space"), places]
+    came = subprocess.Popen(words, stdout=subprocess.PIPE, stderr=subprocess.PIPE, text=True)
+    with came, contextlib.closing(came.stderr):
+        bound = next((line for line in came.stderr if line.startswith(("bind", "desk-space"))), "")
+        came.terminate()
+    assert f'sun_path="{packaged}/socket"' in bound, bound
