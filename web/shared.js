@@ -45,6 +45,7 @@ const STATUSES = {
   429: ["You ask too often.", "Wait a little, and try again."],
   502: ["The desk is closed at the moment.", "Try again later."],
   503: ["The desk cannot answer now.", "Try again."],
+  "no-space": ["The disk of the desk is nearly full, so it takes no changes.", "Call whoever runs it."],
   504: ["The desk took too long.", "Try again."],
   changed: ["What you may see has just changed.", "Try again."],
   rotated: ["The journal has begun a new file since you opened it.", "Read it anew."],
@@ -170,7 +171,10 @@ export async function askObject(path, more) {
   return JSON.parse(text);
 }
 
-const wordsFor = (fault) => own(REFUSALS, textOf(fault.said.error)) || own(STATUSES, String(fault.status)) || OTHERS;
+const wordsFor = (fault) => {
+  const name = textOf(fault.said.error);
+  return own(REFUSALS, name) || own(STATUSES, name) || own(STATUSES, String(fault.status)) || OTHERS;
+};
 
 // A part of the page that is loaded when it is needed.
 export function loaded(module) {
