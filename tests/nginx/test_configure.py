@@ -1,12 +1,13 @@
 """Which places and which rules of clocks operate/configure takes, and its parts beside other sites of an nginx."""
 
 import os
+import pathlib
 import re
 import shutil
 import subprocess
 
 import pytest
-from support.room import CONFIGURE, NGINX, Room
+from support.room import CONFIGURE, NGINX, OPERATE, Room
 from support.server import HOST, LIMIT, free_ports, wait_for
 
 EXAMPLES = "such as UTC0 or CET-1CEST,M3.5.0,M10.5.0/3"
@@ -90,7 +91,7 @@ def test_configure_takes_the_rules_of_clocks_that_the_desk_takes(configured, roo
     assert not is_taken or f" --zone {rule}\n" in (folder / "desk.service").read_text()
 
 
-PARTS = ["conf.d/desk.conf", "snippets/desk-server.conf", "sites-available/desk"]
+PARTS = ["conf.d/desk.conf", "conf.d/desk-journal.conf", "snippets/desk-server.conf", "sites-available/desk"]
 OTHER_SITE = "server { listen %s:%d; server_name other.example; location / { return 200 'another site'; } }\n"
 
 
@@ -127,3 +128,45 @@ def test_parts_stand_beside_another_site_of_debians_nginx(room, tmp_path):
         beside.terminate()
         beside.wait(timeout=LIMIT)
     assert [b"<title>" in came[0], b"<title>" in came[1], came[2]] == [True, True, b"another site"]
+
+
+# What the desk.conf of an older version defines, for its site and for this one; and what such a site asks of it. An
+# upgrade keeps each of the two where the museum has changed it, and takes the new one of the other.
+OLDER_NAMES = {
+    "upstream": {"desk_upstream"},
+    "zone": {"desk_requests", "desk_pages", "desk_collections", "desk_at_a_time", "desk_collections_at_a_time"},
+    "map": {f"desk_{name}" for name in (
+        "method stranger hsts cache disposition origin exposed retry allow visit changes asked body".split()
+    )},
+    "log_format": {"desk_visit", "desk_begun", "desk_ended"},
+}
+OLDER_SITE = """
+server {
+    listen 127.0.0.1:1;
+    access_log journal desk_ended if=$desk_changes;
+    location = /.begun {
+        access_log journal desk_begun if=$desk_changes;
+        return 204;
+    }
+}
+"""
+
+
+def test_site_needs_no_more_of_desk_conf_than_that_of_an_older_version_has():
+    text = (pathlib.Path(OPERATE) / "nginx" / PARTS[0]).read_text()
+    found = {
+        "upstream": re.findall(r"(?m)^upstream (\w+)", text), "zone": re.findall(r"zone=(\w+)", text),
+        "map": re.findall(r"(?m)^map .* \$(\w+) {$", text), "log_format": re.findall(r"(?m)^log_format (\w+)", text),
+    }
+    assert {kind: set(names) for kind, names in found.items()} == OLDER_NAMES
+
+
+def test_site_of_an_older_version_stands_beside_the_new_parts(room, tmp_path):
+    words = [CONFIGURE, str(room.write_places(tmp_path / "places")), str(tmp_path)]
+    subprocess.run([*words, *(f"nginx/{part}" for part in PARTS)], check=True)
+    includes = "".join(f"include {tmp_path}/nginx/{part};\n" for part in PARTS if part.startswith("conf.d/"))
+    site = OLDER_SITE.replace("journal", str(tmp_path / "journal"))
+    (tmp_path / "conf").write_text(f"pid {tmp_path}/pid;\nevents {{}}\nhttp {{\n{includes}{site}}}\n")
+    words = [NGINX, "-t", "-p", str(tmp_path), "-e", str(tmp_path / "error.log"), "-c", str(tmp_path / "conf")]
+    tried = subprocess.run(words, capture_output=True, text=True)
+    assert tried.returncode == 0, tried.stderr
