@@ -17,6 +17,7 @@ import stat
 import subprocess
 import sys
 import threading
+import zlib
 
 PLACES = "/etc/desk/places"
 HOST = "127.0.0.1"
@@ -341,7 +342,11 @@ def journal_parts(path):
     rotated = sorted(path.parent.glob(f"{path.name}-*"), key=lambda one: re.sub(r"\D", "", one.name))
     for file in [*rotated, *([path] if path.exists() else [])][::-1]:
         with gzip.open(file) if file.suffix == ".gz" else open(file, "rb") as opened:
-            yield opened.readlines()
+            try:
+                lines = opened.readlines()
+            except (EOFError, zlib.error, gzip.BadGzipFile) as fault:
+                raise Failed(f"{file}: it cannot be unpacked") from fault
+        yield lines
 
 
 def mark_of(line):

@@ -3,10 +3,11 @@ end."""
 
 import contextlib
 import datetime
+import gzip
 import shutil
 
 import pytest
-from support.house import DONE, IMAGE, done, ended, fill, journaled, leftovers, listed, restored
+from support.house import DONE, IMAGE, backed_up, done, ended, fill, journaled, leftovers, listed, restored
 from support.house import spoil, status_outside, takedown
 from support.room import wait_until
 from support.samples import STAFF, badge, digest, drop, get, put, put_image, put_rule
@@ -34,19 +35,59 @@ def see_old_room(house):
 
 
 @pytest.mark.parametrize("change", [
+    lambda journal: journal.rename(journal.with_name("journal-2026-10")),
     lambda journal: journal.unlink(),
     lambda journal: journal.write_bytes(b""),
     lambda journal: journal.write_bytes(b"".join(line for line in journal.open("rb") if b"/13/rules/1" in line)),
     lambda journal: journal.write_bytes(journal.read_bytes().replace(b'"at":1', b'"at":2')),
-], ids=["missing", "empty", "begun-anew", "of-another-store"])
+], ids=["rotated-away", "missing", "empty", "begun-anew", "of-another-store"])
 def test_journal_that_does_not_follow_on_the_backup_stops_the_restore(house, monday, change):
     """The old store does not open either, so that nobody would know of the takedown."""
     change(house.room.folder / "journal")
     spoil(house)
-    refused(house, "does not follow on the backup", monday)
+    there = (house.room.folder / "journal").exists()
+    refused(house, "does not follow on the backup" if there else "there is no journal", monday)
     assert house.lines("calls") == []
     restored(house, monday, ANYWAY)
     assert status_outside(house.room, OPEN) == 200
+
+
+def test_journal_that_was_lost_before_a_later_backup_stops_the_restore(house, monday):
+    """What was rotated away has the mark of the backup, and the journal was begun anew since the later one."""
+    journal = house.room.folder / "journal"
+    lines = journal.read_bytes().splitlines(True)
+    later = backed_up(house)
+    (house.room.folder / "journal-2026-10").write_bytes(b"".join(lines[:-2]))
+    journal.write_bytes(b"")
+    spoil(house)
+    refused(house, f"lacks the line that was its last one at the later backup {later.name}", monday)
+    future = later.rename(later.with_name("9999-01-01T000000Z"))
+    restored(house, monday)
+    assert future.exists()
+
+
+def test_backup_of_a_journal_without_a_line_does_not_say_what_follows_on_it(house):
+    """One that was begun anew looks the same."""
+    backup = backed_up(house)
+    fill(house, 13)
+    (house.room.folder / "journal").write_bytes(b"")
+    refused(house, "the journal had no line when the backup was made", backup)
+    restored(house, backup, ANYWAY, "--give-up", 13)
+
+
+@pytest.mark.parametrize("name, data, words", [
+    ("backups/{}/journal-mark", b"", "journal-mark: it cannot be read"),
+    ("backups/{}/journal-mark", b'{"sha256":[]}', "does not follow on the backup"),
+    ("journal-2026-10.gz", gzip.compress(bytes(999))[:-9], "journal-2026-10.gz: it cannot be unpacked"),
+])
+def test_mark_or_part_of_the_journal_that_cannot_be_read_stops_the_restore(house, monday, name, data, words):
+    journal = house.room.folder / "journal"
+    (house.room.folder / name.format(monday.name)).write_bytes(data)
+    if "gz" in name:
+        journal.write_bytes(journal.read_bytes().splitlines(True)[-1])
+    assert "Traceback" not in refused(house, words, monday)
+    if "mark" in name:
+        restored(house, monday, ANYWAY)
 
 
 def test_journal_that_was_rotated_away_since_follows_on_the_backup(house, monday):
@@ -208,6 +249,51 @@ def test_disk_that_is_full_once_the_room_is_shut_leaves_the_old_room_open(house,
     see_old_room(house)
     assert (status, out) == (1, "") and leftovers(house) == [] and house.lines("calls") == ["stop", "start"]
     assert errors == "desk-restore: File too large\nthe store is as it was, and the room is open\n"
+
+
+def test_second_interrupt_leaves_the_room_open(house, monday):
+    """The first comes while the room is shut, and the second while it is being opened."""
+    house.after_stop("kill -INT $PPID")
+    tool = house.bin / "systemctl"
+    tool.write_text(tool.read_text().replace("\nstart)", f"\nstart)\n{INTERRUPT.format(house.room.folder)}", 1))
+    status, _, errors = house.run("desk-restore", monday)
+    assert status == 1 and "stopped" in errors, errors
+    see_old_room(house)
+    assert leftovers(house) == []
+
+
+# At the first start the tool is interrupted, and this start does nothing.
+INTERRUPT = "if mkdir {}/interrupted 2>/dev/null; then kill -INT $PPID; sleep 5; exit 1; fi"
+
+
+def test_room_is_open_before_the_restore_tells_what_it_did(house, monday):
+    """Nobody reads it."""
+    began = house.begin("desk-restore", monday)
+    began.stdout.close()
+    with began:
+        errors = began.stderr.read()
+    assert errors == "desk-restore: Broken pipe\nthe room is open, and the store is the restored one\n"
+    assert began.returncode == 1
+    see_old_room(house)
+
+
+def test_name_that_the_desks_user_has_put_there_stops_no_restore(house, monday):
+    """A link to nothing, a file and a folder, named as what a restore that was killed leaves behind."""
+    folder = house.room.folder
+    (folder / "ready-x").symlink_to(folder / "none")
+    (folder / "ready-y").touch()
+    (folder / "ready-z").mkdir()
+    restored(house, monday)
+    see_old_room(house)
+
+
+def test_restore_where_there_was_no_old_store_does_not_say_where_it_is(house, monday):
+    house.stop()
+    for path in house.room.folder.glob("museum.sqlite*"):
+        path.unlink()
+    assert "; there was no old store\n" in restored(house, monday)
+    assert list(house.room.folder.glob("set-aside-*")) == []
+    see_old_room(house)
 
 
 # The calls of the system by which a restore exchanges the stores, each of which may be its last one.
