@@ -78,8 +78,8 @@ def test_backup_of_a_journal_without_a_line_does_not_say_what_follows_on_it(hous
 @pytest.mark.parametrize("name, data, words", [
     ("backups/{}/journal-mark", b"", "journal-mark: it cannot be read"),
     ("backups/{}/journal-mark", b'{"sha256":[]}', "does not follow on the backup"),
-    ("journal-2026-10.gz", gzip.compress(bytes(999))[:-9], "journal-2026-10.gz: it cannot be unpacked"),
-])
+    ("journal-2026-10.gz", gzip.compress(bytes(999), mtime=0)[:-9], "journal-2026-10.gz: it cannot be unpacked"),
+], ids=["no mark", "a list", "cut off"])
 def test_mark_or_part_of_the_journal_that_cannot_be_read_stops_the_restore(house, monday, name, data, words):
     journal = house.room.folder / "journal"
     (house.room.folder / name.format(monday.name)).write_bytes(data)
