@@ -241,6 +241,7 @@ def test_latest_backups_of_days_weeks_and_months_are_kept_and_all_of_a_day_until
 def test_backup_that_is_kept_by_a_name_stays(house):
     for name in ("2026-01-01T110000Z-before-0.2", "2026-01-01T120000Z"):
         (house.room.folder / "backups" / name).mkdir(parents=True)
+    done(house, COMMAND)
     kept = backed_up(house, "--keep", "before-0.3")
     assert re.fullmatch(r"[0-9TZ-]{18}-before-0.3", kept.name)
     backed_up(house)
