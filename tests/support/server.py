@@ -11,6 +11,7 @@ import subprocess
 import sys
 import threading
 import time
+import zlib
 
 ROOT = os.path.dirname(os.path.dirname(os.path.dirname(os.path.abspath(__file__))))
 HOST = "127.0.0.1"
@@ -34,12 +35,16 @@ def write(path, data):
 
 def free_ports(count):
     """Ports at which nobody listens now, each another. None of them is one that Linux gives to who connects: it could
-    do that before somebody listens there."""
+    do that before somebody listens there. Each worker of a run takes its own 64th of them: two that look for one at the
+    same moment would find the same."""
     given = pathlib.Path("/proc/sys/net/ipv4/ip_local_port_range").read_text().split()
-    chance, probes = random.SystemRandom(), {}
+    worker = int(os.environ.get("PYTEST_XDIST_WORKER", "gw7").removeprefix("gw")) % 8
+    run = zlib.crc32(os.environ.get("PYTEST_XDIST_TESTRUNUID", str(os.getpid())).encode()) % 8
+    size = (max(int(given[0]), 2 * FIRST_PORT) - FIRST_PORT) // 64
+    first, chance, probes = FIRST_PORT + (8 * worker + run) * size, random.SystemRandom(), {}
     with contextlib.ExitStack() as stack:
         while len(probes) < count:
-            port = chance.randrange(FIRST_PORT, max(int(given[0]), 2 * FIRST_PORT))
+            port = first + chance.randrange(size)
             probe = stack.enter_context(socket.socket())
             with contextlib.suppress(OSError):
                 probe.bind((HOST, port))
