@@ -12,8 +12,13 @@ from support.samples import (
     put_image, put_rule, raw, survey,
 )
 
-# The bytes of a visit, and in how many parts they are sent.
-Visit = collections.namedtuple("Visit", "data parts", defaults=(1,))
+
+class Visit(collections.namedtuple("Visit", "data parts", defaults=(1,))):
+    """The bytes of a visit, and in how many parts they are sent."""
+
+    def __repr__(self):
+        return f"Visit of {len(self.data)} bytes in {self.parts} parts: {self.data[:2000]!r}"
+
 
 # Good requests, of which some ask for what is not there
 
