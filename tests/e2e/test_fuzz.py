@@ -22,6 +22,7 @@ NAMES = set("""
 """.split())
 # One byte of the file of accession 12.
 ONE_BYTE = "CAST(substr(bytes, 1, 86018) || x'42' || substr(bytes, 86020) AS BLOB)"
+DISK, OTHER_DIGEST = samples.PROGRAM_DISK, samples.digest(b"another")
 
 
 def name_of(reply):
@@ -92,7 +93,8 @@ def machine(serving, disks, filled, tmp_path):
 
         def teardown(self):
             """The commands alone that were done make the same rows in another desk."""
-            last = [samples.get("/catalogue"), samples.get("/images/16/files/1"), samples.check(12)]
+            last = [samples.get(path) for path in ("/catalogue", "/images/16/files/1", "/images/14/files/0")]
+            last += [samples.check(12), *(samples.put_image(12, "d64", 7, data, OTHER_DIGEST) for data in (DISK, b""))]
             with self.opened:
                 for asked in last + [samples.survey(acc) for acc in self.desk.images]:
                     self.visit(mutations.Visit(samples.raw(asked)))
@@ -114,5 +116,4 @@ def test_mutated_visits_have_the_replies_that_are_due(machine, seed, stories):
         suppress_health_check=list(hypothesis.HealthCheck), print_blob=False,
     )
     stateful.run_state_machine_as_test(hypothesis.seed(seed)(machine), settings=checks)
-    print(machine.names.total(), machine.names.most_common())
     assert set(machine.names) == NAMES
