@@ -52,10 +52,10 @@ def test_command_from_outside_changes_no_row(room, outside):
     assert b"INSERT INTO image" in before and after == before
 
 
-@pytest.mark.parametrize("one", COMMANDS, ids=lambda one: f"{one.method} {one.path[:12]}")
-def test_command_at_the_staffs_door_is_done(staff, one):
-    reply = staff.ask(one.method, one.path, body=one.body or b"", key=STAFF)
-    assert (reply.status, b"done" in reply.body or b"sound" in reply.body) == (200, True)
+def test_command_at_the_staffs_door_is_done(staff):
+    for one in COMMANDS:
+        reply = staff.ask(one.method, one.path, body=one.body or b"", key=STAFF)
+        assert (reply.status, b"done" in reply.body or b"sound" in reply.body) == (200, True), one.path
 
 
 @pytest.mark.parametrize("path", ["/images", "/catalogue", FILE, DENIED, "/images/99", "/room.js", "/none", "/health"])
