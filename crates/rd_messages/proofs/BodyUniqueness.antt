@@ -14,10 +14,10 @@ use Rattle.rd_policy.specs.declared.rule.Effect.{Effect}
 use Rattle.rd_policy.specs.declared.rule.Effect.TheVariants as effect
 use Rattle.rd_policy.specs.declared.rule.Rule.{Rule}
 use Rattle.rd_policy.specs.declared.select.Select.{Select}
-use Rattle.rd_policy.specs.declared.select.Select.TheVariants.{All as AllFiles, Slot, Prefix, User, Kind}
 use Rattle.rd_policy.proofs.DateLemmas.{one_day}
+use Rattle.rd_protocol.proofs.StaffListLemmas.{select_same}
 use Rattle.rd_messages.specs.Objects.{IsJson, text_at}
-use Rattle.rd_messages.specs.RequestBodies.{HasAudiencesAt, HasDayAt, HasPlace, IsDeedBody, IsKeyBody, IsRuleBody, NameAudiences, TellsDeed, TellsRule, select_data, select_key, select_value}
+use Rattle.rd_messages.specs.RequestBodies.{HasAudiencesAt, HasDayAt, HasPlace, IsDeedBody, IsKeyBody, IsRuleBody, NameAudiences, TellsDeed, TellsRule}
 use Rattle.rd_messages.proofs.AudienceWords.{one_set, word_same}
 use Rattle.rd_messages.proofs.JsonValues.{items_of_same, one_member_same}
 
@@ -71,19 +71,6 @@ effect_alone one other e = absurd (cc)
 
 effect_same : (one other : Effect) → effect_word one ≡ effect_word other → one ≡ other
 effect_same one other e = effect_alone one other ((bytes_eq-Decides (effect_word one) (effect_word other)).1 e)
-
-select_alone : (one other : Select) → bytes_eq (select_key one) (select_key other) ≡ true → select_value one ≡ select_value other → one ≡ other
-select_alone AllFiles AllFiles key value = refl
-select_alone (Slot slot) (Slot other) key value = cc
-select_alone (Prefix text) (Prefix other) key value = cc
-select_alone (User user) (User other) key value = cc
-select_alone (Kind text) (Kind other) key value = cc
-select_alone one other key value = absurd (cc)
-
-select_same : (one other : Select) → select_data one ≡ select_data other → one ≡ other
-select_same one other e =
-    let parts = one_member_same (select_key one) (select_key other) (select_value one) (select_value other) e in
-    select_alone one other ((bytes_eq-Decides (select_key one) (select_key other)).1 parts.0) parts.1
 
 audiences_same : (key : List ℕ) (value : Data) (one other : Audiences) → HasAudiencesAt key value one → HasAudiencesAt key value other → one ≡ other
 audiences_same key value one other first second =

@@ -19,7 +19,6 @@ use Rattle.rd_messages.specs.Patterns.{matched, parts_of, pattern_rows}
 use Rattle.rd_messages.specs.Routes.{◌>>=◌, IsWithin, day_with, path_of, rehearsal_of, route_of, route_of_match, route_of_path, route_with, rule_of}
 use Rattle.rd_messages.specs.declared.pattern.Pattern.{Pattern}
 use Rattle.rd_messages.specs.declared.pattern.Pattern.TheVariants as pattern
-use Rattle.rd_policy.proofs.DateLemmas.{one_day}
 use Rattle.rd_protocol.proofs.PartLemmas.{rank_within, scope_within, slot_within}
 
 -- ---- paths
@@ -128,16 +127,6 @@ route_within target =
     ]
 
 -- ---- days
-
--- the day that was found of a text is that of its date
-pub day_found : (text : List ℕ) (found : Option ℤ) → Dates text found → found ≡ day_of_date text
-day_found text found is = same found (day_of_date text) is (dated_by text).1
-  where
-    same : (one other : Option ℤ) → Dates text one → Dates text other → one ≡ other
-    same None None first second = refl
-    same None (Some day) first second = absurd (first day second)
-    same (Some day) None first second = absurd (second day first)
-    same (Some one) (Some other) first second = ap (λ day. Some day) (one_day text one other first second)
 
 -- a pattern that begins with a date names its day
 pub with_date : (one : Pattern) (first : List ℕ)

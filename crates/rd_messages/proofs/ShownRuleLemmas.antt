@@ -29,12 +29,12 @@ use Rattle.rd_policy.specs.declared.select.Select.{Select}
 use Rattle.rd_policy.specs.declared.select.Select.TheVariants.{All as AllFiles, Slot, Prefix, User, Kind}
 use Rattle.rd_protocol.specs.DayTexts.{day_text}
 use Rattle.rd_protocol.specs.RuleTexts.{rule_body}
-use Rattle.rd_protocol.specs.Texts.{audience_words, day_or_null, select_data as shown_select, word_if}
+use Rattle.rd_protocol.specs.Texts.{audience_words, day_or_null, select_data, word_if}
 use Rattle.rd_protocol.specs.declared.request.What.TheVariants as what
 use Rattle.rd_protocol.proofs.DayTextLemmas.{has_text}
 use Rattle.rd_protocol.proofs.RuleTextLemmas.{rules_are_read_back}
 use Rattle.rd_messages.specs.Asked.{IsWhat}
-use Rattle.rd_messages.specs.RequestBodies.{HasDayAt, IsRuleBody, NameAudiences, TellsRule, select_data}
+use Rattle.rd_messages.specs.RequestBodies.{HasDayAt, IsRuleBody, NameAudiences, TellsRule}
 use Rattle.rd_messages.specs.ShownRules.{ShownRulesArePut, ShownRulesAreRehearsed, shown_text}
 use Rattle.rd_messages.specs.declared.route.Method.TheVariants.{Put}
 use Rattle.rd_messages.specs.declared.route.Route.{Route}
@@ -153,7 +153,7 @@ day_has_texts : (day : Option ℤ) → IfSome day IsDay → HasTexts (day_or_nul
 day_has_texts None is = tt
 day_has_texts (Some day) is = utf8_day day is
 
-select_has_texts : (select : Select) → IsSelect select → HasTexts (shown_select select)
+select_has_texts : (select : Select) → IsSelect select → HasTexts (select_data select)
 select_has_texts AllFiles is = (text_from_test _ refl, tt, tt)
 select_has_texts (Slot slot) is = (text_from_test _ refl, omega (arith, is), tt)
 select_has_texts (Prefix text) is = (text_from_test _ refl, utf8_plain 64 text is, tt)
@@ -236,13 +236,6 @@ has_day : (key : List ℕ) (value : Data) (day : Option ℤ) → get key value �
 has_day key value None at is = inr at
 has_day key value (Some day) at is = (day_text day, ap (option_and_then as_str) at, has_text day is)
 
-same_select : (select : Select) → shown_select select ≡ select_data select
-same_select AllFiles = refl
-same_select (Slot slot) = refl
-same_select (Prefix text) = refl
-same_select (User user) = refl
-same_select (Kind text) = refl
-
 tells_rule : (rule : NewRule) → IsRule rule → TellsRule (rule_body rule) rule
 unfolding serde_json_on_literals
 tells_rule rule is = record {
@@ -250,7 +243,7 @@ tells_rule rule is = record {
   audiences = record { values = said (audience_words rule.audiences); listed = refl; audiences = audiences_said rule.audiences is.audiences };
   from = has_day (codes "from") (rule_body rule) rule.from refl is.from;
   until = has_day (codes "until") (rule_body rule) rule.until refl is.until;
-  select = ap Some (same_select rule.select);
+  select = refl;
   effect = refl;
 }
 

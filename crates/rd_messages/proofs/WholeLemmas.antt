@@ -7,7 +7,7 @@ use Rattle.httparse.specs.Spans.{IsHeaderWithin, IsRequestWithin}
 use Rattle.httparse.specs.declared.spans.HeaderSpan.{HeaderSpan}
 use Rattle.httparse.specs.declared.spans.RequestSpans.{RequestSpans}
 use Rattle.rd_messages.specs.Fields.{fields_of}
-use Rattle.rd_messages.specs.Framing.{IsFramed, IsHeadMisframed, IsNeverWhole, IsWhole}
+use Rattle.rd_messages.specs.Framing.{IsFramed, IsMisframed, IsNeverWhole, IsWhole}
 use Rattle.rd_messages.specs.Heads.{HasHead}
 use Rattle.rd_messages.specs.Taken.{EndsEarly, IsBodyTaken}
 
@@ -81,5 +81,5 @@ module _ (head : RequestHead) (key : Option (List ℕ)) (size : ℕ) (framed : I
         early.short,
       )
 
-pub misframed_is_never_whole : (head : RequestHead) (rest : List ℕ) → IsHeadMisframed head → IsNeverWhole head rest
+pub misframed_is_never_whole : (head : RequestHead) (rest : List ℕ) → IsMisframed (fields_of head) → IsNeverWhole head rest
 misframed_is_never_whole head rest misframed key body whole = misframed (length body) key whole.framed

@@ -1,11 +1,13 @@
 -- Targets, and what they name.
-use Rattle.std.specs.Prelude.{◌≡◌, ℕ, ℤ, true, List, Some, None, [], ◌∷◌, ◌++◌, codes, refl, replicate}
-use Rattle.std.proofs.Common.{ap}
+use Rattle.std.specs.Prelude.{◌≡◌, ℕ, true, List, Some, None, [], ◌∷◌, ◌++◌, codes, pos, refl, replicate}
+use Rattle.std.proofs.Common.{ap, rules, sym}
+use Rattle.jiff_core.specs.declared.civil.date.Date.{Date}
+use Rattle.jiff_core.proofs.DateLemmas.{days_from_civil-max}
 use Rattle.hex.proofs.OnLiterals.{hex_on_literals}
 use Rattle.matchit.proofs.OnLiterals.{matchit_on_literals}
 use Rattle.rd_geometry.specs.declared.kind.Kind.TheVariants.{D64}
 use Rattle.rd_policy.specs.declared.rule.Band.TheVariants as band
-use Rattle.rd_messages.specs.PathDays.{day_of_date}
+use Rattle.rd_messages.specs.PathDays.{day_found, day_of_date}
 use Rattle.rd_messages.specs.Patterns.{all_insert, matched, pattern_rows, patterns}
 use Rattle.rd_messages.specs.Routes.{◌>>=◌, method_named, route_of, route_with}
 use Rattle.rd_messages.specs.declared.pattern.Pattern.TheVariants as pattern
@@ -65,10 +67,16 @@ pub checks_routed : route_of (codes "/staff/checks") ≡ Some route.Checks
 unfolding matched pattern_rows matchit_on_literals
 checks_routed = refl
 
--- the verdicts of a day
-pub verdicts_routed : (day : ℤ) → day_of_date (codes "2030-01-01") ≡ Some day → route_of (codes "/staff/verdicts/2030-01-01") ≡ Some (route.Verdicts day)
+-- 9999-12-31, the last day, is 2,932,896 days after 1970-01-01
+pub last_day : day_of_date (codes "9999-12-31") ≡ Some (pos 2_932_896)
+last_day =
+    let date : Date = record { year = pos 9999; month = 12; day = 31; year_in = search rules; month_in = search rules; day_in = search rules } in
+    sym (day_found (codes "9999-12-31") (Some (pos 2_932_896)) (record { date = date; number = days_from_civil-max; in_range = search rules; written = refl }))
+
+-- the verdicts of that day
+pub verdicts_routed : route_of (codes "/staff/verdicts/9999-12-31") ≡ Some (route.Verdicts (pos 2_932_896))
 unfolding matched pattern_rows matchit_on_literals
-verdicts_routed day is = ap (λ found. found >>= (λ day. Some (route.Verdicts day))) is
+verdicts_routed = ap (λ found. found >>= (λ day. Some (route.Verdicts day))) last_day
 
 -- the day of a path is written as a date
 pub other_day_refused : (text : List ℕ) → day_of_date text ≡ None → route_with pattern.Verdicts text [] [] [] ≡ None
@@ -83,14 +91,12 @@ pub takedown_rehearsal_matched : matched (codes "/staff/rehearsals/d/images/7/ru
 unfolding matched pattern_rows matchit_on_literals
 takedown_rehearsal_matched = refl
 
--- the rule of rank 10 of deed 7 on a day, and the takedown of rank 1 of accession 12
-pub deed_rehearsal_routed : (day : ℤ) → day_of_date (codes "2030-01-01") ≡ Some day
-    → route_with pattern.DeedRehearsal (codes "2030-01-01") (codes "7") (codes "10") [] ≡ Some (route.Rehearsal day band.Deed 7 10)
-deed_rehearsal_routed day is = ap (λ found. found >>= (λ day. Some (route.Rehearsal day band.Deed 7 10))) is
+-- the rule of rank 10 of deed 7 on that day, and the takedown of rank 1 of accession 12
+pub deed_rehearsal_routed : route_with pattern.DeedRehearsal (codes "9999-12-31") (codes "7") (codes "10") [] ≡ Some (route.Rehearsal (pos 2_932_896) band.Deed 7 10)
+deed_rehearsal_routed = ap (λ found. found >>= (λ day. Some (route.Rehearsal day band.Deed 7 10))) last_day
 
-pub takedown_rehearsal_routed : (day : ℤ) → day_of_date (codes "2030-01-01") ≡ Some day
-    → route_with pattern.TakedownRehearsal (codes "2030-01-01") (codes "12") (codes "1") [] ≡ Some (route.Rehearsal day band.Takedown 12 1)
-takedown_rehearsal_routed day is = ap (λ found. found >>= (λ day. Some (route.Rehearsal day band.Takedown 12 1))) is
+pub takedown_rehearsal_routed : route_with pattern.TakedownRehearsal (codes "9999-12-31") (codes "12") (codes "1") [] ≡ Some (route.Rehearsal (pos 2_932_896) band.Takedown 12 1)
+takedown_rehearsal_routed = ap (λ found. found >>= (λ day. Some (route.Rehearsal day band.Takedown 12 1))) last_day
 
 -- the takedown of rank 10 of accession 12
 pub takedown_routed : route_of (codes "/images/12/rules/10") ≡ Some (route.Rule band.Takedown 12 10)

@@ -33,10 +33,6 @@ pub record IsFramed (fields : List (List ℕ × List ℕ)) (size : ℕ) (key : O
 abbrev pub IsMisframed : List (List ℕ × List ℕ) → Type 0
 IsMisframed fields = (size : ℕ) (key : Option (List ℕ)) → ¬ (IsFramed fields size key)
 
--- the head alone shows that the request is misframed
-abbrev pub IsHeadMisframed : RequestHead → Type 0
-IsHeadMisframed head = IsMisframed (fields_of head)
-
 -- The request is whole, with this key and body: the fields of the head give this key and the
 -- length of the body, and what comes after the head begins with the body.
 pub record IsWhole (head : RequestHead) (rest : List ℕ) (key : Option (List ℕ)) (body : List ℕ) : Type 0 where

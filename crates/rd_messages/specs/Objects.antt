@@ -1,8 +1,9 @@
 -- What the text of a body says in JSON (RFC 8259): a value, and what an object has at its keys.
 use Rattle.std.specs.Prelude.{◌≡◌, ℕ, List, Option, Some, Contains, IsSomeAnd, IsUtf8, option_and_then}
-use Rattle.serde_json.specs.Data.{Data, object, Members, no_members, member}
+use Rattle.serde_json.specs.Data.{Data, Members, no_members, member}
 use Rattle.serde_json.specs.Find.{as_object, as_str, get}
 use Rattle.serde_json.specs.Read.{read}
+pub use Rattle.rd_protocol.specs.Texts.{one_member}
 
 -- The body is the text of this value, in UTF-8. If an object has a key more than once, the last of
 -- its values counts. A text is that of no value if arrays and objects are nested more than 127
@@ -14,10 +15,6 @@ pub record IsJson (body : List ℕ) (value : Data) : Type 0 where
 -- the body is the text of no value
 abbrev pub IsNoJson : List ℕ → Type 0
 IsNoJson body = (value : Data) → ¬ IsJson body value
-
--- an object of one member
-abbrev pub one_member : List ℕ → Data → Data
-one_member key value = object (member key value no_members)
 
 -- the text that stands at a key of an object, where a text does
 abbrev pub text_at : List ℕ → Data → Option (List ℕ)

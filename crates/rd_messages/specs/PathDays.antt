@@ -1,9 +1,9 @@
 -- The day that a part of a path names by its date.
 use Rattle.std.specs.Prelude.{◌≡◌, ℕ, ◌+◌, ◌-◌, ◌<◌, ℤ, pos, neg_ℤ, ◌+ℤ◌, List, MatchOption, None, Option, Some}
-use Rattle.std.proofs.Common.{arith, subst, sym}
+use Rattle.std.proofs.Common.{ap, arith, refl, subst, sym}
 use Rattle.std.proofs.lemmas.Int.{ints}
 use Rattle.rd_geometry.proofs.Decidability.{Decided, decided_text, fails, holds, some_below}
-use Rattle.rd_policy.proofs.DateLemmas.{one_text}
+use Rattle.rd_policy.proofs.DateLemmas.{one_day, one_text}
 use Rattle.rd_policy.specs.Dates.{IsDateOf, IsNoDate}
 use Rattle.rd_policy.specs.Days.{IsDay}
 use Rattle.rd_protocol.specs.DayTexts.{dated, day_text}
@@ -49,3 +49,13 @@ dated_by text =
 -- the day whose date the text is, as in 2030-01-01
 abbrev pub day_of_date : List ℕ → Option ℤ
 day_of_date text = (dated_by text).0
+
+-- the day that was found of a text is that of its date
+pub day_found : (text : List ℕ) (found : Option ℤ) → Dates text found → found ≡ day_of_date text
+day_found text found is = same found (day_of_date text) is (dated_by text).1
+  where
+    same : (one other : Option ℤ) → Dates text one → Dates text other → one ≡ other
+    same None None first second = refl
+    same None (Some day) first second = absurd (first day second)
+    same (Some day) None first second = absurd (second day first)
+    same (Some one) (Some other) first second = ap (λ day. Some day) (one_day text one other first second)

@@ -1,7 +1,7 @@
 -- What the bodies of commands say. Each is the text of one object, with the keys named here and no
 -- others. The limits of their values are checked later, with the whole request.
-use Rattle.std.specs.Prelude.{◌≡◌, ◌≢◌, ◌↔◌, ◌⊎◌, ℕ, ℤ, true, List, [], ◌∷◌, Option, Some, None, AllPairs, Contains, codes, map}
-use Rattle.serde_json.specs.Data.{Data, array, boolean, null, number, string, unsigned}
+use Rattle.std.specs.Prelude.{◌≡◌, ◌≢◌, ◌↔◌, ◌⊎◌, ℕ, ℤ, List, [], ◌∷◌, Option, Some, None, AllPairs, Contains, codes, map}
+use Rattle.serde_json.specs.Data.{Data, array, null, string}
 use Rattle.serde_json.specs.Find.{get}
 use Rattle.serde_json.specs.View.{items_of}
 use Rattle.rd_policy.specs.Audiences.{IsAmong}
@@ -13,8 +13,7 @@ use Rattle.rd_policy.specs.declared.audience.Audience.TheVariants.{Public}
 use Rattle.rd_policy.specs.declared.audience.Audiences.{Audiences}
 use Rattle.rd_policy.specs.declared.rule.Band.{Band}
 use Rattle.rd_policy.specs.declared.rule.Rule.{Rule}
-use Rattle.rd_policy.specs.declared.select.Select.{Select}
-use Rattle.rd_policy.specs.declared.select.Select.TheVariants.{All as AllFiles, Slot, Prefix, User, Kind}
+pub use Rattle.rd_protocol.specs.Texts.{select_data}
 use Rattle.rd_messages.specs.Objects.{HasOnlyKeys, IsJson, one_member, text_at}
 
 -- ---- deeds
@@ -87,29 +86,6 @@ abbrev pub HasDayAt : List ℕ → Data → Option ℤ → Type 0
 HasDayAt key value None = (get key value ≡ None) ⊎ (get key value ≡ Some null)
 HasDayAt key value (Some day) = (date : List ℕ) × (text_at key value ≡ Some date) × IsDateOf day date
 
--- ---- of which files
-
--- the key of a selector, which says of which sort it is
-abbrev pub select_key : Select → List ℕ
-select_key AllFiles = codes "all"
-select_key (Slot slot) = codes "slot"
-select_key (Prefix text) = codes "prefix"
-select_key (User user) = codes "user"
-select_key (Kind text) = codes "type"
-
--- what stands at the key of a selector. A number is whole, of at most 64 bits, and written without
--- a sign, a fraction or an exponent: 1.0, 1e0 and -0 do not count
-abbrev pub select_value : Select → Data
-select_value AllFiles = boolean true
-select_value (Slot slot) = number (unsigned slot)
-select_value (Prefix text) = string text
-select_value (User user) = number (unsigned user)
-select_value (Kind text) = string text
-
--- a selector, as {"all":true}, {"slot":3}, {"prefix":"HE"}, {"user":0} or {"type":"PRG"}
-abbrev pub select_data : Select → Data
-select_data select = one_member (select_key select) (select_value select)
-
 -- ---- rules
 
 -- the keys that the value of a rule may have
@@ -119,7 +95,8 @@ RULE_KEYS = codes "audiences" ∷ codes "effect" ∷ codes "from" ∷ codes "sel
 -- The value says what a rule says, as in
 -- {"audiences":["public"],"effect":"deny","select":{"all":true},"until":"2030-01-01"}. A rule
 -- without a first day has no `from` there, or null, and one without a last day no `until`, or null; and there is no
--- other key.
+-- other key. A number in `select` is whole, of at most 64 bits, and written without a sign, a fraction or an exponent:
+-- 1.0, 1e0 and -0 do not count.
 pub record TellsRule (value : Data) (rule : Rule) : Type 0 where
   pub keys : HasOnlyKeys RULE_KEYS value
   pub audiences : HasAudiencesAt (codes "audiences") value rule.audiences

@@ -144,6 +144,10 @@ select_back (Prefix text) = refl
 select_back (User user) = refl
 select_back (OfType text) = refl
 
+-- one value writes one selector
+pub select_same : (one other : Select) → select_data one ≡ select_data other → one ≡ other
+select_same one other same = sym (select_back one) ∙ ap select_in same ∙ select_back other
+
 option_in : Data → Option (List ℕ)
 option_in (string text) = Some text
 option_in other = None

@@ -10,6 +10,7 @@ ghost use Rattle.rd_policy.specs.Verdicts.{label_text};
 ghost use Rattle.rd_protocol.specs.Catalogues.{catalogue_text, faults_text, number_text, record_of, records_text};
 ghost use Rattle.rd_protocol.specs.Written.{HasWritten};
 
+use crate::listings::user_number;
 use crate::response::{Line, Listing};
 use csv::{Writer, WriterBuilder};
 use rd_geometry::{Items, Kind, NoMemory, Text};
@@ -53,7 +54,7 @@ pub(crate) fn number(alloc: Global, number: Option<u32>) -> Result<Text, NoMemor
 pub(crate) fn user(alloc: Global, user: Option<u8>) -> Result<Text, NoMemory>
     ensures { IfOk result (λ cell. cell ≡ number_text user) }
 {
-    number(alloc, user.map(u32::from))
+    number(alloc, user_number(user))
 }
 
 /// The words of the faults whose bits are set, with one blank between them.

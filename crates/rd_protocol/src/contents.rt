@@ -1,13 +1,12 @@
 //! The contents of a file, kept as its image and lent as slices of it.
 
 ghost use Rattle.std.specs.Prelude.{◌≡◌, ◌↔◌, ◌<◌, ◌^◌, IfSome, IsSome, SomeIff, length};
-ghost use Rattle.rd_volume.specs.Kinds.{room_of};
 ghost use Rattle.rd_volume.specs.Volumes.{contents_of};
 ghost use Rattle.rd_protocol.specs.Lent.{CanBeLent, bytes_lent};
 ghost use Rattle.rd_protocol.specs.UnitBytes.{bytes_in};
 
 use rd_geometry::{Image, Items, Kind};
-use rd_volume::{Found, Pieces, pieces};
+use rd_volume::{Found, Pieces, pieces, room};
 use std::marker::Model;
 
 /// The contents of a sound file, which contracts see as the kind and the bytes of its image and the
@@ -30,16 +29,6 @@ impl Model for Contents {
     ghost view = { lent_kept };
 
     ghost invariant = { AreOfSoundFile };
-}
-
-/// How many bytes of a file a unit holds at most.
-fn room(kind: Kind) -> usize
-    ensures { result ≡ room_of kind }
-{
-    match kind {
-        Kind::Cpm8 => 128,
-        Kind::D64 | Kind::D64e => 254,
-    }
 }
 
 /// How many bytes the units of a file hold, if each but the last holds `room` of them and the last one `last_len`;
@@ -65,7 +54,11 @@ fn count(kind: Kind, image: &[u8], file: &Found) -> Option<usize>
     if !file.sound() || !file.fits(&image) {
         return None;
     }
-    bytes_of_units(file.units.as_slice(), room(kind), file.last_len)
+    bytes_of_units(
+        file.units.as_slice(),
+        usize::from(room(kind)),
+        file.last_len,
+    )
 }
 
 impl Contents {

@@ -28,13 +28,10 @@ fn put_some_number(out: &mut Writer, number: Option<u32>) -> Result<(), AllocErr
 }
 
 /// A user number as a longer number.
-fn user_number(user: Option<u8>) -> Option<u32>
+pub(crate) fn user_number(user: Option<u8>) -> Option<u32>
     ensures { result ≡ user }
 {
-    match user {
-        Some(user) => Some(user as u32),
-        None => None,
-    }
+    user.map(u32::from)
 }
 
 /// Writes the words of a file's faults as an array.

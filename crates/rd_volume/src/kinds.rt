@@ -15,8 +15,9 @@ pub(crate) fn unit_count(kind: Kind) -> u16
     }
 }
 
-/// How many bytes of a file a unit holds at most.
-pub(crate) fn room(kind: Kind) -> u16
+/// How many bytes of a file a unit of a disk of a kind holds at most: a whole sector of CP/M, and a block of the 1541
+/// but for the two bytes of its link.
+pub fn room(kind: Kind) -> u16
     ensures { result ≡ room_of kind }
 {
     match kind {

@@ -16,6 +16,7 @@ mod words;
 
 pub use calls::{directory_end, fault_words, find, pieces, report, survey};
 pub use found::Found;
+pub use kinds::room;
 pub use laws::{
     each_file_told_is_at_its_slot, each_image_has_a_survey_and_a_report, each_image_has_one_survey,
     each_piece_is_a_slice_of_its_image, each_sound_file_has_one_content,

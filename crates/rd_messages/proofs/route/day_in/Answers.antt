@@ -2,7 +2,8 @@ use Rattle.std.proofs.Common.{◌≡◌}
 use Rattle.std.proofs.lemmas.Result.{IfOk-weaker}
 use Rattle.rd_messages.specs.PathDays.{day_of_date}
 use Rattle.rd_messages.specs.Routes.{day_with}
-use Rattle.rd_messages.proofs.RouteLemmas.{day_found, with_date}
+use Rattle.rd_messages.specs.PathDays.{day_found}
+use Rattle.rd_messages.proofs.RouteLemmas.{with_date}
 use Rattle.rd_messages.proofs.route.day_in.Goals as goal
 
 pub returns-in-Verdicts : goal.returns-in-Verdicts
