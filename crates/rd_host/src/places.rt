@@ -3,7 +3,7 @@
 use rd_http::{Listener, Stream};
 use std::fs;
 use std::fs::Permissions;
-use std::io::{Error, ErrorKind, Read, Result, Write};
+use std::io::{Error, ErrorKind, Result, Write};
 use std::net::{Ipv4Addr, TcpListener, TcpStream};
 use std::os::unix::fs::{FileTypeExt, MetadataExt, PermissionsExt};
 use std::os::unix::net::{UnixListener, UnixStream};
@@ -17,15 +17,6 @@ const SOCKET_MODE: u32 = 0o660;
 pub enum HostStream {
     Port(TcpStream),
     Socket(UnixStream),
-}
-
-impl Read for HostStream {
-    fn read(&mut self, buf: &mut [u8]) -> Result<usize> {
-        match self {
-            HostStream::Port(stream) => stream.read(buf),
-            HostStream::Socket(stream) => stream.read(buf),
-        }
-    }
 }
 
 impl Write for HostStream {
@@ -45,10 +36,10 @@ impl Write for HostStream {
 }
 
 impl Stream for HostStream {
-    fn limit_reads(&self, time: Duration) -> Result<()> {
+    fn read_within(&mut self, into: &mut [u8], time: Duration) -> Result<usize> {
         match self {
-            HostStream::Port(stream) => stream.limit_reads(time),
-            HostStream::Socket(stream) => stream.limit_reads(time),
+            HostStream::Port(stream) => stream.read_within(into, time),
+            HostStream::Socket(stream) => stream.read_within(into, time),
         }
     }
 

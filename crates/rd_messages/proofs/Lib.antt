@@ -12,4 +12,5 @@ pub mod AudienceWords
 pub mod BodyUniqueness
 pub mod ObjectKeys
 pub mod SentBytes
+pub mod LingerLemmas
 pub mod ShownRuleLemmas

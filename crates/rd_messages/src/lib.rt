@@ -11,6 +11,7 @@ mod framing;
 mod head;
 mod kept_router;
 mod limits;
+mod lingering;
 mod memory;
 mod pace;
 mod pattern;

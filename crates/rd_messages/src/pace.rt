@@ -1,21 +1,24 @@
 //! How long a visitor may take.
 
 ghost use Rattle.std.specs.Duration.{as_nanos};
-ghost use Rattle.std.specs.Prelude.{◌≡◌, ◌↔◌, ◌≤◌, ◌<◌, ◌+◌, ◌-◌, ◌*◌, IfSome, IsSome, None, Option, Some, min, ℕ};
+ghost use Rattle.std.specs.Prelude.{◌≡◌, ◌↔◌, ◌≤◌, ◌<◌, ◌+◌, ◌-◌, ◌*◌, IfSome, IsSome, List, None, Option, Some, [], drop, min, ℕ};
+ghost use Rattle.rd_messages.specs.Lingering.{next_of};
 
 use std::time::Duration;
 
-/// A clock. It may show contracts the milliseconds that come next; that of a machine does not.
+/// A clock. It may show contracts the milliseconds that it will give, one after the other; that of a machine does not.
 pub trait Clock {
-    /// The milliseconds that come next, if the clock shows them.
-    ghost shows: { Self → Option ℕ } = { λ _. None };
+    /// The milliseconds to come, if the clock shows them.
+    ghost coming: { Self → Option (List ℕ) } = { λ _. None };
 
     /// The seconds since 1970-01-01T00:00:00 UTC; `None` if the clock fails.
     fn now(&mut self) -> Option<i64>;
 
-    /// The milliseconds since a fixed moment; `None` if the clock fails.
+    /// The milliseconds since a fixed moment; `None` if the clock fails. One that shows them fails where none is left.
     fn milliseconds(&mut self) -> Option<u64>
-        ensures { IfSome (shows self.old) (λ at. result ≡ Some at) };
+        ensures next { IfSome (next_of (coming self.old)) (λ at. result ≡ Some at) }
+        ensures ends { coming self.old ≡ Some [] → result ≡ None }
+        ensures rest { IfSome (coming self.old) (λ times. coming self.new ≡ Some (drop 1 times)) };
 }
 
 /// How long a visitor may take. What takes longer counts as a read or a write that failed.
@@ -48,10 +51,12 @@ impl TimeLimits {
 /// has gone back.
 pub(crate) fn time_left<C: Clock>(clock: &mut C, began: u64, whole: Duration) -> Option<Duration>
     ensures within { IfSome result (λ left. as_nanos left ≤ as_nanos whole) }
-    ensures left { IfSome (C.shows clock.old) (λ at. IfSome result (λ left.
+    ensures left { IfSome (next_of (C.coming clock.old)) (λ at. IfSome result (λ left.
         as_nanos left + at * 1_000_000 ≡ as_nanos whole + began * 1_000_000)) }
-    ensures lasts { IfSome (C.shows clock.old) (λ at.
+    ensures lasts { IfSome (next_of (C.coming clock.old)) (λ at.
         IsSome result ↔ ((began ≤ at) × (at * 1_000_000 < as_nanos whole + began * 1_000_000))) }
+    ensures ends { C.coming clock.old ≡ Some [] → result ≡ None }
+    ensures rest { IfSome (C.coming clock.old) (λ times. C.coming clock.new ≡ Some (drop 1 times)) }
 {
     let passed = Duration::from_millis(clock.milliseconds()?.checked_sub(began)?);
     let left = whole.checked_sub(passed)?;
@@ -100,9 +105,9 @@ impl<C: Clock> Pace<C> {
     /// back.
     pub(crate) fn for_read(&mut self) -> Option<Duration>
         ensures request { IfSome result (λ time. as_nanos time ≤ as_nanos self.old.limits.request) }
-        ensures left { IfSome (C.shows self.old.clock) (λ at. IfSome result (λ time.
+        ensures left { IfSome (next_of (C.coming self.old.clock)) (λ at. IfSome result (λ time.
             as_nanos time + at * 1_000_000 ≡ as_nanos self.old.limits.request + self.old.admitted * 1_000_000)) }
-        ensures lasts { IfSome (C.shows self.old.clock) (λ at. IsSome result ↔ ((self.old.admitted ≤ at)
+        ensures lasts { IfSome (next_of (C.coming self.old.clock)) (λ at. IsSome result ↔ ((self.old.admitted ≤ at)
             × (at * 1_000_000 < as_nanos self.old.limits.request + self.old.admitted * 1_000_000))) }
         ensures limits { self.new.limits ≡ self.old.limits }
         ensures admitted { self.new.admitted ≡ self.old.admitted }
@@ -114,7 +119,7 @@ impl<C: Clock> Pace<C> {
     /// The millisecond of the first write, which is now if there was none; `None` if the clock fails.
     fn first_write(&mut self) -> Option<u64>
         ensures stays { IfSome self.old.replying (λ began. (result ≡ Some began) × (self.new.clock ≡ self.old.clock)) }
-        ensures begins { self.old.replying ≡ None → IfSome (C.shows self.old.clock) (λ at. result ≡ Some at) }
+        ensures begins { self.old.replying ≡ None → IfSome (next_of (C.coming self.old.clock)) (λ at. result ≡ Some at) }
         ensures kept { IfSome result (λ began. self.new.replying ≡ Some began) }
         ensures limits { self.new.limits ≡ self.old.limits }
         ensures admitted { self.new.admitted ≡ self.old.admitted }
@@ -130,11 +135,11 @@ impl<C: Clock> Pace<C> {
     pub(crate) fn for_write(&mut self) -> Option<Duration>
         ensures write { IfSome result (λ time. as_nanos time ≤ as_nanos self.old.limits.write) }
         ensures reply { IfSome result (λ time. as_nanos time ≤ as_nanos self.old.limits.reply) }
-        ensures left { IfSome self.old.replying (λ began. IfSome (C.shows self.old.clock) (λ at. IfSome result (λ time.
+        ensures left { IfSome self.old.replying (λ began. IfSome (next_of (C.coming self.old.clock)) (λ at. IfSome result (λ time.
             as_nanos time ≡ min (as_nanos self.old.limits.reply + began * 1_000_000 - at * 1_000_000) (as_nanos self.old.limits.write)))) }
-        ensures lasts { IfSome self.old.replying (λ began. IfSome (C.shows self.old.clock) (λ at. IsSome result ↔ ((began ≤ at)
+        ensures lasts { IfSome self.old.replying (λ began. IfSome (next_of (C.coming self.old.clock)) (λ at. IsSome result ↔ ((began ≤ at)
             × (at * 1_000_000 < as_nanos self.old.limits.reply + began * 1_000_000)))) }
-        ensures begins { self.old.replying ≡ None → IfSome (C.shows self.old.clock) (λ at. IfSome result (λ _.
+        ensures begins { self.old.replying ≡ None → IfSome (next_of (C.coming self.old.clock)) (λ at. IfSome result (λ _.
             self.new.replying ≡ Some at)) }
         ensures stays { IfSome self.old.replying (λ began. self.new.replying ≡ Some began) }
         ensures begun { IfSome result (λ _. IsSome self.new.replying) }

@@ -1,16 +1,26 @@
 //! The streams of visitors, over TCP or over a Unix socket.
 
+ghost use Rattle.std.specs.Duration.{as_nanos};
+ghost use Rattle.std.specs.Io.{ReadsAtMost};
+ghost use Rattle.std.specs.Prelude.{◌≡◌, ◌∷◌, ◌++◌, IfSome, List, None, Option, Some, [], ℕ};
+
 use std::io::{Read, Result, Write};
 use std::net::{Shutdown, TcpListener, TcpStream};
 use std::os::unix::net::{UnixListener, UnixStream};
 use std::time::Duration;
 
 /// A stream between the desk and a visitor.
-pub trait Stream: Read + Write + Drop {
-    /// Sets how long each read from now on waits at most. A read that has waited for so long fails.
+pub trait Stream: Write + Drop {
+    /// How many nanoseconds each of its reads so far might wait, in their order, if the stream shows that; that of a
+    /// machine does not.
+    ghost waits: { Self → Option (List ℕ) } = { λ _. None };
+
+    /// Reads once, waits for so long at most, and gives how many bytes came. A read that has waited for so long fails.
     ///
-    /// It fails when the time is zero, and when the system refuses it.
-    fn limit_reads(&self, time: Duration) -> Result<()>;
+    /// It fails when the time is zero, when the system refuses it, and when the read fails.
+    fn read_within(&mut self, into: &mut [u8], time: Duration) -> Result<usize>
+        ensures bound { ReadsAtMost result into.new }
+        ensures waits { IfSome (waits self.old) (λ waited. waits self.new ≡ Some (waited ++ as_nanos time ∷ [])) };
 
     /// Sets how long each write from now on waits at most. A write that has waited for so long without sending a byte
     /// fails.
@@ -32,8 +42,9 @@ pub trait Listener: Drop {
 }
 
 impl Stream for TcpStream {
-    fn limit_reads(&self, time: Duration) -> Result<()> {
-        self.set_read_timeout(Some(time))
+    fn read_within(&mut self, into: &mut [u8], time: Duration) -> Result<usize> {
+        self.set_read_timeout(Some(time))?;
+        self.read(into)
     }
 
     fn limit_writes(&self, time: Duration) -> Result<()> {
@@ -46,8 +57,9 @@ impl Stream for TcpStream {
 }
 
 impl Stream for UnixStream {
-    fn limit_reads(&self, time: Duration) -> Result<()> {
-        self.set_read_timeout(Some(time))
+    fn read_within(&mut self, into: &mut [u8], time: Duration) -> Result<usize> {
+        self.set_read_timeout(Some(time))?;
+        self.read(into)
     }
 
     fn limit_writes(&self, time: Duration) -> Result<()> {

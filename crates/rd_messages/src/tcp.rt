@@ -2,26 +2,20 @@
 
 ghost use Rattle.std.specs.Duration.{as_nanos};
 ghost use Rattle.std.specs.Io.{ReadsAtMost, WritesAtMost};
-ghost use Rattle.std.specs.Io.KnownBytes.{Appends, Keeps, ReadConsumes, WriteAppends};
-ghost use Rattle.std.specs.Prelude.{◌≡◌, ◌↔◌, ◌≤◌, ◌*◌, ◌+◌, ◌<◌, ◌++◌, None, Some, true, false, length, take, vec_len, IfOk, IfSome, IsErr, IsSome, OnOk};
+ghost use Rattle.std.specs.Io.KnownBytes.{Appends, Keeps, WriteAppends};
+ghost use Rattle.std.specs.Prelude.{◌≡◌, ◌↔◌, ◌≤◌, ◌+◌, ◌<◌, ◌++◌, None, Some, true, false, length, take, vec_len, IfOk, IsErr, OnOk};
 ghost use Rattle.rd_protocol.specs.BodyPieces.{pieces_left};
 ghost use Rattle.rd_messages.specs.Sent.{PutsFront, put_so_far};
 ghost use Rattle.rd_messages.specs.Streams.{limits_of};
 
-use crate::pace::{Clock, Pace, TimeLimits, time_left};
+use crate::lingering::linger;
+use crate::pace::{Clock, Pace, TimeLimits};
 use crate::stream::{Listener, Stream};
 use crate::wire::{Broken, Door, Shut, Wire};
 use rd_protocol::BodyPieces;
 use std::alloc::Global;
 use std::mem;
 use std::net::TcpListener;
-use std::time::Duration;
-
-/// How long a connection lingers at most, in milliseconds.
-const LINGER_MILLISECONDS: u64 = 200;
-
-/// How many bytes are read at most while a connection lingers.
-const LINGER_BYTES: usize = 4_194_304;
 
 /// How many bytes a connection holds back at most.
 const MOST_HELD: usize = 16_384;
@@ -57,8 +51,7 @@ fn read_in_time<S: Stream, C: Clock>(
     ensures { ReadsAtMost result into.new }
 {
     let time = pace.for_read().ok_or(Broken)?;
-    stream.limit_reads(time).map_err(|_| Broken)?;
-    stream.read(into).map_err(|_| Broken)
+    stream.read_within(into, time).map_err(|_| Broken)
 }
 
 /// Writes once, while the time of the reply lasts, and gives how many bytes went.
@@ -393,49 +386,6 @@ fn next_visitor<L: Listener, C: Clock>(
     let moment = clock.now()?;
     let millisecond = clock.milliseconds()?;
     Some((moment, millisecond, stream))
-}
-
-/// Reads what a peer still sends into a buffer, and gives how many bytes came; `None` if the peer
-/// has ended, nothing has come in this time, or the connection fails.
-fn read_within<S: Stream>(stream: &mut S, buffer: &mut [u8], time: Duration) -> Option<usize>
-    ensures { IfSome result (λ count. (0 < count) × (count ≤ length buffer.old)) }
-{
-    stream.limit_reads(time).ok()?;
-    match stream.read(buffer) {
-        Ok(count) if count > 0 => Some(count),
-        _ => None,
-    }
-}
-
-/// What is left of the time that a connection lingers, which began at this millisecond; `None` if it is over, or if
-/// the clock fails or has gone back.
-fn linger_time<C: Clock>(clock: &mut C, began: u64) -> Option<Duration>
-    ensures within { IfSome result (λ left. as_nanos left ≤ 200 * 1_000_000) }
-    ensures left { IfSome (C.shows clock.old) (λ at. IfSome result (λ left.
-        as_nanos left + at * 1_000_000 ≡ (200 + began) * 1_000_000)) }
-    ensures lasts { IfSome (C.shows clock.old) (λ at. IsSome result ↔ ((began ≤ at) × (at < 200 + began))) }
-{
-    time_left(clock, began, Duration::from_millis(LINGER_MILLISECONDS))
-}
-
-/// Reads what a peer still sends, until it ends, and throws it away: for `LINGER_MILLISECONDS` at most, by this clock,
-/// and at most `LINGER_BYTES`. A connection that is closed with bytes unread is reset, and the peer may then lose what
-/// it has not yet read of the reply.
-fn linger<S: Stream, C: Clock>(stream: &mut S, buffer: &mut [u8], clock: &mut C) {
-    let Some(began) = clock.milliseconds() else {
-        return;
-    };
-    let mut left = LINGER_BYTES;
-    for _ in 0..LINGER_BYTES {
-        let Some(time) = linger_time(clock, began) else {
-            return;
-        };
-        let most = buffer.len().min(left);
-        match read_within(stream, &mut buffer[..most], time) {
-            Some(count) if count < left => left -= count,
-            _ => return,
-        }
-    }
 }
 
 impl<L: Listener, C: Clock + Copy + Drop> Door for StreamDoor<L, C> {

@@ -4,7 +4,7 @@ use rd_http::{Clock, Listener, Stream};
 use std::alloc::Global;
 use std::cell::Cell;
 use std::io;
-use std::io::{ErrorKind, Read, Write};
+use std::io::{ErrorKind, Write};
 use std::time::Duration;
 
 /// How many bytes a read gives at most.
@@ -18,7 +18,6 @@ pub(super) struct Notes {
     alloc: Global,
     seconds: Cell<i64>,
     shown: Cell<u64>,
-    read_limit: Cell<Option<Duration>>,
     write_limit: Cell<Option<Duration>>,
     asked: Cell<String>,
     out: Cell<Vec<u8>>,
@@ -31,7 +30,6 @@ impl Notes {
             alloc,
             seconds: Cell::new(seconds),
             shown: Cell::new(0),
-            read_limit: Cell::new(None),
             write_limit: Cell::new(None),
             asked: Cell::new(String::new(alloc)),
             out: Cell::new(Vec::new(alloc)),
@@ -106,21 +104,6 @@ pub(super) struct Noting<'a> {
     ended: Cell<bool>,
 }
 
-impl Read for Noting<'_> {
-    fn read(&mut self, buf: &mut [u8]) -> io::Result<usize> {
-        self.notes.note("read", self.notes.read_limit.replace(None));
-        self.notes.pass(self.manner.read_time);
-        if self.ended.get() && self.manner.stays && !buf.is_empty() {
-            buf[0] = b'x';
-            return Ok(1);
-        }
-        let count = self.to_come.len().min(buf.len()).min(READ_BYTES);
-        buf[..count].copy_from_slice(&self.to_come[..count]);
-        self.to_come = &self.to_come[count..];
-        Ok(count)
-    }
-}
-
 impl Write for Noting<'_> {
     fn write(&mut self, buf: &[u8]) -> io::Result<usize> {
         self.notes
@@ -144,9 +127,17 @@ impl Write for Noting<'_> {
 }
 
 impl Stream for Noting<'_> {
-    fn limit_reads(&self, time: Duration) -> io::Result<()> {
-        self.notes.read_limit.set(Some(time));
-        Ok(())
+    fn read_within(&mut self, into: &mut [u8], time: Duration) -> io::Result<usize> {
+        self.notes.note("read", Some(time));
+        self.notes.pass(self.manner.read_time);
+        if self.ended.get() && self.manner.stays && !into.is_empty() {
+            into[0] = b'x';
+            return Ok(1);
+        }
+        let count = self.to_come.len().min(into.len()).min(READ_BYTES);
+        into[..count].copy_from_slice(&self.to_come[..count]);
+        self.to_come = &self.to_come[count..];
+        Ok(count)
     }
 
     fn limit_writes(&self, time: Duration) -> io::Result<()> {

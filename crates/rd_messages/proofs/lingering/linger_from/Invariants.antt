@@ -1,0 +1,6 @@
+use Rattle.std.proofs.Common.{◌+◌, ◌≤◌, length}
+use Rattle.rd_messages.specs.Lingering.{GoesOn}
+use Rattle.rd_messages.proofs.lingering.linger_from.Given as goal
+
+abbrev pub invariant-loop : goal.invariant-loop
+invariant-loop g l = GoesOn (200 + l.fn.began) (g.C.Clock.coming l.fn.clock) (g.S.Stream.waits l.fn.stream) (g.C.Clock.coming l.clock) (g.S.Stream.waits l.stream)
