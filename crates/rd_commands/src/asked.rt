@@ -21,13 +21,13 @@ ghost use Rattle.rd_commands.specs.Zones.{HasZoneRule, IsFlagTold, IsRuleNamed, 
 ghost use Rattle.rd_commands.specs.declared.words.Ask.TheVariants as ask;
 
 use crate::beside::{is_set, seconds_read};
-use crate::blanks::trimmed;
 use crate::serving::{count_asked, place_asked, timeouts_asked};
 use crate::words::{
     Ask, CopyAsk, ExtractAsk, FileAsk, ImageAsk, ImportAsk, InitAsk, OneQuestionAsk, Question,
     ServeAsk, Shown, SiftAsk, StaffKeyAsk, WhenAsk,
 };
 use clap::ArgMatches;
+use rd_operands::trimmed;
 use rd_policy::{Zone, is_scope};
 use rd_volume::Kind;
 

@@ -6,30 +6,28 @@ ghost use Rattle.rd_commands.specs.Refusals.{IsDeviceOrMemory};
 
 use crate::refusal::Refusal;
 use std::alloc::Global;
+use std::io;
 use std::io::{ErrorKind, Read};
 
 /// How many bytes are read at a time.
 const PART: usize = 4_096;
 
-/// Reads once, and again if the read was interrupted.
-///
-/// It fails with `Device` when a read fails.
-fn read_some<R: Read>(input: &mut R, part: &mut [u8]) -> Result<usize, Refusal>
+/// Reads once, and again if the read was interrupted; it gives how many bytes came. It fails when a read fails.
+pub fn read_some<R: Read>(input: &mut R, part: &mut [u8]) -> io::Result<usize>
     ensures bound { ReadsAtMost result part.new }
     ensures bytes { ReadConsumes (R.remaining input.old) (R.remaining input.new) result part.new }
-    ensures device { IfErr result (λ refusal. refusal ≡ Refusal.Device) }
 {
     for _ in 0..u64::MAX {
         match input.read(part) {
             Ok(count) => return Ok(count),
             Err(error) => {
                 if error.kind() != ErrorKind::Interrupted {
-                    return Err(Refusal::Device);
+                    return Err(error);
                 }
             }
         }
     }
-    Err(Refusal::Device)
+    Err(io::Error::from(ErrorKind::Interrupted))
 }
 
 /// Reads once, at most as many bytes as `part` holds, and adds what it read to the end of `bytes`.
@@ -46,7 +44,7 @@ fn read_part<R: Read>(input: &mut R, part: &mut [u8], bytes: &mut Vec<u8>) -> Re
     ensures refused { IfErr result IsDeviceOrMemory }
     ensures limit { ReadsUpTo (length part.new) (R.remaining input.old) (R.remaining input.new) }
 {
-    let count = read_some(input, part)?;
+    let count = read_some(input, part).map_err(|_| Refusal::Device)?;
     bytes.extend_from_slice(&part[..count])?;
     Ok(count)
 }

@@ -4,7 +4,6 @@
 
 mod asked;
 mod beside;
-mod blanks;
 pub mod cat;
 mod command_line;
 mod done;
@@ -28,7 +27,7 @@ pub use beside::{Beside, Told};
 pub use done::{Done, whole};
 pub use explaining::tell_notes;
 pub use files::{Files, MachineFault};
-pub use input::read_front;
+pub use input::{read_front, read_some};
 pub use output::write_whole;
 pub use refusal::Refusal;
 pub use remembered::{Remembered, RowNote, SystemFault};

@@ -1,4 +1,3 @@
-ghost use Rattle.std.specs.Io.{ReadsAtMost};
 ghost use Rattle.std.specs.Io.KnownBytes.{Keeps};
 ghost use Rattle.std.specs.Prelude.{◌≡◌, IfOk, IsTrue, None, OnOk, false, true};
 ghost use Rattle.rd_messages.specs.Streams.{limits_of};
@@ -7,7 +6,7 @@ use crate::places::{HostListener, at_port, at_socket};
 use rd_http::{Clock, Door, StreamDoor, TimeLimits};
 use rd_program::{
     Files, Line, Machine, MachineFault, Place, Refusal, Remembered, RowNote, Said, SystemFault,
-    Why, WriteFault, connect_fault, exit_code, explain, read_front, run,
+    Why, WriteFault, connect_fault, exit_code, explain, read_front, read_some, run,
 };
 use rd_tables::is_blank;
 use rd_volume::Kind;
@@ -212,23 +211,6 @@ impl<'a> Host<'a, HostDoor, HostPlaces<'a>> {
 fn seconds_now(rt: &HostRuntime) -> Option<i64> {
     let now = SystemTime::now(rt).ok()?;
     i64::try_from(now.duration_since(UNIX_EPOCH).ok()?.as_secs()).ok()
-}
-
-/// Reads once, and again if the read was interrupted.
-fn read_some(file: &mut File, part: &mut [u8]) -> io::Result<usize>
-    ensures bound { ReadsAtMost result part.new }
-{
-    for _ in 0..u64::MAX {
-        match file.read(part) {
-            Ok(count) => return Ok(count),
-            Err(error) => {
-                if error.kind() != ErrorKind::Interrupted {
-                    return Err(error);
-                }
-            }
-        }
-    }
-    Err(io::Error::from(ErrorKind::Interrupted))
 }
 
 /// The front of a file: at most one byte more than the largest image has, so that a huge file or a device that never

@@ -1,1 +1,3 @@
 pub mod MomentLemmas
+pub mod NameLemmas
+pub mod ZoneLemmas

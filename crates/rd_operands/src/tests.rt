@@ -1,5 +1,8 @@
 //! Keys in files, and first moments of days. The moments are those of Python's `zoneinfo`.
 
+mod names;
+mod zone_file;
+
 use crate::{first_moment, key_in_file};
 use rd_policy::{Zone, date_read};
 use std::alloc::Global;

@@ -4,7 +4,7 @@ use Rattle.std.specs.Borrow.{Bor}
 use Rattle.rd_operands.specs.KeyFiles.{key_of}
 use Rattle.rd_operands.specs.Moments.{HasNoMoment, IsFirstMoment}
 use Rattle.rd_policy.specs.Days.{HasDay}
-use Rattle.rd_zone_files.specs.ZoneFiles.{IsZoneOfFile}
+use Rattle.rd_operands.specs.ZoneFiles.{IsZoneOfFile}
 use Rattle.rd_policy.specs.declared.zone.Zone.{Zone}
 use Rattle.rd_commands.specs.declared.beside.Beside.{Beside}
 use Rattle.rd_commands.specs.declared.beside.Told.{Told}

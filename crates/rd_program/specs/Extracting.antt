@@ -5,7 +5,7 @@ use Rattle.std.specs.Io.KnownBytes.{Appends, Keeps}
 use Rattle.std.specs.List.{concat, filter}
 use Rattle.rd_geometry.specs.Kinds.{size_of}
 use Rattle.rd_geometry.specs.declared.kind.Kind.{Kind}
-use Rattle.rd_names.specs.FileNames.{file_name}
+use Rattle.rd_operands.specs.FileNames.{file_name}
 use Rattle.rd_volume.specs.Volumes.{AreFounds, contents_of}
 use Rattle.rd_volume.specs.declared.found.Found.{Found}
 use Rattle.rd_commands.specs.Listed.{tab}

@@ -16,9 +16,8 @@ use rd_commands::{
 };
 use rd_explanations::{Advice, Fault, Line, Notes, Reason, Said, Unusable, kind_that_fits};
 use rd_geometry::Kind;
-use rd_operands::KEY_FILE_LIMIT;
+use rd_operands::{KEY_FILE_LIMIT, ZONE_FILE_LIMIT, ZoneFileFault, zone_in_file};
 use rd_volume::fault_words;
-use rd_zone_files::{ZONE_FILE_LIMIT, ZoneFileFault, zone_in_file};
 use std::alloc::Global;
 use std::io::Write;
 

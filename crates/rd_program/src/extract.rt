@@ -14,7 +14,7 @@ ghost use Rattle.rd_program.specs.Extracting.{Extracts, FailsOne, IsExtractRefus
 
 use crate::machine::{Machine, WriteFault};
 use rd_commands::{ExtractAsk, Refusal, read_image, write_whole};
-use rd_names::file_name;
+use rd_operands::file_name;
 use rd_volume::{Found, Image, pieces, survey};
 use std::alloc::{AllocError, Global};
 use std::io::{Read, Write};

@@ -26,5 +26,6 @@ pub use explaining::explain;
 pub use machine::{Machine, WriteFault, connect_fault};
 pub use rd_commands::{
     Files, MachineFault, Place, Refusal, Remembered, RowNote, SystemFault, exit_code, read_front,
+    read_some,
 };
 pub use rd_explanations::{Line, Said};

@@ -6,9 +6,8 @@ ghost use Rattle.rd_commands.specs.Refusals.{IsDeviceOrMemory};
 ghost use Rattle.rd_program.specs.Completing.{IsKeyAt, IsMomentOf, IsZoneAt};
 
 use rd_commands::{Files, Refusal, read_front};
-use rd_operands::{KEY_FILE_LIMIT, first_moment, key_in_file};
+use rd_operands::{KEY_FILE_LIMIT, ZoneFileFault, first_moment, key_in_file, zone_in_file};
 use rd_policy::Zone;
-use rd_zone_files::{ZoneFileFault, zone_in_file};
 use std::alloc::Global;
 use std::io::Read;
 

@@ -1,5 +1,0 @@
-use Rattle.rd_names.proofs.NameLemmas.{one_slot_lem}
-use Rattle.rd_names.proofs.names.one_slot.Goals as goal
-
-pub returns : goal.returns
-returns c = one_slot_lem
