@@ -9,7 +9,7 @@ import tempfile
 import pytest
 import refusals
 
-INPUTS = ("crates/rd_trials/data", "crates/rd_main/stdin", "images")
+INPUTS = ("crates/rd_trials/data", "images")
 DRAWS = True
 # Has glibc take memory in large pages, which the system makes in much less time than small ones.
 LARGE_PAGES = "glibc.malloc.hugetlb=1:glibc.malloc.mmap_threshold=100000000:glibc.malloc.top_pad=16777216"

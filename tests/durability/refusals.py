@@ -2,29 +2,29 @@
 
 import collections
 import contextlib
-import dataclasses
 import hashlib
 import os
 import pathlib
 import re
 import shutil
+import signal
 import sqlite3
 import struct
 import subprocess
 import tempfile
 
+import pytest
 import refused_commands
 from support import server
-from support.samples import DONE
+from support.samples import DONE, RECORD_DISK
 
 STORE, LIMIT = "museum.sqlite", 600
 # Lines by which a command says that its store failed, which cannot tell why, and that it cannot read the last checks.
 NO_STORE, NO_CHECKS = b"desk: store", b"desk: clock"
-
-UNAVAILABLE = DONE.replace(b"200 OK", b"503 Service Unavailable").replace(b"13\r\n", b"23\r\n").replace(
-    b'"done":true', b'"error":"unavailable"'
-)
-
+UNAVAILABLE = re.compile(rb'HTTP/1.1 503 .*\r\n\r\n{"error":"unavailable"}', re.S)
+LONG = [pytest.mark.long, pytest.mark.timeout(3600)]
+# How many calls of a command are refused one by one: some that are drawn, or all.
+MOST = pytest.mark.parametrize("most", [pytest.param(10, id="drawn"), pytest.param(None, id="all", marks=LONG)])
 # How a run ended, with the reply to a visitor.
 Ended = collections.namedtuple("Ended", "status output errors reply")
 
@@ -32,7 +32,7 @@ Ended = collections.namedtuple("Ended", "status output errors reply")
 class Memory:
     """Refuses one growth of memory. A command that says so has not done its work."""
 
-    line, may_be_done = b"desk: no-memory", False
+    line, may_be_done, kills = b"desk: no-memory", False, False
 
     def __init__(self, library, counts):
         self.library, self.counts = library, counts
@@ -44,58 +44,65 @@ class Memory:
         """How many growths were asked for, how many were refused, and the first that failed a child."""
         return struct.unpack("3l", self.counts.read_bytes())
 
-    def calls(self):
-        return self.counted()[0]
-
-    def refused(self):
-        return self.counted()[1]
-
 
 class Disk:
-    """Refuses each call on the store's files from one on. A command that says so may have done its work."""
+    """Fails each call on the store's files from one on. A command that says so may have done its work."""
 
-    line, may_be_done = NO_STORE, True
+    line, may_be_done, kills = NO_STORE, True, False
     names = ("pread64", "pwrite64", "ftruncate", "fsync", "fdatasync", "statx")
 
     def __init__(self, told):
         self.told, self.made = told, []
 
     def words(self, place, at=0):
+        files = [f"-P{place.now}{name}" for name in ("", f"/{STORE}", f"/{STORE}-wal")]
+        return ["strace", "-f", "-q", "-o", self.told, f"-etrace={','.join(self.names)}", *files, *self.injected(at)]
+
+    def injected(self, at):
         """strace counts the calls of each name by themselves."""
-        before = collections.Counter(self.made[: at - 1])
-        refused = [f"-einject={name}:error=EIO:when={before[name] + 1}+" for name in self.names if at]
-        files = [f"-P{path}" for path in (place.now, place.now / STORE, place.now / f"{STORE}-wal")]
-        traced = f"-etrace={','.join(self.names)}"
-        return ["strace", "-f", "-q", "--seccomp-bpf", "-o", self.told, traced, *refused, *files]
+        before = self.made[: at - 1]
+        faults = [f"-einject={name}:error=EIO:when={before.count(name) + 1}+" for name in self.names if at]
+        return ["--seccomp-bpf", *faults]
 
-    def calls(self):
-        self.made = re.findall(r"^\d+ +(\w+)\(", self.told.read_text(), re.M)
-        return len(self.made)
+    def counted(self):
+        """How many calls came where nothing was refused, and whether one was refused now."""
+        told = self.told.read_text()
+        self.made = self.made or re.findall(r"^\d+ +(\w+)\(", told, re.M)
+        return len(self.made), "(INJECTED)" in told or "killed by SIGKILL" in told
 
-    def refused(self):
-        return self.told.read_text().count("(INJECTED)")
+
+class Kill(Disk):
+    """Kills the program at one call on the store's files."""
+
+    kills, names = True, (*Disk.names, "openat", "unlink")
+
+    def injected(self, at):
+        """With --seccomp-bpf strace 6.1 hands on no signal."""
+        names = self.made[:at]
+        return [f"-einject={name}:signal=SIGKILL:when={names.count(name)}" for name in names[-1:]]
 
 
 class Place:
     """Where commands run: a folder with what they are given, one with the store that runs now, and a port."""
 
     def __init__(self, program, folder):
-        self.work, self.now, self.port = folder / "given", folder / "now", server.free_port()
-        self.names = {"desk": program, "store": self.now / STORE, "folder": self.now, "work": self.work}
+        self.program, self.work, self.now, self.port = program, folder / "given", folder / "now", server.free_port()
+        self.names = {"store": self.now / STORE, "folder": self.now, "work": self.work}
         (self.work / "none").mkdir(parents=True)
         refused_commands.fill(self.work)
-        self.dumps, self.known = {}, {}
+        # what SQLite says of a store of which the first bytes are torn
+        self.dumps, self.known = {}, {"torn": ("file is not a database", [])}
 
     def run(self, command, before=()):
         """How a command ends, behind some words that have something refused to it."""
-        words = [*map(str, before), *(word.format(port=self.port, **self.names) for word in command.words)]
+        words = [*before, self.program, *command.words.format(port=self.port, **self.names).split()[1:]]
         pipe, begins, reply = subprocess.PIPE, b"", b""
         with subprocess.Popen(words, stdin=pipe, stdout=pipe, stderr=pipe) as process:
             try:
                 if command.request:
                     begins = process.stdout.readline()
                     reply = reply_to(command.request, self.port) if begins else b""
-                output, errors = process.communicate(command.image, timeout=LIMIT)
+                output, errors = process.communicate(RECORD_DISK, timeout=LIMIT)
             finally:
                 process.kill()
         return Ended(process.returncode, begins + output, errors, reply)
@@ -103,10 +110,14 @@ class Place:
     def take(self, name):
         """Makes the folder of the store a copy of one that has the store of a name."""
         if not (self.work / name).exists():
-            before, words = refused_commands.STORES[name]
+            before, text = refused_commands.STORES[name]
             self.take(before)
-            ran = self.run(refused_commands.Command(words))
-            assert ran.status == 0, f"store {name}: {ran}"
+            if text.startswith("desk "):
+                ran = self.run(refused_commands.Command(text))
+                assert ran.status == 0, f"store {name}: {ran}"
+            else:
+                with contextlib.closing(sqlite3.connect(self.now / STORE)) as connection:
+                    connection.executescript(text)
             shutil.copytree(self.now, self.work / name)
         shutil.rmtree(self.now, ignore_errors=True)
         shutil.copytree(self.work / name, self.now)
@@ -154,24 +165,22 @@ def reply_to(request, place):
     return came
 
 
-@dataclasses.dataclass
 class Sweep:
     """A command, what is refused to it, and how it ends where nothing is."""
 
-    place: Place
-    command: refused_commands.Command
-    refusal: Memory | Disk
-
-    def __post_init__(self):
-        command, place = self.command, self.place
-        for name in (*command.stores, *command.also, "torn", command.stores[0]):
+    def __init__(self, place, command, refusal):
+        self.place, self.command, self.refusal, self.did_again = place, command, refusal, set()
+        self.has_store, self.has_rows = "{store}" in command.words, command.words.split()[1] in ("import", "files")
+        for name in (*command.stores, command.stores[0]):
             place.take(name)
-        self.ever, self.did_again = place.run(command), set()
+        self.ever = place.run(command)
         assert self.ever.status == command.status and command.part in self.ever.output + self.ever.errors, self.ever
         assert self.holds(command.stores[-1]), "another store, though nothing is refused"
+        self.look = refused_commands.Command(refused_commands.EXPORT)
+        self.looked = place.run(self.look)
         place.take(command.stores[0])
-        place.run(command, self.refusal.words(place))
-        self.count = self.refusal.calls()
+        place.run(command, refusal.words(place))
+        self.count = refusal.counted()[0]
         assert self.count > 0, "there is nothing to refuse"
 
     def holds(self, *names):
@@ -184,57 +193,64 @@ class Sweep:
         found = ((at, self.fault(at)) for at in numbers)
         return [f"call {at} of {self.count}: {fault}" for at, fault in found if fault]
 
-    def fault(self, at):
+    def run(self, at):
         self.place.take(self.command.stores[0])
         ran = self.place.run(self.command, self.refusal.words(self.place, at))
-        assert self.refusal.refused(), f"call {at} of {self.count} did not come: {ran}"
+        assert self.refusal.counted()[1], f"call {at} of {self.count} did not come: {ran}"
+        return ran
+
+    def fault(self, at):
+        ran = self.run(at)
+        return self.fault_of(ran) or (None if self.is_as_ever(ran) else self.fault_again(at))
+
+    def fault_of(self, ran):
+        """What is wrong with how a run ended, or with the store that it left."""
         if self.is_as_ever(ran):
             return None if self.holds(self.command.stores[-1]) else f"done, with another store: {ran}"
-        if not (self.is_refused(ran) and self.holds(*self.may_hold(ran))):
-            return f"neither done nor refused: {ran}"
-        return self.fault_again()
+        return None if self.is_cut_off(ran) and self.holds(*self.may_hold(ran)) else f"neither done nor refused: {ran}"
 
     def is_as_ever(self, ran):
         """It ended as where nothing is refused; of an explanation it may leave lines out."""
-        told, ever = ran.errors.splitlines(), self.ever.errors.splitlines()
-        left = iter(ever)
-        is_same = ran._replace(errors=b"") == self.ever._replace(errors=b"") and told[:1] == ever[:1]
-        return is_same and all(line in left for line in told)
+        (told, *lines), (due, *explained) = (one.errors.split(b"\n") for one in (ran, self.ever))
+        return ran._replace(errors=told) == self.ever._replace(errors=due) and {*lines} <= {*explained}
 
-    def is_refused(self, ran):
-        """It says what was refused, or at a store perhaps that this failed, and below it no more than an explanation;
-        before that it wrote the first rows, or that it listens, or nothing. Or it served a visit."""
-        command, lines = self.command, ran.output.count(b"\n")
-        # behind the last row it needs memory, but no disk
-        most = len(command.stores) - 1 - self.refusal.may_be_done if command.has_rows else int("serve" in command.words)
-        is_front = self.ever.output.startswith(ran.output) and ran.output[-1:] in (b"", b"\n") and lines <= most
-        told, *explained = ran.errors.splitlines() or [b""]
-        named = {self.refusal.line, NO_CHECKS if lines and not command.has_rows else self.refusal.line}
-        named |= {NO_STORE} if "{store}" in command.words and (command.has_rows or not lines) else set()
+    def is_cut_off(self, ran):
+        """It was killed; or it says what was refused, or at a store that this failed, and below it no more than an
+        explanation. Before that it wrote the first rows, or that it listens, or nothing. Or it served a visit."""
+        serves, (told, *explained) = "serve" in self.command.words, ran.errors.splitlines() or [b""]
+        is_front = self.ever.output.startswith(ran.output) and ran.output[-1:] in (b"", b"\n")
+        if self.refusal.kills:
+            is_front = is_front and self.ever.errors.startswith(ran.errors)
+            return ran.status == -signal.SIGKILL and is_front and DONE.startswith(ran.reply)
+        named = {self.refusal.line, *[NO_STORE] * self.has_store, *[NO_CHECKS] * serves}
         says_so = ran.status == 3 and told in named and all(line.startswith(b"  ") for line in explained)
-        is_told = DONE.startswith(ran.reply) or ran.reply == UNAVAILABLE
-        return ((says_so and is_front) or (bool(command.request) and ran[:3] == self.ever[:3])) and is_told
+        says_so = says_so and is_front and (self.has_rows or ran.output.count(b"\n") <= serves)
+        is_served = self.command.request and ran[:3] == self.ever[:3]
+        return (says_so or is_served) and (DONE.startswith(ran.reply) or UNAVAILABLE.fullmatch(ran.reply))
 
     def may_hold(self, ran):
-        """The stores that a run may leave that was refused."""
-        (before, *_, after), lines = self.command.stores * 2, ran.output.count(b"\n")
-        if self.command.has_rows:
+        """The stores that a run may leave that was cut off. What it told as done stands."""
+        (before, *_, after), lines, request = self.command.stores, ran.output.count(b"\n"), self.command.request
+        if self.has_rows:
             return self.command.stores[lines : lines + 2]
-        if ran.reply and DONE.startswith(ran.reply):
+        if DONE.startswith(ran.reply or b"-") or not request and ran.output == self.ever.output != b"":
             return [after]
-        may_be_done = self.refusal.may_be_done and (ran.reply or not self.command.request)
-        is_torn = self.refusal.may_be_done and before == "none"
-        return [before, *self.command.also, *([after] if may_be_done else []), *(["torn"] if is_torn else [])]
+        may_be_done = self.refusal.may_be_done and (self.refusal.kills or ran.reply or not request)
+        # an export brings a store to version 2 before anything else
+        others = [after] * bool(may_be_done or "export" in self.command.words)
+        return [before, *others, *["torn"] * (self.refusal.may_be_done and before == "none")]
 
-    def fault_again(self):
-        """What is wrong with a second run, to which nothing is refused, over what the first one left. It hangs on the
-        bytes of the store alone: those from which it did all are left out."""
-        left, (before, *_, after) = self.place.digests(), self.command.stores * 2
-        is_done = self.refusal.may_be_done and self.holds(after) and not self.holds(before)
-        if "{store}" not in self.command.words or left in self.did_again or is_done:
+    def fault_again(self, at):
+        """What is wrong with a second run over what the first one left, or with a look at it where all is done; before
+        that, it may be killed once more. It hangs on the bytes of the store: those that were right are left out."""
+        if self.refusal.kills and at % 2:
+            self.place.run(self.command, self.refusal.words(self.place, at))
+        left, (before, *_, after) = self.place.digests(), self.command.stores
+        if not self.has_store or left in self.did_again:
             return None
-        ran = self.place.run(self.command)
-        if ran != self.ever or not self.holds(after):
+        is_done = self.refusal.may_be_done and self.holds(after) and not self.holds(before)
+        ran = self.place.run(self.look if is_done else self.command)
+        if ran != (self.looked if is_done else self.ever) or not self.holds(after):
             return f"a second run does something else: {ran}"
         self.did_again.add(left)
         return None

@@ -13,7 +13,6 @@
 
 /* What is in the file REFUSE_COUNTS: how many calls came, how many were refused, and the first that failed a child. */
 static struct { long calls, refused, failed; } own, *counts;
-static int is_child;
 
 static int refuses_in_a_child(void)
 {
@@ -23,7 +22,8 @@ static int refuses_in_a_child(void)
         own = *counts;
         counts = &own;
         alarm(600);
-        return is_child = 1;
+        unsetenv("REFUSE_EACH");
+        return 1;
     }
     waitpid(child, &status, 0);
     counts->refused++;
@@ -40,10 +40,11 @@ static int refuses(void)
         if (file < 0 || ftruncate(file, sizeof own))
             abort();
         counts = mmap(NULL, sizeof own, PROT_READ | PROT_WRITE, MAP_SHARED, file, 0);
-        close(file);
     }
     counts->calls++;
-    if (!is_child && getenv("REFUSE_EACH") ? !refuses_in_a_child() : !at || counts->calls != atol(at))
+    if (getenv("REFUSE_EACH"))
+        return refuses_in_a_child();
+    if (!at || counts->calls != atol(at))
         return 0;
     counts->refused++;
     errno = ENOMEM;
@@ -52,17 +53,13 @@ static int refuses(void)
 
 void *malloc(size_t size)
 {
-    static void *(*next)(size_t);
-    if (!next)
-        next = (void *(*)(size_t))dlsym(RTLD_NEXT, "malloc");
+    void *(*next)(size_t) = (void *(*)(size_t))dlsym(RTLD_NEXT, "malloc");
     return refuses() ? NULL : next(size);
 }
 
 void *realloc(void *old, size_t size)
 {
-    static void *(*next)(void *, size_t);
-    if (!next)
-        next = (void *(*)(void *, size_t))dlsym(RTLD_NEXT, "realloc");
+    void *(*next)(void *, size_t) = (void *(*)(void *, size_t))dlsym(RTLD_NEXT, "realloc");
     return refuses() ? NULL : next(old, size);
 }
 

@@ -3,17 +3,18 @@ disk has changed, or no reply changes. Of the bits of a log none loses more than
 
 import collections
 import contextlib
+import functools
 import pathlib
 import sqlite3
+import struct
 import subprocess
 import tempfile
 
 import pytest
-from refusals import copied, reply_to
+from refusals import LONG, copied, reply_to
 from support.clients import noon_zone
 from support.samples import (
-    ALL, DONE, EVERY, MARKED_DISK, PROGRAM_DISK, ROOM, SOUND, STAFF, badge, check, get, put, put_image, put_rule, raw,
-    survey,
+    ALL, DONE, FIRST, MARKED_DISK, PROGRAM_DISK, ROOM, SOUND, STAFF, check, get, put, put_image, put_rule, raw, survey
 )
 from support.server import LIMIT, Serving
 
@@ -22,18 +23,16 @@ REFUSALS = [(3, b"", f"desk: {word}\n".encode()) for word in ("store", "inconsis
 REFUSED, TOLD, SAME, BEFORE, WRONG = "refused", "told by a check", "no reply changed", "the last command lost", "wrong"
 # All bits are tried in so many parts, side by side.
 PARTS = 16
-LONG = [pytest.mark.long, pytest.mark.timeout(3600)]
 
-DEED = {"donor": "B. Donor", "signed": "2020-02-29"}
-COMMANDS = [
-    put("/deeds/7", {"donor": "A. Curator", "signed": "2019-05-04"}), put("/deeds/8", DEED),
-    put(badge(ROOM), {"audience": "room"}),
-    put_rule("/deeds/7/rules/10", "deny", {"prefix": "GAME"}, "public", "room", until="2030-01-01"),
+RULES = [
     put_rule("/deeds/8/rules/1", "list", {"user": 0}, "public", **{"from": "2000-01-01"}),
-    put_rule("/deeds/8/rules/2", "read", {"type": "PRG"}, *ALL), put_rule("/deeds/7/rules/20", "read", EVERY, *ALL),
+    put_rule("/deeds/8/rules/2", "read", {"type": "PRG"}, *ALL),
+    put_rule("/deeds/8/rules/3", "deny", {"prefix": "GAME"}, *ALL),
 ]
-DISK, CORRECTED = put_image(12, "d64e", 7, MARKED_DISK), put("/deeds/8", {**DEED, "donor": "C. Donor"})
-SMALL = [*COMMANDS, DISK, put_rule("/images/12/rules/1", "deny", {"slot": 0}, "public"), check(12)]
+COMMANDS = [*(asked for _, asked, _ in FIRST if len(asked.body) < 1000), *RULES]
+TAKEDOWN = put_rule("/images/12/rules/1", "deny", {"slot": 0}, "public")
+SMALL = [*COMMANDS, put_image(12, "d64e", 7, MARKED_DISK), TAKEDOWN, check(12)]
+CORRECTED = put("/deeds/8", {"donor": "C. Donor", "signed": "2020-02-29"})
 MANY = range(12, 62)
 FIFTY = [*COMMANDS, *(put_image(acc, "d64", 7, PROGRAM_DISK[:-4] + acc.to_bytes(4, "big")) for acc in MANY)]
 
@@ -49,9 +48,9 @@ def questions(accessions):
 class Store:
     """The file of a store and its log, in which commands were done. One bit at a time is flipped."""
 
-    def __init__(self, program, folder, commands, accessions=(), words=("--sums",), is_killed=False):
+    def __init__(self, program, folder, commands, words=("--sums",), is_killed=False):
         self.program, self.path = program, str(pathlib.Path(tempfile.mkdtemp(dir=folder), "museum.sqlite"))
-        self.accessions, self.place, self.zone = accessions, f"{self.path}.socket", ("--zone", noon_zone())
+        self.place, self.zone = f"{self.path}.socket", ("--zone", noon_zone())
         subprocess.run([program, "init", *words, "--store", self.path, "--key", STAFF], check=True, capture_output=True)
         replies = self.replies(commands, is_killed)
         assert all(reply in (DONE, SOUND) for reply in replies), replies
@@ -65,9 +64,9 @@ class Store:
             came = [reply_to(raw(one), self.place) for one in asked]
             return came if is_killed or desk.end()[0] == 0 else [*came, "it does not end well"]
 
-    def restore(self, log=None):
-        """Puts its bytes where they do not stand, or another log."""
-        for suffix, data in (self.whole if log is None else {**self.whole, LOG: log}).items():
+    def put(self, files):
+        """Writes bytes of the file and the log where they do not stand."""
+        for suffix, data in files.items():
             path = pathlib.Path(self.path + suffix)
             if not path.exists() or path.read_bytes() != data:
                 path.write_bytes(data)
@@ -87,29 +86,26 @@ class Store:
             except sqlite3.DatabaseError as fault:
                 return repr(fault)
 
-    def bytes_of(self, names=None):
-        """Of the file, the bytes of heads, cells and sums, of the pages of some tables or of all; and the others: those
-        of long values, and of room that is not used."""
-        data, meaning = self.whole[FILE], set()
-        self.restore()
-        with contextlib.closing(sqlite3.connect(f"file:{self.path}?immutable=1", uri=True)) as connection:
-            pages = connection.execute("SELECT name, pagetype, pgoffset FROM dbstat").fetchall()
-        for name, sort, page in pages:
-            at = page + (HEADER if page == 0 else 0)
-            count, content = (int.from_bytes(data[at + n : at + n + 2], "big") for n in (3, 5))
-            if sort != "overflow" and (names is None or name in names):
-                cells = range(page, at + (12 if sort == "internal" else 8) + 2 * count)
-                meaning |= {*cells, *range(page + content, page + PAGE)}
-        return sorted(meaning), [place for place in range(len(data)) if place not in meaning]
-
 
 class OfFile:
-    """Judges flips in the file of a museum, which its desk has closed."""
+    """Judges flips in the file of a museum with some disks, which its desk has closed."""
 
-    def __init__(self, store):
-        self.store, self.suffix, self.asked = store, FILE, questions(store.accessions)
+    def __init__(self, store, accessions=(12,)):
+        self.store, self.suffix, self.asked, self.checks = store, FILE, questions(accessions), len(accessions)
         self.usual = self.seen(store.shown())
         assert self.usual[0][0] == 0 and self.usual[-1] == SOUND, self.usual
+
+    def places(self):
+        """The bytes of heads, cells and sums; and the others: those of long values, and of room that is not used."""
+        data, found = self.store.whole[FILE], set()
+        self.store.put(self.store.whole)
+        with contextlib.closing(sqlite3.connect(f"file:{self.store.path}?immutable=1", uri=True)) as connection:
+            pages = connection.execute("SELECT pgoffset FROM dbstat WHERE pagetype != 'overflow'").fetchall()
+        for (page,) in pages:
+            at = page + (0 if page else HEADER)
+            count, content = struct.unpack(">HH", data[at + 3 : at + 7])
+            found |= {*range(page, at + 12 + 2 * count), *range(page + content, page + PAGE)}
+        return sorted(found), sorted({*range(len(data))} - found)
 
     def seen(self, shown):
         """All that desk says of the store: at its end, what checks find."""
@@ -119,30 +115,30 @@ class OfFile:
         shown = self.store.shown()
         if shown in REFUSALS:
             return REFUSED
-        seen, checks = self.seen(shown), len(self.store.accessions)
+        seen = self.seen(shown)
         if seen == self.usual:
             return SAME
-        return TOLD if len(seen) == len(self.usual) and seen[-checks:] != self.usual[-checks:] else WRONG
+        is_told = len(seen) == len(self.usual) and seen[-self.checks :] != self.usual[-self.checks :]
+        return TOLD if is_told else WRONG
 
 
 class OfLog:
-    """Judges flips in the log of a desk that ended, or was killed after its last command, which the log alone has."""
+    """Judges flips in the log of a desk that was killed after its last command, which the log alone has."""
 
     def __init__(self, store):
         self.store, self.suffix = store, LOG
-        self.before, self.after = self.closed(b""), self.closed()
+        self.before, self.after = self.closed(b""), self.closed(store.whole[LOG])
 
-    def closed(self, log=None):
-        """What desk shows of the store, and the pages that it leaves."""
-        self.store.restore(log)
+    def closed(self, log):
+        """What desk shows of the store with a log, and the pages that it leaves."""
+        self.store.put({**self.store.whole, LOG: log})
         return self.store.shown(), self.store.pages()
 
     def outcome(self):
         shown = self.store.shown()
         if shown in REFUSALS:
             return REFUSED
-        seen = shown, self.store.pages()
-        return SAME if seen == self.after else BEFORE if seen == self.before else WRONG
+        return {self.after: SAME, self.before: BEFORE}.get((shown, self.store.pages()), WRONG)
 
 
 def flipped(judge, places, chance, count=None, part=None):
@@ -150,7 +146,7 @@ def flipped(judge, places, chance, count=None, part=None):
     every, counts, wrong, store = range(8 * len(places)), collections.Counter(), [], judge.store
     for bit in every[part::PARTS] if count is None else chance.sample(every, min(count, len(every))):
         place, number = places[bit // 8], bit % 8
-        store.restore()
+        store.put(store.whole)
         with open(store.path + judge.suffix, "r+b", buffering=0) as file:
             file.seek(place)
             file.write(bytes([store.whole[judge.suffix][place] ^ 1 << number]))
@@ -169,72 +165,55 @@ def shares(drawn, most=None):
 
 @pytest.fixture(scope="module")
 def made(program, memory_folder):
-    return lambda *words, **more: Store(program, memory_folder, *words, **more)
+    return functools.partial(Store, program, memory_folder)
 
 
 @pytest.fixture(scope="module")
 def small(made):
-    return OfFile(made(SMALL, (12,)))
+    return OfFile(made(SMALL))
 
 
 @pytest.fixture(scope="module")
-def logs(made):
-    """The logs of desks that were killed after they had put a deed or a disk."""
-    found = {}
-    for name, last in (("deed", CORRECTED), ("disk", DISK)):
-        found[name] = judge = OfLog(made([*COMMANDS, last], is_killed=True))
-        assert judge.after[0] == made([*COMMANDS, last]).shown() and judge.before[0] == made(COMMANDS).shown()
-        assert judge.before != judge.after
-    return found
+def log(made):
+    """The log of a desk that was killed after it had put a deed once more."""
+    judge = OfLog(made([*COMMANDS, CORRECTED], is_killed=True))
+    assert judge.after[0] == made([*COMMANDS, CORRECTED]).shown() != judge.before[0] == made(COMMANDS).shown()
+    return judge
 
 
 @shares(150)
 def test_flipped_bit_that_means_something_is_refused_or_told(share, small, chance):
-    counts, wrong = flipped(small, small.store.bytes_of()[0], chance, **share)
+    counts, wrong = flipped(small, small.places()[0], chance, **share)
     assert not wrong and counts[REFUSED], counts
 
 
-@shares(40, 2000)
+@shares(30, 2000)
 def test_flipped_bit_of_a_disk_or_of_unused_room_is_refused_or_told(share, small, chance):
-    counts, wrong = flipped(small, small.store.bytes_of()[1], chance, **share)
+    counts, wrong = flipped(small, small.places()[1], chance, **share)
     assert not wrong and counts[REFUSED], counts
 
 
 @shares(20, 2000)
 def test_flipped_bit_of_a_museum_of_fifty_disks_is_refused_or_told(share, made, chance):
-    fifty = OfFile(made(FIFTY, MANY))
+    fifty = OfFile(made(FIFTY), MANY)
     counts, wrong = flipped(fifty, range(len(fifty.store.whole[FILE])), chance, **share)
     assert not wrong and counts[REFUSED], counts
 
 
 def test_flipped_bit_without_sums_changes_a_reply(made, chance):
     """What the tests above look for is there to be seen."""
-    judge = OfFile(made(SMALL, (12,), words=()))
-    counts, wrong = flipped(judge, judge.store.bytes_of(("rule", "deed", "badge"))[0], chance, 100)
+    judge = OfFile(made(SMALL, words=()))
+    donor = judge.store.whole[FILE].index(b"A. Curator")
+    counts, wrong = flipped(judge, range(donor, donor + 10), chance, 10)
     assert wrong, counts
 
 
 @shares(100)
-def test_flipped_bit_of_a_log_loses_the_last_command_at_most(share, logs, chance):
-    counts, wrong = flipped(logs["deed"], range(len(logs["deed"].store.whole[LOG])), chance, **share)
+def test_flipped_bit_of_a_log_loses_the_last_command_at_most(share, log, chance):
+    counts, wrong = flipped(log, range(len(log.store.whole[LOG])), chance, **share)
     assert not wrong and counts[BEFORE], counts
 
 
-@shares(40, 2000)
-def test_flipped_bit_of_a_log_with_a_disk_loses_the_last_command_at_most(share, logs, chance):
-    counts, wrong = flipped(logs["disk"], range(len(logs["disk"].store.whole[LOG])), chance, **share)
-    assert not wrong and counts[BEFORE], counts
-
-
-@shares(40, 2000)
-def test_flipped_bit_of_the_log_of_a_desk_that_ended_loses_nothing(share, made, chance):
-    judge = OfLog(made(COMMANDS))
-    counts, wrong = flipped(judge, range(len(judge.store.whole[LOG])), chance, **share)
-    assert judge.before == judge.after and counts and not wrong, counts
-
-
-def test_two_lost_commands_are_seen(made, logs):
-    judge, older = logs["deed"], made(COMMANDS[:-1])
-    for suffix, data in older.whole.items():
-        pathlib.Path(judge.store.path + suffix).write_bytes(data)
-    assert judge.outcome() == WRONG
+def test_two_lost_commands_are_seen(made, log):
+    log.store.put(made(COMMANDS[:-1]).whole)
+    assert log.outcome() == WRONG

@@ -14,18 +14,15 @@ from support.server import ROOT
 
 COMMANDS = OVER_STORES | WITHOUT_STORE
 PROGRAM = "crates/rd_main/out/rd_main"
-LONG = [pytest.mark.long, pytest.mark.timeout(3600)]
-# How many calls of a command are refused one by one: some that are drawn, or all.
-MOST = pytest.mark.parametrize("most", [pytest.param(10, id="drawn"), pytest.param(None, id="all", marks=LONG)])
 
 
-@MOST
+@refusals.MOST
 @pytest.mark.parametrize("name", COMMANDS)
 def test_command_loses_nothing_where_a_growth_of_memory_is_refused(name, most, place, memory, chance):
     assert not refusals.Sweep(place, COMMANDS[name], memory).faults(chance, most)
 
 
-@MOST
+@refusals.MOST
 @pytest.mark.parametrize("name", OVER_STORES)
 def test_command_loses_nothing_where_the_disk_fails(name, most, place, tmp_path, chance):
     assert not refusals.Sweep(place, OVER_STORES[name], refusals.Disk(tmp_path / "calls")).faults(chance, most)
@@ -44,19 +41,17 @@ def plans_of(tests, name):
     if not name.endswith("::plans_when_memory_is_refused"):
         return [{}]
     plans = [{"REFUSED_PLAN": f"{number:02}"} for number in range(100)]
-    count = next(at for at, plan in enumerate(plans) if "no plan has this number" in str(ran([tests, name], **plan)))
-    return plans[:count]
+    return plans[: next(at for at, plan in enumerate(plans) if "no plan has" in str(ran([tests, name], **plan)))]
 
 
 def fault_of(memory, folder, tests, name, plan):
     """What is wrong with a test, or a plan of it, of which each growth is refused in a child of its own."""
-    memory = refusals.Memory(memory.library, folder / "-".join([tests.name, name.replace(":", "-"), *plan.values()]))
-    refusing = {"LD_PRELOAD": str(memory.library), "REFUSE_COUNTS": str(memory.counts), **plan}
-    ended = ran([tests, name], **refusing, REFUSE_EACH="1")
-    calls, refused, failed = memory.counted()
+    own = refusals.Memory(memory.library, folder / "-".join([tests.name, name.replace(":", "-"), *plan.values()]))
+    ended = ran([*own.words(None), tests, name], **plan, REFUSE_EACH="1")
+    calls, refused, failed = own.counted()
     if ended.returncode == 0 and calls == refused > 0 and not failed:
         return None
-    again = ran([tests, name], **refusing, REFUSE_AT=str(failed)) if failed else ended
+    again = ran([*own.words(None, failed), tests, name], **plan)
     return f"{name} {plan}: {refused} of {calls} refused; growth {failed}: {(again.stdout + again.stderr)[-500:]}"
 
 
@@ -67,7 +62,6 @@ def test_tests_of_a_crate_pass_with_each_growth_of_memory_refused(crate, program
     """The tests are those that were built with the program, or in this repository where it lies by itself."""
     tree = program.removesuffix(PROGRAM) if program.endswith(f"/{PROGRAM}") else ROOT
     tests = pathlib.Path(tree, "crates", crate, "out", f"{crate}_tests")
-    assert os.access(tests, os.X_OK), f"not built: {tests}; rt ci or rt test builds it"
     names = re.findall(r"^(tests::.*_when_memory_is_refused): test$", ran([tests, "--list"]).stdout, re.M)
     plans = [(name, plan) for name in names for plan in plans_of(tests, name)]
     assert plans and {name for name, _ in plans} == set(names)
