@@ -8,23 +8,16 @@ import subprocess
 import pytest
 from support import server
 
-ROOT = pathlib.Path(__file__).parents[1]
-LIMIT = 60
-
-
 def pytest_addoption(parser):
     parser.addoption("--desk", help="the program under test; the one that ./desk or .ci/run built by default")
     parser.addoption("--seed", type=int, default=1, help="what drawn cases begin with")
     parser.addoption("--headed", action="store_true", help="show the browser")
 
-
 def pytest_report_header(config):
     return f"desk: {program_path(config)}, seed: {config.getoption('--seed')}"
 
-
 def program_path(config):
-    return pathlib.Path(config.getoption("--desk") or ROOT / "crates/rd_main/out/rd_main").resolve()
-
+    return pathlib.Path(config.getoption("--desk") or f"{server.ROOT}/crates/rd_main/out/rd_main").resolve()
 
 @pytest.fixture(scope="session")
 def program(request):
@@ -34,24 +27,20 @@ def program(request):
         pytest.fail(f"not built: {path}", pytrace=False)
     return str(path)
 
-
 @pytest.fixture(scope="session")
 def seed(request):
     return request.config.getoption("--seed")
-
 
 @pytest.fixture(scope="session")
 def desk(program):
     """Runs one command of the program, and gives its status and outputs."""
 
     def run(*words, **how):
-        how = {"stdin": subprocess.DEVNULL, "capture_output": True, "timeout": LIMIT, **how}
-        if "input" in how:
-            how.pop("stdin")
+        given = {} if "input" in how else {"stdin": subprocess.DEVNULL}
+        how = {"capture_output": True, "timeout": server.LIMIT, **given, **how}
         return subprocess.run([program, *map(str, words)], **how)
 
     return run
-
 
 @pytest.fixture(scope="session")
 def serving(program):
