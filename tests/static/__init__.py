@@ -2,7 +2,6 @@
 
 import functools
 
-
 def is_free_of_faults(check):
     """Makes a test of a check: it fails with all lines that the check yields."""
 

@@ -11,13 +11,11 @@ VISIT = "crates/rd_messages/src/fault.rt"
 UNAVAILABLE = "crates/rd_protocol/src/reply_text.rt", r'fixed_reply\((\d+), "\{\\"error\\":\\"(unavailable)\\"\}"\)'
 BAD_ROW = "crates/rd_program/src/import.rt", r'"row \{number\} (bad-row)\\n"'
 
-
 def rows(heading):
     """The cells of the rows of the first table under a heading of the page."""
     text = text_of("docs/FORMATS.md").partition(f"\n{heading}\n")[2]
     lines = re.search(r"(?m)(?:^\|.*\n)+", text)[0].splitlines()
     return [[cell.strip() for cell in line.strip("|").split(" | ")] for line in lines[2:]]
-
 
 def arms(code, function):
     """What stands behind each case of a function's match."""
@@ -25,12 +23,10 @@ def arms(code, function):
     found = re.findall(r"((?:\|?\s*\w+::\w+(?:\([^)]*\))?\s*)+)=> ([^,]+),", body)
     return {case: value for cases, value in found for case in re.findall(r"\w+::(\w+)", cases)}
 
-
 def by_name(path, function, pattern):
     """The statuses of a source's refusals, by their names. A function gives each name, in a pattern."""
     statuses, named = arms(text_of(path), "status"), arms(text_of(path), function)
     return {re.search(pattern, value)[1]: statuses.get(case) for case, value in named.items()}
-
 
 @functools.cache
 def in_code():

@@ -1,5 +1,5 @@
 """What the sources in Rattle say, as far as lines and names show it: functions, clauses, definitions and wrong bodies,
-and the definitions on which a clause rests. Each file is read once."""
+and the spec files on which a clause rests. Each file is read once."""
 
 import collections
 import functools
@@ -12,33 +12,23 @@ CRATES = ROOT / "crates"
 PUBLIC = r"(?:pub(?:\([^)]*\))? )?"
 HEAD = rf"(?: *{PUBLIC}(?:const |unsafe |final )*(fn)|{PUBLIC}(?:const|static)) (\w+)"
 EDIT = re.compile(r"(?:file: .*\n(?:old: .*\nnew:.*\n)+)+")
-# What begins a definition, and what a module hands to all of its own.
-ITEM = re.compile(r" *(?:(?:abbrev|unfoldable) pub|abbrev|unfoldable|pub record|pub data|record|data|pub) ([^\s:(]+)")
-MODULE = re.compile(r"( *)module _(.*) where$")
 USE = re.compile(r"use Rattle\.(\w+)\.specs\.([\w.]+?)(?:\.\{([^}]*)\}| as (\w+))?;?$")
-NAME = re.compile(r"[A-Za-z_][\w'-]*(?:\.[A-Za-z_][\w'-]*)?")
-
-# A clause: what it belongs to (none where the name is that of a function), its name and its file. And a file with
-# definitions: those that it has by their names, and where other names come from.
-Clause, Spec = collections.namedtuple("Clause", "owner name path"), collections.namedtuple("Spec", "items uses")
-
+# A clause: what it belongs to (none where the name is that of a function), its name and its file.
+Clause = collections.namedtuple("Clause", "owner name path")
 
 @functools.cache
 def text_of(path):
     """The text of a file of the repository, empty where there is none."""
     return (ROOT / path).read_text(encoding="utf-8") if (ROOT / path).is_file() else ""
 
-
 @functools.cache
 def lines_of(path):
     return text_of(path).split("\n")
-
 
 def parts_of(path):
     """The crate of a path, the folder in it, and the rest; empty parts where it is none in a crate."""
     found = re.fullmatch(r"crates/(\w+)/([\w-]+)/(.+)", path)
     return found.groups() if found else ("", "", "")
-
 
 @functools.cache
 def items(path):
@@ -50,12 +40,10 @@ def items(path):
         found[name] += f"{line}\n"
     return dict(found)
 
-
 def item_at(path, line):
     """Whether a function or a constant stands at a line, counted from 0, and its name."""
     found = (re.match(HEAD, text) for text in reversed(lines_of(path)[: line + 1]))
     return next(((bool(head[1]), head[2]) for head in found if head), (False, ""))
-
 
 @functools.cache
 def proofs_of(crate):
@@ -63,14 +51,12 @@ def proofs_of(crate):
     folders = [str(folder.relative_to(ROOT)) for folder in (CRATES / crate / "proofs").rglob("*/")]
     return [(folder, [part.removeprefix("+") for part in folder.split("/")]) for folder in folders]
 
-
 def proof_folders(path, name):
     """The folders with proofs of a function of a file in src/: below that of the file, or of a type whose methods the
     file has and another declares."""
     module, types = path[:-3].replace("/src/", "/proofs/"), re.findall(r"(?m)^impl(?:<[^>]*>)? (\w+)", text_of(path))
     found = [(folder, parts[:-1]) for folder, parts in proofs_of(parts_of(path)[0]) if parts[-1] == name]
     return [folder for folder, parts in found if folder.startswith(f"{module}/") or {*types} & {*parts}]
-
 
 def pairs_of(path):
     """The changes of a wrong body, one after the other: the file, the old text and the new one of each. None where it
@@ -80,10 +66,6 @@ def pairs_of(path):
         file = f"{folder}/{part.splitlines()[0].strip()}"
         found += [(file, old, new) for old, new in re.findall(r"old: (.*)\nnew: ?(.*)\n", part)]
     return found
-
-
-# Definitions, clauses, and what they rest on
-
 
 def owner_text(clause):
     """The text of the function, trait, trait of a type or record that a clause belongs to."""
@@ -96,7 +78,6 @@ def owner_text(clause):
     pattern = rf"(?ms)^impl\b[^\n]*\b{trait}\b[^\n]* for {ty}\b.*?^\}}" if trait else pattern
     return (re.search(pattern, text) or [""])[0]
 
-
 @functools.cache
 def clause_text(clause):
     """The lines of a clause, up to the next one of what it belongs to; empty where it is not there."""
@@ -105,83 +86,28 @@ def clause_text(clause):
     found = re.search(rf"(?m)^ *(?:{begin}).*\n(?:(?! *(?:ensures|requires|ghost|fn|pub|//)).*\n)*", owner_text(clause))
     return found[0] if found else ""
 
-
 def has_definition(path, name):
     """Whether specs have a definition of this name, or a record with this field (`NAME.FIELD`)."""
     owner, _, field = name.rpartition(".")
     head = rf"(?m)^(?: *(?:abbrev|unfoldable) pub| *pub (?:record|data)|pub) {re.escape(name)}(?=[ :])"
     return bool(clause_text(Clause(owner, field, path)) if owner else re.search(head, text_of(path)))
 
-
-def uses_in(lines):
-    """Where lines say that names come from: each as a spec file and a name there, the name of a whole file empty."""
+def uses_in(path):
+    """Where a file's names come from: the spec file of each."""
     uses = {}
-    for crate, file, names, alias in (found.groups() for found in map(USE.search, lines) if found):
-        path = f"crates/{crate}/specs/{file}.antt"
-        pairs = [name.strip().partition(" as ")[::2] for name in (names or "").split(",")]
-        uses |= {alias: (path, "")} if alias else {here or there: (path, there) for there, here in pairs}
-    return uses
-
-
-def read_spec(path):
-    """The definitions of a spec file. What a module hands to its definitions counts as a part of each."""
-    found, item, handed, depth = {}, None, "", 0
-    lines = [line.partition("--")[0].rstrip() for line in lines_of(path)]
-    for line in lines:
-        indent = len(line) - len(line.lstrip())
-        if module := MODULE.match(line):
-            item, depth, handed = None, len(module[1]) + 2, module[2]
-        elif line and indent in (0, depth) and (begins := ITEM.match(line)):
-            item, depth = begins[1], indent
-            found[item] = handed * (indent > 0)
-        if item:
-            found[item] += f"\n{line}"
-    return Spec(found, uses_in(lines))
-
-
-@functools.cache
-def specs():
-    """All files with definitions."""
-    paths = [str(file.relative_to(ROOT)) for file in CRATES.glob("*/specs/*.antt") if file.stem != "Lib"]
-    return {path: read_spec(path) for path in paths}
-
-
-def named(text, uses, here):
-    """The definitions that a text names, each as file and name."""
-    found, known = set(), specs()
-    for word in set(NAME.findall(text)):
-        begin, _, rest = word.partition(".")
-        path, name = uses.get(begin, (here, begin))
-        if path in known and (path != here or name in known[here].items):
-            found.add((path, name or rest))
-    return found
-
-
-@functools.cache
-def named_by(path, name):
-    """The definitions that a definition names, and the file that has it. A file may hand on a name of another; a name
-    that begins no definition is that of a case of one."""
-    spec = specs()[path]
-    if name not in spec.items and spec.uses.get(name, [""])[0] in specs():
-        return named_by(*spec.uses[name])
-    case = re.compile(rf"^ +{re.escape(name)} :", re.M)
-    text = spec.items.get(name) or next((text for text in spec.items.values() if case.search(text)), "")
-    return named(text, spec.uses, path), path
-
+    for crate, file, names, alias in (found.groups() for found in map(USE.search, lines_of(path)) if found):
+        names = [name.rpartition(" as ")[2].strip() for name in (names or alias or "").split(",")]
+        uses |= dict.fromkeys(names, f"crates/{crate}/specs/{file}.antt")
+    return {name: file for name, file in uses.items() if text_of(file) and not file.endswith("/Lib.antt")}
 
 def rests_on(clauses):
-    """The spec files with the definitions on which clauses rest. Of a record of which they name fields, only these
-    count."""
-    files = {clause.path for clause in clauses if clause.path in specs()}
-    fields, to_do, done = {clause.owner for clause in clauses if clause.path in files}, set(), set()
+    """The spec files that clauses name, and all on which these may rest."""
+    named = {clause.path for clause in clauses if clause.path.endswith(".antt")}
     for clause in clauses:
-        ghost = [line for line in lines_of(clause.path) if line.strip().startswith("ghost use")]
-        uses = specs()[clause.path].uses if clause.path in files else uses_in(ghost)
-        to_do |= named(clause_text(clause), uses, clause.path)
+        words = set(re.findall(r"[A-Za-z_][\w'-]*", clause_text(clause)))
+        named |= {file for name, file in uses_in(clause.path).items() if name in words}
+    found, to_do = set(), {*named}
     while to_do:
-        one = to_do.pop()
-        found, file = named_by(*one)
-        done.add(one)
-        files.add(file)
-        to_do |= found - done if one[1] not in fields else set()
-    return files
+        found.add(path := to_do.pop())
+        to_do |= {*uses_in(path).values()} - found
+    return named, found

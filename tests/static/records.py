@@ -16,7 +16,6 @@ WORDS = {
     "change": "look note",
 }
 
-
 class Record:
     """A record: what it is of, its title, and its other lines, each a word and a text."""
 
@@ -37,7 +36,6 @@ class Record:
         """The clauses of a promise; the owner of each stands before a colon."""
         return [Clause(*text.rpartition(": ")[::2], path) for path, text in self.named("clause")]
 
-
 @functools.cache
 def read():
     """All records, and the lines that are none."""
@@ -54,7 +52,6 @@ def read():
                 faults.append(f"{file.relative_to(ROOT)}:{number}: no such line here: {line!r}")
         found += of_file
     return found, faults
-
 
 def of_kind(*kinds):
     return [record for record in read()[0] if record.kind in kinds]

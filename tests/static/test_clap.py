@@ -45,14 +45,12 @@ fn main(rt: HostRuntime) -> Result<()> {
 }
 """
 
-
 def constants(use):
     """The lines that make the constants which a line takes from other crates."""
     sources = "\n".join(file.read_text(encoding="utf-8") for file in sorted(CRATES.glob("rd_*/src/*.rt")))
     names = [name.strip() for name in (use[1] or use[2]).split(",")]
     made = r"(?m)^pub(?:\(crate\))? ((?:const|static) {}: [^;]*(?:; \d+\])?[^;]*;)"
     return "".join(re.search(made.format(name), sources)[1] + "\n" for name in names)
-
 
 @pytest.fixture(scope="module")
 def answers(tmp_path_factory):
@@ -75,19 +73,16 @@ def answers(tmp_path_factory):
     (ROOT / "out" / "help.rt").write_text(made, encoding="utf-8")
     return found
 
-
 def test_each_command_has_a_text():
     given = r'bytes_eq name \(codes "([\w-]+)"\) then (\w+)_HELP\.now'
     assert dict(re.findall(given, text_of("crates/rd_commands/specs/Helps.antt"))) == NAMES
     assert set(TEXTS) == {"DESK", *NAMES.values()}
-
 
 @is_free_of_faults
 def test_texts_are_those_of_clap(answers):
     for name, words in ((name, words) for name in TEXTS for words in ASKS[name]):
         if answers[words][0] != TEXTS[name]:
             yield f"{words}: help.rt has another text"
-
 
 @is_free_of_faults
 def test_line_of_one_command_answers_as_that_of_all(answers):

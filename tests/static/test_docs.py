@@ -25,16 +25,13 @@ FOLDERS = ("README.md", "records/README.md", "docs/*.md", "crates/*/README.md")
 PAGES = sorted(str(page.relative_to(ROOT)) for pages in FOLDERS for page in ROOT.glob(pages))
 of_each_page = pytest.mark.parametrize("page", PAGES)
 
-
 @functools.cache
 def shown(page):
     """The text of a page; lines of code are empty."""
     return re.sub(r"(?ms)^```.*?^```$", lambda code: "\n" * code[0].count("\n"), text_of(page))
 
-
 def headings(page):
     return [(len(level), text.replace("`", "")) for level, text in re.findall(r"(?m)^(#+) (.*)", shown(page))]
-
 
 def anchors(page):
     """The names by which links lead to a page's headings."""
@@ -44,11 +41,9 @@ def anchors(page):
         found.append(f"{name}-{found.count(name)}" if name in found else name)
     return found
 
-
 def sections(page):
     """The parts of a page, by the texts of their headings."""
     return {part.partition("\n")[0].replace("`", ""): part for part in re.split(r"(?m)^## ", text_of(page))}
-
 
 @functools.cache
 def words_of_sources():
@@ -56,7 +51,6 @@ def words_of_sources():
     files = [*rattle.CRATES.glob("*/src/**/*.rt"), *rattle.CRATES.glob("*/specs/*.antt")]
     texts = [re.sub(r"(?m)(//|--).*", "", file.read_text(encoding="utf-8")) for file in files]
     return {name for file in files for name in (*file.parts, file.stem)}.union(re.findall(r"\w+", "\n".join(texts)))
-
 
 @of_each_page
 @is_free_of_faults
@@ -69,14 +63,12 @@ def test_links_lead_somewhere(page):
         if not re.match(r"[a-z]+:", link) and not (is_there and (not part or part in anchors(leads))):
             yield f"{page}: the link {link} leads to no file or heading, or it names a line"
 
-
 @of_each_page
 @is_free_of_faults
 def test_paths_are_there(page):
     for path in PATH.findall(shown(page)):
         if not NO_PATH.search(path) and not (ROOT / path).exists():
             yield f"{page}: nothing is at {path}"
-
 
 @of_each_page
 @is_free_of_faults
@@ -99,7 +91,6 @@ def test_layout_of_pages(page):
         if hyphens != [1] or len(rows) < 3 or len(cells) > 1:
             yield f"{page}: no whole table: {rows[0]}"
 
-
 @is_free_of_faults
 def test_files_are_short():
     """No file has more than 800 lines, and no line of tests and tools more than 120 characters."""
@@ -111,7 +102,6 @@ def test_files_are_short():
             if len(lines) > 800 or wide and path.startswith(("tests/", "tools/")):
                 yield f"{path}: {len(lines)} lines, too long are {wide}"
 
-
 @pytest.mark.parametrize("page", [page for page in PAGES if page == PROMISES or page.startswith("crates/")])
 @is_free_of_faults
 def test_names_in_backquotes_are_in_rattle(page):
@@ -120,9 +110,7 @@ def test_names_in_backquotes_are_in_rattle(page):
         if name not in KIT + OTHER_NAMES and not set(parts) <= words_of_sources() and parts[-1] != "rt":
             yield f"{page}: nothing has the name {name}"
 
-
 # Promises, crates and ways
-
 
 @is_free_of_faults
 def test_promises_are_those_of_the_records():
@@ -141,7 +129,6 @@ def test_promises_are_those_of_the_records():
     for name in {record.title for record in records.of_kind("premise")} ^ set(re.findall(r"(?m)^- \*([^*]+)\*:", text)):
         yield f"the premise {name} is not both here and in the records"
 
-
 def edges():
     """The crates of ARCHITECTURE's graph and of the table below it, each after one that stands on it, or none."""
     part, above, found = sections(ARCHITECTURE)["The crates"], [], []
@@ -155,7 +142,6 @@ def edges():
         found += [(name, each) for name in crates for each in below]
     return found
 
-
 @is_free_of_faults
 def test_crates_are_those_of_the_list():
     stands = {name: below.split() for name, below in re.findall(r"(?m)^(\w+):(.*)", text_of("crates.txt"))}
@@ -164,7 +150,6 @@ def test_crates_are_those_of_the_list():
     for name, below in edges():
         if name in stands and below not in stands[name]:
             yield f"{name} does not stand on {below}"
-
 
 @is_free_of_faults
 def test_ways_are_those_of_the_records():

@@ -10,7 +10,6 @@ PAGES = [f"operate/package/{name}" for name in ("desk.1", "completion", "complet
 IMAGES = [f"images/{name}" for name in ("welcome.img", "museum.d64", "damaged.img", "damaged.d64")]
 MADE = [("make-help", path) for path in PAGES] + [("make-images", path) for path in (*IMAGES, "web/favicon.ico")]
 
-
 @pytest.mark.parametrize("tool, path", MADE)
 def test_file_is_what_its_tool_makes(tool, path, tmp_path):
     subprocess.run([sys.executable, "-B", ROOT / "tools" / tool, tmp_path], check=True)

@@ -13,7 +13,6 @@ PATTERNS, ROUTES = text_of("crates/rd_messages/src/pattern.rt"), text_of("crates
 ALWAYS, NOT_HERE = {"bad-head", "framing", "unavailable"}, {"no-route", "method"}
 PARTS = {name.upper(): name for name in ("acc", "deed", "rank", "slot", "kind", "digest", "date")}
 
-
 def in_code():
     """The methods of each path of the code."""
     paths = re.findall(r'"(/[^"]*)",\s*Pattern::(\w+)', PATTERNS.partition("const TABLE")[2].partition("];")[0])
@@ -25,11 +24,9 @@ def in_code():
     methods = {route: sets[name].lower() for cases, name in arms for route in re.findall(r"Route::(\w+)", cases)}
     return {path: set(re.findall(r"method::(\w+)", methods[routes[pattern]])) for path, pattern in paths}
 
-
 def in_braces(path):
     """A path of the page as the code writes it."""
     return re.sub(r"\b[A-Z]{3,}\b", lambda part: "{%s}" % PARTS[part[0]], path)
-
 
 def refusals():
     """The names of the refusals of each method of each path, by the page's list. A row of paths with `..` at their end
@@ -43,33 +40,27 @@ def refusals():
     begins = [path.removesuffix("/..") for path, _ in found if path.endswith("/..")]
     return found | {(begin + path, method): names for begin in begins for (path, method), names in found.items()}
 
-
 CODE, REFUSALS = in_code(), refusals()
 HERE = {path: {key: it for key, it in item.items() if key != "parameters"} for path, item in API["paths"].items()}
 
-
 def test_paths_and_methods_are_those_of_the_code():
     assert {path: set(item) for path, item in HERE.items()} == CODE
-
 
 def test_paths_and_methods_of_the_page_are_those_of_the_code():
     rows = formats.rows("## A visit over HTTP")
     pairs = [(path, methods) for paths, methods, _ in rows for path in re.findall(r"`([^`]*)`", paths)]
     assert {in_braces(path): set(methods.lower().split(", ")) for path, methods in pairs} == CODE
 
-
 @pytest.mark.parametrize("path", HERE)
 def test_parts_of_a_path_are_declared(path):
     named = [one["$ref"].rpartition("/")[2] for one in API["paths"][path].get("parameters", [])]
     assert named == re.findall(r"\{(\w+)\}", path)
-
 
 @pytest.mark.parametrize("path, method", [(path, method) for path in HERE for method in HERE[path]])
 def test_statuses_are_those_of_the_page(path, method):
     numbers = {row[0].strip("`"): row[1].split(",")[0] for row in formats.rows("## Refusals")}
     wanted = {"200", *(numbers[name] for name in REFUSALS.get((path, method), set()) - NOT_HERE)}
     assert set(HERE[path][method]["responses"]) == wanted
-
 
 def test_limits_of_numbers_are_those_of_the_page():
     rows = re.findall(r"(?m)^\| ((?:`[A-Z]+`(?:, )?)+) \| a number from ([^|]*) \|$", text_of("docs/FORMATS.md"))
@@ -78,7 +69,6 @@ def test_limits_of_numbers_are_those_of_the_page():
     schemas = {name: part["schema"] for name, part in API["components"]["parameters"].items()}
     found = {name: [it["minimum"], it["maximum"]] for name, it in schemas.items() if it["type"] == "integer"}
     assert found and found == {name: page.get(name) for name in found}
-
 
 def test_references_lead_somewhere_and_each_is_used():
     names = [(kind, name) for kind in ("parameters", "schemas") for name in API["components"][kind]]

@@ -20,15 +20,12 @@ TEST = r"#\[test\](?:\s*(?:#\[.*\]|//.*))*\s*(?:pub(?:\([^)]*\))? )?fn {}\b"
 # What a clause says of the connection and of the disk, and the premises that mean it.
 MEANT = {"IsOpen": {"open", "open before"}, "IsClean": {"clean"}}
 
-
 def named(word, *kinds):
     """Each name behind a word of the records of some kinds: the record, the path and the name."""
     return [(record, *pair) for record in records.of_kind(*kinds) for pair in record.named(word)]
 
-
 def is_coded(path, name):
     return name.rpartition("::")[2] in rattle.items(path)
-
 
 # In which folders of crates it has to be what is named behind a word, and whether it is there. Of what is unproved a
 # whole file may be named.
@@ -36,16 +33,14 @@ THERE = {
     "defined": ("specs", lambda path, name: rattle.has_definition(path, name)),
     "coded": ("src", is_coded),
     "refused": ("must-fail more-edits", lambda path, name: text_of(path) and not name),
-    "file": ("specs", lambda path, name: path in rattle.specs() and not name),
+    "file": ("specs", lambda path, name: text_of(path) and path.endswith(".antt") and not name),
     "look": ("", lambda path, name: (ROOT / path).exists() and not name),
 }
-
 
 def is_in_python(path, name):
     """Whether a file of tests/ is one that pytest runs, with a test of this name, or any where none is named."""
     found = re.findall(r"(?m)^ *def (test_\w+)", text_of(path))
     return re.fullmatch(r"tests/\w+/test_\w+\.py", path) and (name in found if name else found)
-
 
 def is_in_rattle(record, path, name):
     """Whether a trial has this visit, run or note; a file of runs this run; or a test this text or function. What shows
@@ -60,11 +55,9 @@ def is_in_rattle(record, path, name):
         return f'name: "{name}",' in text
     return f'"{name}"' in text or is_coded(path, name) if record.kind == "rule" else re.search(TEST.format(word), text)
 
-
 @is_free_of_faults
 def test_lines_have_a_word_of_their_record():
     yield from records.read()[1]
-
 
 @pytest.mark.parametrize("kind", DUE)
 @is_free_of_faults
@@ -74,12 +67,10 @@ def test_records_say_what_is_due(kind):
             if not any(record.texts(word) for word in words.split()):
                 yield f"{record}: it has no line `{words.replace(' ', '` or `')}`"
 
-
 @is_free_of_faults
 def test_titles_stand_once():
     titles = collections.Counter((record.kind, record.title) for record in records.read()[0])
     yield from (f"{kind} {title}: it is there twice" for (kind, title), count in titles.items() if count > 1)
-
 
 @pytest.mark.parametrize("word", THERE)
 @is_free_of_faults
@@ -90,13 +81,11 @@ def test_names_are_there(word):
         if folders and parts_of(path)[1] not in folders.split() or not (is_whole or is_there(path, name)):
             yield f"{record}: no such `{word}`: {path} {name}"
 
-
 @is_free_of_faults
 def test_tests_are_there():
     for record, path, name in named("tested", "rule", "promise", "unproved"):
         if not (is_in_rattle(record, path, name) if parts_of(path)[0] else is_in_python(path, name)):
             yield f"{record}: no test, trial or label {path} {name}"
-
 
 @is_free_of_faults
 def test_proofs_that_are_not_automatic_are_named():
@@ -104,7 +93,6 @@ def test_proofs_that_are_not_automatic_are_named():
         own = {folder for pair in record.named("coded") for folder in rattle.proof_folders(*pair)}
         for path in sorted(own ^ set(record.texts("proved"))):
             yield f"{record}: {path} is not both named and a proof of a function that `coded` names"
-
 
 @is_free_of_faults
 def test_wrong_bodies_change_what_the_rule_names():
@@ -115,7 +103,6 @@ def test_wrong_bodies_change_what_the_rule_names():
             coded = {name.rpartition("::")[2] for coded, name in record.named("coded") if coded == file}
             if is_found and item not in coded:
                 yield f"{record}: {path} changes {item} of {file}, which `coded` does not name"
-
 
 @is_free_of_faults
 def test_each_refusal_fault_and_limit_has_a_rule():
@@ -131,7 +118,6 @@ def test_each_refusal_fault_and_limit_has_a_rule():
             if (path, name) not in coded:
                 yield f"no rule names the constant {name} of {path}"
 
-
 @is_free_of_faults
 def test_functions_of_a_way_are_called_by_others_of_it():
     """Each function but the first is called by another one of the way, or of the first way."""
@@ -145,9 +131,7 @@ def test_functions_of_a_way_are_called_by_others_of_it():
             if not called[name] - {(path, name)}:
                 yield f"{record}: no other function of the way calls {name} of {path}"
 
-
 # Promises
-
 
 @is_free_of_faults
 def test_clauses_are_there():
@@ -156,19 +140,18 @@ def test_clauses_are_there():
             if not rattle.clause_text(clause):
                 yield f"{record}: {clause.path} has no clause {clause.name} of {clause.owner or 'its function'}"
 
-
 @is_free_of_faults
 def test_promises_rest_on_the_sets_that_they_name():
-    """Each file of definitions is in one set."""
+    """Each file of definitions is in one set. A promise rests at least on those of files that its clauses name."""
     sets = {}
     for record, path, _ in named("file", "definitions"):
         if sets.setdefault(path, record.title) != record.title:
             yield f"{record}: {path} is in another set too"
     for record in records.of_kind("promise"):
-        rests = {sets.get(file, f"{file}, which is in no set") for file in rattle.rests_on(record.clauses())}
-        for name in rests ^ set(record.texts("rests")):
-            yield f"{record}: it does not both name and rest on {name}"
-
+        needed, possible = ({sets.get(file, file) for file in files} for files in rattle.rests_on(record.clauses()))
+        rests = set(record.texts("rests"))
+        yield from (f"{record}: it rests on {name} and does not name it" for name in needed - rests)
+        yield from (f"{record}: it names {name} and does not rest on it" for name in rests - possible)
 
 @is_free_of_faults
 def test_premises_are_those_that_clauses_say():

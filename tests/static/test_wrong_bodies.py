@@ -5,7 +5,6 @@ from static.rattle import ROOT, pairs_of, parts_of, text_of
 
 EDITS = sorted(str(edit.relative_to(ROOT)) for edit in ROOT.glob("crates/*/m*/*.edit"))
 
-
 @is_free_of_faults
 def test_old_texts_stand_once():
     """The changes of one wrong body are made one after the other."""
@@ -20,7 +19,6 @@ def test_old_texts_stand_once():
                 yield f"{path}: {old.strip()!r} stands {source.count(old)} times in {file}"
             elif old.strip() == new.strip():
                 yield f"{path}: {old.strip()!r} stays as it is"
-
 
 def test_no_two_have_one_name():
     assert EDITS and len({(parts_of(path)[0], parts_of(path)[2]) for path in EDITS}) == len(EDITS)
