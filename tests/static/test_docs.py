@@ -5,6 +5,7 @@ import os
 import re
 
 import pytest
+import unchanged
 from static import is_free_of_faults, rattle, records
 from static.rattle import ROOT, text_of
 
@@ -12,7 +13,6 @@ LINK = re.compile(r"(?<!!)\[[^\]]*\]\(([^)\s]+)\)")
 # A path in a page's text, as far as it is that of a file: no part of it in capitals stands for another word.
 PATH = re.compile(r"(?<![\w./-])((?:tests|tools|docs|operate|web|images|bench|crates|records)/[\w.*/-]*\w/?)")
 NO_PATH = re.compile(r"/out(/|$)|\*|(^|/)(NAME|CRATE|PROGRAM|PAGE|SUITE)")
-HYPHENS = re.compile(r"(\|:?-+:?)+\|")
 COUNTED = re.compile(r"\.(md|py|sh|rt|record|js|css|c)$|^(tools|tests)/[\w-]+$")
 # A name in backquotes, with what it belongs to; those that are not in Rattle; and the commands of desk.
 CODED = re.compile(r"`([A-Za-z_]\w*(?:(?:::|\.)\w+)*)`")
@@ -30,27 +30,14 @@ def shown(page):
     """The text of a page; lines of code are empty."""
     return re.sub(r"(?ms)^```.*?^```$", lambda code: "\n" * code[0].count("\n"), text_of(page))
 
-def headings(page):
-    return [(len(level), text.replace("`", "")) for level, text in re.findall(r"(?m)^(#+) (.*)", shown(page))]
-
 def anchors(page):
     """The names by which links lead to a page's headings."""
-    found = []
-    for _, heading in headings(page):
-        name = re.sub(r"[^\w\- ]", "", heading.lower()).replace(" ", "-")
-        found.append(f"{name}-{found.count(name)}" if name in found else name)
-    return found
+    found = re.findall(r"(?m)^#+ (.*)", shown(page))
+    return [re.sub(r"[^\w\- ]", "", heading.lower()).replace(" ", "-") for heading in found]
 
 def sections(page):
     """The parts of a page, by the texts of their headings."""
     return {part.partition("\n")[0].replace("`", ""): part for part in re.split(r"(?m)^## ", text_of(page))}
-
-@functools.cache
-def words_of_sources():
-    """The words of all sources in Rattle, without those of comments, and the names of crates and files."""
-    files = [*rattle.CRATES.glob("*/src/**/*.rt"), *rattle.CRATES.glob("*/specs/*.antt")]
-    texts = [re.sub(r"(?m)(//|--).*", "", file.read_text(encoding="utf-8")) for file in files]
-    return {name for file in files for name in (*file.parts, file.stem)}.union(re.findall(r"\w+", "\n".join(texts)))
 
 @of_each_page
 @is_free_of_faults
@@ -74,43 +61,27 @@ def test_paths_are_there(page):
 @is_free_of_faults
 def test_layout_of_pages(page):
     """One title, headings one level at a time, no blanks at the end of a line, text of 120 characters and lines of 400;
-    tables of a row, a line of hyphens and more rows, with as many cells in each."""
-    levels = [level for level, _ in headings(page)]
+    tables of rows with as many cells in each."""
+    levels = [len(level) for level in re.findall(r"(?m)^(#+) ", shown(page))]
     if levels[:1] != [1] or levels.count(1) > 1 or any(after > one + 1 for one, after in zip(levels, levels[1:])):
         yield f"{page}: it has not one title, or a heading is a level too deep"
-    if "```" in shown(page):
-        yield f"{page}: code does not end"
     for number, (line, text) in enumerate(zip(text_of(page).splitlines(), shown(page).splitlines()), 1):
         most = 120 if text and not text.startswith("|") and not LINK.search(text) else 400
         if line != line.rstrip() or "\t" in text or len(line) > most:
             yield f"{page}:{number}: a blank at its end, a tab, or {len(line)} characters"
     for table in re.findall(r"(?m)(?:^\|.*\n?)+", shown(page)):
-        rows = table.splitlines()
-        cells = {len(re.findall(r"(?<!\\)\|", row)) for row in rows}
-        hyphens = [number for number, row in enumerate(rows) if HYPHENS.fullmatch(row)]
-        if hyphens != [1] or len(rows) < 3 or len(cells) > 1:
-            yield f"{page}: no whole table: {rows[0]}"
+        if len({len(re.findall(r"(?<!\\)\|", row)) for row in table.splitlines()}) > 1:
+            yield f"{page}: no whole table: {table[:40]!r}"
 
 @is_free_of_faults
 def test_files_are_short():
     """No file has more than 800 lines, and no line of tests and tools more than 120 characters."""
-    for at, folders, names in os.walk(ROOT):
-        folders[:] = [name for name in folders if name not in (".git", "out", "__pycache__")]
-        for path in (os.path.relpath(os.path.join(at, name), ROOT) for name in names):
-            lines = text_of(path).splitlines() if COUNTED.search(path) else []
-            wide = [number for number, line in enumerate(lines, 1) if len(line) > 120]
-            if len(lines) > 800 or wide and path.startswith(("tests/", "tools/")):
-                yield f"{path}: {len(lines)} lines, too long are {wide}"
-
-@pytest.mark.parametrize("page", [page for page in PAGES if page == PROMISES or page.startswith("crates/")])
-@is_free_of_faults
-def test_names_in_backquotes_are_in_rattle(page):
-    for name in CODED.findall(shown(page)):
-        parts = re.split(r"::|\.", name)
-        if name not in KIT + OTHER_NAMES and not set(parts) <= words_of_sources() and parts[-1] != "rt":
-            yield f"{page}: nothing has the name {name}"
-
-# Promises, crates and ways
+    files = [str(file.relative_to(ROOT)) for top in os.listdir(ROOT) for file in unchanged.files_below(ROOT, top)]
+    for path in filter(COUNTED.search, files):
+        lines = text_of(path).splitlines()
+        wide = [number for number, line in enumerate(lines, 1) if len(line) > 120]
+        if len(lines) > 800 or wide and path.startswith(("tests/", "tools/")):
+            yield f"{path}: {len(lines)} lines, too long are {wide}"
 
 @is_free_of_faults
 def test_promises_are_those_of_the_records():
@@ -129,33 +100,15 @@ def test_promises_are_those_of_the_records():
     for name in {record.title for record in records.of_kind("premise")} ^ set(re.findall(r"(?m)^- \*([^*]+)\*:", text)):
         yield f"the premise {name} is not both here and in the records"
 
-def edges():
-    """The crates of ARCHITECTURE's graph and of the table below it, each after one that stands on it, or none."""
-    part, above, found = sections(ARCHITECTURE)["The crates"], [], []
-    for line in part.split("```")[1].splitlines():
-        if crate := re.search(r"rd_\w+", line):
-            above = [(depth, name) for depth, name in above if depth < crate.start()]
-            found.append((above[-1][1] if above else "", crate[0]))
-            above.append((crate.start(), crate[0]))
-    for row in re.findall(r"(?m)^\| (.*`rd_.*) \|.*\| (.*) \|$", part):
-        crates, below = (re.findall(r"`(\w+)`", cell) for cell in row)
-        found += [(name, each) for name in crates for each in below]
-    return found
-
-@is_free_of_faults
 def test_crates_are_those_of_the_list():
-    stands = {name: below.split() for name, below in re.findall(r"(?m)^(\w+):(.*)", text_of("crates.txt"))}
-    for name in {name for edge in edges() for name in edge if name.startswith("rd_")} ^ set(stands):
-        yield f"{name} is not both in {ARCHITECTURE} and in crates.txt"
-    for name, below in edges():
-        if name in stands and below not in stands[name]:
-            yield f"{name} does not stand on {below}"
+    named = set(re.findall(r"\brd_\w+", sections(ARCHITECTURE)["The crates"]))
+    assert named == set(re.findall(r"(?m)^(\w+):", text_of("crates.txt")))
 
 @is_free_of_faults
 def test_ways_are_those_of_the_records():
     """The steps of a way of ARCHITECTURE name functions of its record, in their order there."""
     ways = {f"The way of {record.title}": record for record in records.of_kind("way")}
-    told = {heading for _, heading in headings(ARCHITECTURE) if heading.startswith("The way of ")}
+    told = {heading for heading in sections(ARCHITECTURE) if heading.startswith("The way of ")}
     yield from (f"{way} is not both in {ARCHITECTURE} and in the records" for way in told ^ set(ways))
     for way in told & set(ways):
         due, steps = [name for _, name in ways[way].named("coded")], re.findall(STEP, sections(ARCHITECTURE)[way])

@@ -6,11 +6,11 @@ import sys
 import pytest
 from static.rattle import ROOT
 
-PAGES = [f"operate/package/{name}" for name in ("desk.1", "completion", "completion.zsh")]
-IMAGES = [f"images/{name}" for name in ("welcome.img", "museum.d64", "damaged.img", "damaged.d64")]
-MADE = [("make-help", path) for path in PAGES] + [("make-images", path) for path in (*IMAGES, "web/favicon.ico")]
+IMAGES = "images/welcome.img images/museum.d64 images/damaged.img images/damaged.d64 web/favicon.ico"
+PAGES = "operate/package/desk.1 operate/package/completion operate/package/completion.zsh"
 
-@pytest.mark.parametrize("tool, path", MADE)
-def test_file_is_what_its_tool_makes(tool, path, tmp_path):
+@pytest.mark.parametrize("tool, paths", [("make-help", PAGES), ("make-images", IMAGES)])
+def test_files_are_what_their_tool_makes(tool, paths, tmp_path):
     subprocess.run([sys.executable, "-B", ROOT / "tools" / tool, tmp_path], check=True)
-    assert (ROOT / path).read_bytes() == (tmp_path / path).read_bytes()
+    made = {path: (tmp_path / path).read_bytes() for path in paths.split()}
+    assert not [path for path in made if made[path] != (ROOT / path).read_bytes()]

@@ -1,4 +1,4 @@
-"""web/openapi.json has the paths, methods, statuses and limits of the code and of docs/FORMATS.md."""
+"""web/openapi.json has the paths, methods, statuses and limits of docs/FORMATS.md, and the paths of the code."""
 
 import json
 import re
@@ -8,21 +8,9 @@ from static import formats
 from static.rattle import text_of
 
 API = json.loads(text_of("web/openapi.json"))
-PATTERNS, ROUTES = text_of("crates/rd_messages/src/pattern.rt"), text_of("crates/rd_messages/src/route.rt")
 # What every request may be refused for, and what is refused before there is a request at all.
 ALWAYS, NOT_HERE = {"bad-head", "framing", "unavailable"}, {"no-route", "method"}
 PARTS = {name.upper(): name for name in ("acc", "deed", "rank", "slot", "kind", "digest", "date")}
-
-def in_code():
-    """The methods of each path of the code."""
-    paths = re.findall(r'"(/[^"]*)",\s*Pattern::(\w+)', PATTERNS.partition("const TABLE")[2].partition("];")[0])
-    arm = r"Pattern::(\w+) => (?:\{\s*)?(?:Some\(Route::(\w+)|Route::(rehearsal|rule)\()"
-    routes = {pattern: route or function.capitalize() for pattern, route, function in re.findall(arm, ROUTES)}
-    body = ROUTES.partition("fn methods(&self)")[2].partition("\n    }\n")[0]
-    arms = re.findall(r"((?:\|?\s*Route::\w+(?:\([^)]*\)| \{[^}]*\})?\s*)+)=> Methods::(\w+)", body)
-    sets = dict(re.findall(r"Methods::(\w+) => &\[([^\]]*)\]", ROUTES.partition("fn each(self)")[2]))
-    methods = {route: sets[name].lower() for cases, name in arms for route in re.findall(r"Route::(\w+)", cases)}
-    return {path: set(re.findall(r"method::(\w+)", methods[routes[pattern]])) for path, pattern in paths}
 
 def in_braces(path):
     """A path of the page as the code writes it."""
@@ -40,16 +28,17 @@ def refusals():
     begins = [path.removesuffix("/..") for path, _ in found if path.endswith("/..")]
     return found | {(begin + path, method): names for begin in begins for (path, method), names in found.items()}
 
-CODE, REFUSALS = in_code(), refusals()
+REFUSALS = refusals()
+STATUSES = {row[0].strip("`"): row[1].split(",")[0] for row in formats.rows("## Refusals")}
 HERE = {path: {key: it for key, it in item.items() if key != "parameters"} for path, item in API["paths"].items()}
 
-def test_paths_and_methods_are_those_of_the_code():
-    assert {path: set(item) for path, item in HERE.items()} == CODE
-
-def test_paths_and_methods_of_the_page_are_those_of_the_code():
+def test_paths_and_methods_are_those_of_the_page_and_the_code():
     rows = formats.rows("## A visit over HTTP")
     pairs = [(path, methods) for paths, methods, _ in rows for path in re.findall(r"`([^`]*)`", paths)]
-    assert {in_braces(path): set(methods.lower().split(", ")) for path, methods in pairs} == CODE
+    assert {in_braces(path): set(methods.lower().split(", ")) for path, methods in pairs} == {
+        path: set(item) for path, item in HERE.items()
+    }
+    assert set(HERE) == set(re.findall(r'"(/[^"]*)",\s*Pattern::', text_of("crates/rd_messages/src/pattern.rt")))
 
 @pytest.mark.parametrize("path", HERE)
 def test_parts_of_a_path_are_declared(path):
@@ -58,8 +47,7 @@ def test_parts_of_a_path_are_declared(path):
 
 @pytest.mark.parametrize("path, method", [(path, method) for path in HERE for method in HERE[path]])
 def test_statuses_are_those_of_the_page(path, method):
-    numbers = {row[0].strip("`"): row[1].split(",")[0] for row in formats.rows("## Refusals")}
-    wanted = {"200", *(numbers[name] for name in REFUSALS.get((path, method), set()) - NOT_HERE)}
+    wanted = {"200", *(STATUSES[name] for name in REFUSALS.get((path, method), set()) - NOT_HERE)}
     assert set(HERE[path][method]["responses"]) == wanted
 
 def test_limits_of_numbers_are_those_of_the_page():

@@ -119,21 +119,6 @@ def test_each_refusal_fault_and_limit_has_a_rule():
                 yield f"no rule names the constant {name} of {path}"
 
 @is_free_of_faults
-def test_functions_of_a_way_are_called_by_others_of_it():
-    """Each function but the first is called by another one of the way, or of the first way."""
-    ways = records.of_kind("way")
-    for record in ways:
-        called = collections.defaultdict(set)
-        for place in {place for way in (ways[0], record) for place in way.named("coded")}:
-            for found in re.findall(r"(?<!fn )\b(\w+)(?=\(|::<)", rattle.items(place[0]).get(place[1], "")):
-                called[found].add(place)
-        for path, name in record.named("coded")[1:]:
-            if not called[name] - {(path, name)}:
-                yield f"{record}: no other function of the way calls {name} of {path}"
-
-# Promises
-
-@is_free_of_faults
 def test_clauses_are_there():
     for record in records.of_kind("promise"):
         for clause in record.clauses():
