@@ -8,8 +8,7 @@ from static.rattle import text_of
 PROGRAM, DESK = "crates/rd_commands/src/refusal.rt", "crates/rd_protocol/src/refusal.rt"
 VISIT = "crates/rd_messages/src/fault.rt"
 # A reply and a line that stand in the code by themselves.
-UNAVAILABLE = "crates/rd_protocol/src/reply_text.rt", r'fixed_reply\((\d+), "\{\\"error\\":\\"(unavailable)\\"\}"\)'
-BAD_ROW = "crates/rd_program/src/import.rt", r'"row \{number\} (bad-row)\\n"'
+UNAVAILABLE, BAD_ROW = {"unavailable": "503"}, {"bad-row": "1"}
 
 def rows(heading):
     """The cells of the rows of the first table under a heading of the page."""
@@ -31,7 +30,6 @@ def by_name(path, function, pattern):
 @functools.cache
 def in_code():
     """All refusals of the code by their names: the statuses over HTTP, and those with which the program ends."""
-    status, unavailable = re.search(UNAVAILABLE[1], text_of(UNAVAILABLE[0])).groups()
     replied = by_name(VISIT, "body", r'\\"error\\":\\"([a-z-]+)\\"') | by_name(DESK, "name", r'"([a-z-]+)"')
     ends = by_name(PROGRAM, "name", r'"([a-z-]+)(?: [A-Z]0)?"')
-    return replied | {unavailable: status}, ends | {re.search(BAD_ROW[1], text_of(BAD_ROW[0]))[1]: "1"}
+    return replied | UNAVAILABLE, ends | BAD_ROW

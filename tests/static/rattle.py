@@ -12,7 +12,6 @@ CRATES = ROOT / "crates"
 PUBLIC = r"(?:pub(?:\([^)]*\))? )?"
 HEAD = rf"(?: *{PUBLIC}(?:const |unsafe |final )*(fn)|{PUBLIC}(?:const|static)) (\w+)"
 EDIT = re.compile(r"(?:file: .*\n(?:old: .*\nnew:.*\n)+)+")
-USE = re.compile(r"use Rattle\.(\w+)\.specs\.([\w.]+?)(?:\.\{([^}]*)\}| as (\w+))?;?$")
 # A clause: what it belongs to (none where the name is that of a function), its name and its file.
 Clause = collections.namedtuple("Clause", "owner name path")
 
@@ -52,8 +51,7 @@ def proofs_of(crate):
     return [(folder, [part.removeprefix("+") for part in folder.split("/")]) for folder in folders]
 
 def proof_folders(path, name):
-    """The folders with proofs of a function of a file in src/: below that of the file, or of a type whose methods the
-    file has and another declares."""
+    """Those of a function of a file in src/: below that of the file, or of a type whose methods it has."""
     module, types = path[:-3].replace("/src/", "/proofs/"), re.findall(r"(?m)^impl(?:<[^>]*>)? (\w+)", text_of(path))
     found = [(folder, parts[:-1]) for folder, parts in proofs_of(parts_of(path)[0]) if parts[-1] == name]
     return [folder for folder, parts in found if folder.startswith(f"{module}/") or {*types} & {*parts}]
@@ -92,22 +90,3 @@ def has_definition(path, name):
     head = rf"(?m)^(?: *(?:abbrev|unfoldable) pub| *pub (?:record|data)|pub) {re.escape(name)}(?=[ :])"
     return bool(clause_text(Clause(owner, field, path)) if owner else re.search(head, text_of(path)))
 
-def uses_in(path):
-    """Where a file's names come from: the spec file of each."""
-    uses = {}
-    for crate, file, names, alias in (found.groups() for found in map(USE.search, lines_of(path)) if found):
-        names = [name.rpartition(" as ")[2].strip() for name in (names or alias or "").split(",")]
-        uses |= dict.fromkeys(names, f"crates/{crate}/specs/{file}.antt")
-    return {name: file for name, file in uses.items() if text_of(file) and not file.endswith("/Lib.antt")}
-
-def rests_on(clauses):
-    """The spec files that clauses name, and all on which these may rest."""
-    named = {clause.path for clause in clauses if clause.path.endswith(".antt")}
-    for clause in clauses:
-        words = set(re.findall(r"[A-Za-z_][\w'-]*", clause_text(clause)))
-        named |= {file for name, file in uses_in(clause.path).items() if name in words}
-    found, to_do = set(), {*named}
-    while to_do:
-        found.add(path := to_do.pop())
-        to_do |= {*uses_in(path).values()} - found
-    return named, found

@@ -6,7 +6,6 @@ import re
 import subprocess
 
 import pytest
-from static import is_free_of_faults
 from static.rattle import CRATES, ROOT, text_of
 
 pytestmark = pytest.mark.timeout(1200)
@@ -80,12 +79,8 @@ def test_each_command_has_a_text():
     assert dict(re.findall(given, text_of("crates/rd_commands/specs/Helps.antt"))) == NAMES
     assert set(TEXTS) == {"DESK", *NAMES.values()}
 
-@is_free_of_faults
 def test_texts_are_those_of_clap(answers):
-    for name, words in ((name, words) for name in TEXTS for words in ASKS[name]):
-        if answers[words][0] != TEXTS[name]:
-            yield f"{words}: help.rt has another text"
+    assert not [words for name in TEXTS for words in ASKS[name] if answers[words][0] != TEXTS[name]]
 
-@is_free_of_faults
 def test_line_of_one_command_answers_as_that_of_all(answers):
-    yield from (f"{words}: {one!r}, and not {every!r}" for words, (one, every) in answers.items() if one != every)
+    assert not [(words, one, every) for words, (one, every) in answers.items() if one != every]

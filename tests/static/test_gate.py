@@ -56,16 +56,13 @@ def test_change_of_what_tests_share_runs_the_file_again(tree, suite):
     assert key(tree, suite, "one 2") != key(tree, suite)
 
 @of_each_suite
-def test_another_program_runs_the_file_again_where_it_needs_one(tree, suite):
-    before = key(tree, suite)
-    touch(tree / PROGRAM)
-    assert (key(tree, suite) != before) == (suite in gate.AFTER)
-
-@of_each_suite
-def test_seed_counts_where_cases_are_drawn_by_it(tree, suite):
+def test_another_program_or_seed_runs_the_file_again_where_it_counts(tree, suite):
     texts = [file.read_text() for file in (ROOT / "tests" / suite).glob("*.py")]
     draws = any(re.search(r"^ *def \w+\([^)]*\bseed\b(?!=)", text, re.M) for text in texts)
-    assert (key(tree, suite, seed=2) != key(tree, suite)) == draws
+    before = key(tree, suite)
+    assert (key(tree, suite, seed=2) != before) == draws
+    touch(tree / PROGRAM)
+    assert (key(tree, suite) != before) == (suite in gate.AFTER)
 
 def test_file_of_another_suite_leaves_the_key(tree):
     before = key(tree, "pages")
@@ -112,15 +109,6 @@ def test_skipped_test_and_run_without_a_whole_table_have_failed(tmp_path, status
     run.table, run.process = tmp_path / "one.xml", types.SimpleNamespace(wait=lambda: status)
     found, passed, failed = gate.Run.end(run)
     assert found == {"tests/e2e/test_x.py": counts} and passed == counts[0] and failed >= 1
-
-def test_no_two_files_of_tests_have_one_name():
-    names = [pathlib.PurePath(file).name for suite in SUITES for file in gate.files_of([suite]) if suite != "static"]
-    assert len(names) == len(set(names))
-
-@pytest.mark.parametrize("text", ["", "{"])
-def test_times_that_cannot_be_read_are_none(tmp_path, text):
-    (tmp_path / "seconds.json").write_text(text)
-    assert gate.read_json(tmp_path / "seconds.json", {}) == gate.read_json(tmp_path / "nothing.json", {}) == {}
 
 def test_what_breaks_is_told_in_the_last_line(monkeypatch, capsys):
     monkeypatch.setattr(gate, "main", lambda words: 1 / 0)
