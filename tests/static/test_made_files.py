@@ -1,4 +1,4 @@
-"""The man page, the completions, the images and the icon are what the tools make that write them."""
+"""The man page, the completions and the images are what the tools make that write them."""
 
 import subprocess
 import sys
@@ -6,7 +6,7 @@ import sys
 import pytest
 from static.rattle import ROOT
 
-IMAGES = "images/welcome.img images/museum.d64 images/damaged.img images/damaged.d64 web/favicon.ico"
+IMAGES = "images/welcome.img images/museum.d64 images/damaged.img images/damaged.d64"
 PAGES = "operate/package/desk.1 operate/package/completion operate/package/completion.zsh"
 
 @pytest.mark.parametrize("tool, paths", [("make-help", PAGES), ("make-images", IMAGES)])
