@@ -14,7 +14,6 @@ DRAWS = True
 # Has glibc take memory in large pages, which the system makes in much less time than small ones.
 LARGE_PAGES = "glibc.malloc.hugetlb=1:glibc.malloc.mmap_threshold=100000000:glibc.malloc.top_pad=16777216"
 
-
 @pytest.fixture(scope="session")
 def memory_folder():
     """A folder in the system's memory, if it has one: stores there are written thousands of times."""
@@ -23,16 +22,13 @@ def memory_folder():
         patch.setenv("GLIBC_TUNABLES", LARGE_PAGES)
         yield pathlib.Path(name)
 
-
 @pytest.fixture
 def chance(request, seed):
     return random.Random(f"{seed} {request.node.name}")
 
-
 @pytest.fixture(scope="session")
 def place(program, memory_folder):
     return refusals.Place(program, memory_folder)
-
 
 @pytest.fixture(scope="session")
 def memory(memory_folder):

@@ -2,8 +2,6 @@
 
 import collections
 import contextlib
-import hashlib
-import os
 import pathlib
 import re
 import shutil
@@ -16,7 +14,7 @@ import tempfile
 import pytest
 import refused_commands
 from support import server
-from support.samples import DONE, RECORD_DISK
+from support.samples import DONE, RECORD_DISK, digest
 
 STORE, LIMIT = "museum.sqlite", 600
 # Lines by which a command says that its store failed, which cannot tell why, and that it cannot read the last checks.
@@ -27,7 +25,6 @@ LONG = [pytest.mark.long, pytest.mark.timeout(3600)]
 MOST = pytest.mark.parametrize("most", [pytest.param(10, id="drawn"), pytest.param(None, id="all", marks=LONG)])
 # How a run ended, with the reply to a visitor.
 Ended = collections.namedtuple("Ended", "status output errors reply")
-
 
 class Memory:
     """Refuses one growth of memory. A command that says so has not done its work."""
@@ -43,7 +40,6 @@ class Memory:
     def counted(self):
         """How many growths were asked for, how many were refused, and the first that failed a child."""
         return struct.unpack("3l", self.counts.read_bytes())
-
 
 class Disk:
     """Fails each call on the store's files from one on. A command that says so may have done its work."""
@@ -68,8 +64,7 @@ class Disk:
         """How many calls came where nothing was refused, and whether one was refused now."""
         told = self.told.read_text()
         self.made = self.made or re.findall(r"^\d+ +(\w+)\(", told, re.M)
-        return len(self.made), "(INJECTED)" in told or "killed by SIGKILL" in told
-
+        return len(self.made), re.search(r"\(INJECTED\)|killed by SIGKILL", told)
 
 class Kill(Disk):
     """Kills the program at one call on the store's files."""
@@ -81,7 +76,6 @@ class Kill(Disk):
         names = self.made[:at]
         return [f"-einject={name}:signal=SIGKILL:when={names.count(name)}" for name in names[-1:]]
 
-
 class Place:
     """Where commands run: a folder with what they are given, one with the store that runs now, and a port."""
 
@@ -91,7 +85,7 @@ class Place:
         (self.work / "none").mkdir(parents=True)
         refused_commands.fill(self.work)
         # what SQLite says of a store of which the first bytes are torn
-        self.dumps, self.known = {}, {"torn": ("file is not a database", [])}
+        self.known = {"torn": ("file is not a database", [])}
 
     def run(self, command, before=()):
         """How a command ends, behind some words that have something refused to it."""
@@ -115,45 +109,24 @@ class Place:
             if text.startswith("desk "):
                 ran = self.run(refused_commands.Command(text))
                 assert ran.status == 0, f"store {name}: {ran}"
-            else:
-                with contextlib.closing(sqlite3.connect(self.now / STORE)) as connection:
-                    connection.executescript(text)
+            elif text:
+                subprocess.run(["sqlite3", "-bail", self.now / STORE, text], check=True)
             shutil.copytree(self.now, self.work / name)
         shutil.rmtree(self.now, ignore_errors=True)
         shutil.copytree(self.work / name, self.now)
         self.known[name] = self.held()
 
-    def digests(self):
-        return tuple((path.name, hashlib.sha256(path.read_bytes()).digest()) for path in sorted(self.now.iterdir()))
-
     def held(self):
-        """What SQLite dumps of the store, and the digests of what else is in its folder."""
-        digests = self.digests()
-        if digests not in self.dumps:
-            self.dumps[digests] = dump_of(self.now / STORE), [one for one in digests if not one[0].startswith(STORE)]
-        return self.dumps[digests]
-
-
-@contextlib.contextmanager
-def copied(store):
-    """SQLite's connection to a copy of a store and its log, and the copy's path."""
-    with tempfile.TemporaryDirectory(dir=pathlib.Path(store).parent.parent) as name:
-        path = pathlib.Path(name, STORE)
-        for suffix in ("", "-wal"):
-            if os.path.exists(f"{store}{suffix}"):
-                shutil.copy(f"{store}{suffix}", f"{path}{suffix}")
-        with contextlib.closing(sqlite3.connect(path)) as connection:
-            yield connection, path
-
-
-def dump_of(store):
-    """The digest of all statements that make a store; or SQLite's fault."""
-    with copied(store) as (connection, _):
-        try:
-            return hashlib.sha256("\n".join(connection.iterdump()).encode()).hexdigest()
-        except sqlite3.DatabaseError as fault:
-            return str(fault)
-
+        """The digest of what SQLite dumps of a copy of the store, or its fault, and of what else is in the folder."""
+        others = [path for path in sorted(self.now.iterdir()) if not path.name.startswith(STORE)]
+        with tempfile.TemporaryDirectory(dir=self.now.parent) as copy:
+            shutil.copytree(self.now, copy, dirs_exist_ok=True)
+            with contextlib.closing(sqlite3.connect(pathlib.Path(copy, STORE))) as connection:
+                try:
+                    dump = digest("\n".join(connection.iterdump()).encode())
+                except sqlite3.DatabaseError as fault:
+                    dump = str(fault)
+        return dump, [(path.name, digest(path.read_bytes())) for path in others]
 
 def reply_to(request, place):
     """What comes of a request, as far as it comes: a desk that is killed or fails may end at any byte."""
@@ -164,12 +137,11 @@ def reply_to(request, place):
             came += part
     return came
 
-
 class Sweep:
     """A command, what is refused to it, and how it ends where nothing is."""
 
     def __init__(self, place, command, refusal):
-        self.place, self.command, self.refusal, self.did_again = place, command, refusal, set()
+        self.place, self.command, self.refusal = place, command, refusal
         self.has_store, self.has_rows = "{store}" in command.words, command.words.split()[1] in ("import", "files")
         for name in (*command.stores, command.stores[0]):
             place.take(name)
@@ -186,28 +158,27 @@ class Sweep:
     def holds(self, *names):
         return self.place.held() in [self.place.known[name] for name in names]
 
-    def faults(self, chance, most):
-        """What is wrong where some calls are refused, each in turn, the first and the last among them; or all."""
+    def refuse(self, chance, most):
+        """Has some calls refused, each in turn, the first and the last among them; or all."""
         every = range(1, self.count + 1)
-        numbers = sorted({1, self.count, *chance.sample(every, min(most, self.count))}) if most else every
-        found = ((at, self.fault(at)) for at in numbers)
-        return [f"call {at} of {self.count}: {fault}" for at, fault in found if fault]
+        for at in sorted({1, self.count, *chance.sample(every, min(most, self.count))}) if most else every:
+            ran = self.run(at)
+            self.judge(ran)
+            if not self.is_as_ever(ran):
+                self.run_again(at)
 
     def run(self, at):
         self.place.take(self.command.stores[0])
-        ran = self.place.run(self.command, self.refusal.words(self.place, at))
-        assert self.refusal.counted()[1], f"call {at} of {self.count} did not come: {ran}"
+        self.said, ran = f"call {at} of {self.count}", self.place.run(self.command, self.refusal.words(self.place, at))
+        assert self.refusal.counted()[1], f"{self.said} did not come: {ran}"
         return ran
 
-    def fault(self, at):
-        ran = self.run(at)
-        return self.fault_of(ran) or (None if self.is_as_ever(ran) else self.fault_again(at))
-
-    def fault_of(self, ran):
-        """What is wrong with how a run ended, or with the store that it left."""
-        if self.is_as_ever(ran):
-            return None if self.holds(self.command.stores[-1]) else f"done, with another store: {ran}"
-        return None if self.is_cut_off(ran) and self.holds(*self.may_hold(ran)) else f"neither done nor refused: {ran}"
+    def judge(self, ran):
+        """Fails where a run ended otherwise than it may, or left another store."""
+        is_whole = self.is_as_ever(ran)
+        assert is_whole or self.is_cut_off(ran), f"{self.said}: neither done nor refused: {ran}"
+        stores = self.command.stores[-1:] if is_whole else self.may_hold(ran)
+        assert self.holds(*stores), f"{self.said}: another store: {ran}"
 
     def is_as_ever(self, ran):
         """It ended as where nothing is refused; of an explanation it may leave lines out."""
@@ -240,17 +211,13 @@ class Sweep:
         others = [after] * bool(may_be_done or "export" in self.command.words)
         return [before, *others, *["torn"] * (self.refusal.may_be_done and before == "none")]
 
-    def fault_again(self, at):
-        """What is wrong with a second run over what the first one left, or with a look at it where all is done; before
-        that, it may be killed once more. It hangs on the bytes of the store: those that were right are left out."""
+    def run_again(self, at):
+        """Fails where a second run does not do all over what the first one left, or where desk cannot look at it if all
+        is done. Before that, it may be killed once more."""
         if self.refusal.kills and at % 2:
             self.place.run(self.command, self.refusal.words(self.place, at))
-        left, (before, *_, after) = self.place.digests(), self.command.stores
-        if not self.has_store or left in self.did_again:
-            return None
-        is_done = self.refusal.may_be_done and self.holds(after) and not self.holds(before)
-        ran = self.place.run(self.look if is_done else self.command)
-        if ran != (self.looked if is_done else self.ever) or not self.holds(after):
-            return f"a second run does something else: {ran}"
-        self.did_again.add(left)
-        return None
+        before, *_, after = self.command.stores
+        if self.has_store:
+            is_done = self.refusal.may_be_done and self.holds(after) and not self.holds(before)
+            ran = self.place.run(self.look if is_done else self.command)
+            assert ran == (self.looked if is_done else self.ever) and self.holds(after), f"{self.said}: again: {ran}"

@@ -1,12 +1,9 @@
 /* A preloaded allocator: it counts the calls of malloc and realloc, and answers NULL to the one of number REFUSE_AT.
-   With REFUSE_EACH it refuses each in turn, in a child of the process, for which the process waits before it goes on.
-   Random numbers are the same in each run, so that runs which do the same leave the same bytes. */
+   With REFUSE_EACH it refuses each in turn, in a child of the process, and waits for the child. */
 #define _GNU_SOURCE
 #include <dlfcn.h>
-#include <errno.h>
 #include <fcntl.h>
 #include <stdlib.h>
-#include <string.h>
 #include <sys/mman.h>
 #include <sys/wait.h>
 #include <unistd.h>
@@ -44,11 +41,7 @@ static int refuses(void)
     counts->calls++;
     if (getenv("REFUSE_EACH"))
         return refuses_in_a_child();
-    if (!at || counts->calls != atol(at))
-        return 0;
-    counts->refused++;
-    errno = ENOMEM;
-    return 1;
+    return at && counts->calls == atol(at) && ++counts->refused;
 }
 
 void *malloc(size_t size)
@@ -61,11 +54,4 @@ void *realloc(void *old, size_t size)
 {
     void *(*next)(void *, size_t) = (void *(*)(void *, size_t))dlsym(RTLD_NEXT, "realloc");
     return refuses() ? NULL : next(old, size);
-}
-
-int getentropy(void *bytes, size_t count)
-{
-    static int given;
-    memset(bytes, ++given, count);
-    return 0;
 }

@@ -1,17 +1,15 @@
 """Commands to which something is refused, and the stores over which they run. Words in braces are places of the run."""
 
 import collections
-import hashlib
 
 from support import cpm_image, server, trials
 from support.samples import (
-    ALL, EVERY, LOOP_DISK, MARKED_DISK, PROGRAM_DISK, RECORD_DISK, badge, drop, put, put_image, put_rule, raw
+    ALL, EVERY, LOOP_DISK, MARKED_DISK, PROGRAM_DISK, RECORD_DISK, badge, digest, drop, put, put_image, put_rule, raw
 )
 
 # Words, a part of what they write, and the status; the store before them and after them, or with rows after each line;
 # and the request of a visitor.
-FIELDS = "words part status stores request"
-Command = collections.namedtuple("Command", FIELDS, defaults=(b"", 0, ("none", "none"), b""))
+Command = collections.namedtuple("Command", "words part status stores request", defaults=(b"", 0, 2 * ("none",), b""))
 
 ZONE = "CET-1CEST,M3.5.0,M10.5.0/3"
 WHEN, KEY = f"--at 1893452400 --zone {ZONE}", "--key abc"
@@ -41,10 +39,8 @@ SHEETS = {
     "holed": [(13, "d64", "nothing.d64", b"x"), (12, "d64", "program.d64")],
 }
 
-
 def row_of(work, acc, kind, name, other=None):
-    return f"{acc},{kind},7,{hashlib.sha256(other or GIVEN[name]).hexdigest()},{work / name}"
-
+    return f"{acc},{kind},7,{digest(other or GIVEN[name])},{work / name}"
 
 def fill(work):
     """Makes the files that all runs use."""
@@ -53,7 +49,6 @@ def fill(work):
     for name, rows in SHEETS.items():
         lines = ["accession,kind,deed,sha256,file", *(row_of(work, *row) for row in rows)]
         (work / f"{name}.csv").write_text("\n".join([*lines, ""]))
-
 
 # The stores: the name of that from which a command, or some SQL, makes each.
 CHANGED = "UPDATE image SET bytes = CAST(substr(bytes, 1, 86018) || 'B' || substr(bytes, 86020) AS BLOB)"
@@ -91,7 +86,6 @@ VISITS = {
 OVER_STORES = {
     "init": Command(INIT, b"done\n", 0, ("none", "made")),
     "init-sums": Command(f"{INIT} --sums", b"done\n", 0, ("none", "made")),
-    "init-exists": Command(INIT, b"desk: exists\n", 1, ("made", "made")),
     "staff-key": Command(STAFF_KEY, b"done\n", 0, ("filled", "keyed")),
     "import": Command(f"{IMPORT}record.csv", ROW, 0, ("ruled", "filled")),
     "import-again": Command(f"{IMPORT}record.csv", ROW, 0, FILLED),
@@ -114,7 +108,6 @@ OVER_STORES = {
 
 # Commands that have no store, of which some fail as ever. Their input is the image of record.img.
 WITHOUT_STORE = {
-    "cat-path": Command("desk cat cpm8 {work}/record.img 0", b"HELLO FROM CP/M\r\n"),
     "cat": Command("desk cat cpm8 - 0", b"HELLO FROM CP/M\r\n"),
     "cat-hole": Command("desk cat cpm8 {work}/damaged.img 2", b"desk: faulty hole\n", 1),
     "cat-listed-only": Command("desk cat d64 {work}/mixed.d64 0", b"desk: listed-only\n", 1),
@@ -127,6 +120,5 @@ WITHOUT_STORE = {
     "show-long-key": Command("desk show keys --store f --key-file {work}/loop.d64 --explain", b"desk: device\n  ", 3),
     "show-no-store": Command(SHOW.format("keys"), b"desk: not-a-desk\n", 3),
     "files": Command(TO_FOLDER % "two", b"\t128\n", 0, ("none", "one-file", "two-files")),
-    "version": Command("desk --version", b"desk 0.1.0\n"),
     "help": Command("desk --help", b"desk cat cpm8 disk.img 0"),
 }

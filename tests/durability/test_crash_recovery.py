@@ -9,12 +9,10 @@ import refusals
 from refused_commands import OVER_STORES
 from support.samples import DONE
 
-
 @refusals.MOST
 @pytest.mark.parametrize("name", OVER_STORES)
 def test_killed_desk_keeps_what_it_told_as_done(name, most, place, tmp_path, chance):
-    assert not refusals.Sweep(place, OVER_STORES[name], refusals.Kill(tmp_path / "calls")).faults(chance, most)
-
+    refusals.Sweep(place, OVER_STORES[name], refusals.Kill(tmp_path / "calls")).refuse(chance, most)
 
 @pytest.mark.parametrize("name", ["made-deeded", "ruled-program"])
 def test_lost_log_is_seen(name, place, tmp_path):
@@ -22,6 +20,8 @@ def test_lost_log_is_seen(name, place, tmp_path):
     sweep = refusals.Sweep(place, OVER_STORES[name], refusals.Kill(tmp_path / "calls"))
     calls = range(1, sweep.count)
     ran = sweep.run(calls[bisect.bisect_left(calls, True, key=lambda at: sweep.run(at).reply == DONE)])
-    assert ran.reply == DONE and sweep.fault_of(ran) is None
+    assert ran.reply == DONE
+    sweep.judge(ran)
     (place.now / f"{refusals.STORE}-wal").write_bytes(b"")
-    assert sweep.fault_of(ran)
+    with pytest.raises(AssertionError, match="another store"):
+        sweep.judge(ran)

@@ -15,26 +15,19 @@ from support.server import ROOT
 COMMANDS = OVER_STORES | WITHOUT_STORE
 PROGRAM = "crates/rd_main/out/rd_main"
 
-
 @refusals.MOST
 @pytest.mark.parametrize("name", COMMANDS)
 def test_command_loses_nothing_where_a_growth_of_memory_is_refused(name, most, place, memory, chance):
-    assert not refusals.Sweep(place, COMMANDS[name], memory).faults(chance, most)
-
+    refusals.Sweep(place, COMMANDS[name], memory).refuse(chance, most)
 
 @refusals.MOST
 @pytest.mark.parametrize("name", OVER_STORES)
 def test_command_loses_nothing_where_the_disk_fails(name, most, place, tmp_path, chance):
-    assert not refusals.Sweep(place, OVER_STORES[name], refusals.Disk(tmp_path / "calls")).faults(chance, most)
-
-
-# The tests of crates
-
+    refusals.Sweep(place, OVER_STORES[name], refusals.Disk(tmp_path / "calls")).refuse(chance, most)
 
 def ran(words, **settings):
     how = {"stdin": subprocess.DEVNULL, "capture_output": True, "text": True}
     return subprocess.run(words, **how, env={**os.environ, **settings})
-
 
 def plans_of(tests, name):
     """The variables that name each plan of a test, one after the other until it says that it has no more."""
@@ -42,7 +35,6 @@ def plans_of(tests, name):
         return [{}]
     plans = [{"REFUSED_PLAN": f"{number:02}"} for number in range(100)]
     return plans[: next(at for at, plan in enumerate(plans) if "no plan has" in str(ran([tests, name], **plan)))]
-
 
 def fault_of(memory, folder, tests, name, plan):
     """What is wrong with a test, or a plan of it, of which each growth is refused in a child of its own."""
@@ -53,7 +45,6 @@ def fault_of(memory, folder, tests, name, plan):
         return None
     again = ran([*own.words(None, failed), tests, name], **plan)
     return f"{name} {plan}: {refused} of {calls} refused; growth {failed}: {(again.stdout + again.stderr)[-500:]}"
-
 
 @pytest.mark.long
 @pytest.mark.timeout(3 * 3600)

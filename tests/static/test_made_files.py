@@ -5,9 +5,8 @@ import sys
 
 from static.rattle import ROOT
 
-NAMES = ("desk.1", "completion", "completion.zsh")
+PAGES = [f"operate/package/{name}" for name in ("desk.1", "completion", "completion.zsh")]
 
 def test_files_are_what_their_tool_makes(tmp_path):
     subprocess.run([sys.executable, "-B", ROOT / "tools/make-help", tmp_path], check=True)
-    folder = "operate/package"
-    assert not [name for name in NAMES if (ROOT / folder / name).read_bytes() != (tmp_path / folder / name).read_bytes()]
+    assert not [page for page in PAGES if (ROOT / page).read_bytes() != (tmp_path / page).read_bytes()]
