@@ -1,5 +1,4 @@
-"""What the sources in Rattle say, as far as lines and names show it: functions, clauses, definitions and wrong bodies,
-and the spec files on which a clause rests. Each file is read once."""
+"""What the sources in Rattle say, as far as lines and names show it. Each file is read once."""
 
 import collections
 import functools

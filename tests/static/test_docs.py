@@ -1,4 +1,4 @@
-"""The pages say what is there: links, paths, names, crates, ways and promises; and files have a layout."""
+"""The pages say what is there: links, paths, crates, ways and promises; and files are short."""
 
 import functools
 import os

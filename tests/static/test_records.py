@@ -108,6 +108,12 @@ def test_promises_rest_on_sets_that_are_there_and_each_file_is_in_one():
     assert rests == {record.title for record in records.of_kind("definitions")}
 
 def test_premises_are_needed_and_there():
-    """A promise may say of what part of it a premise is, before a colon."""
     needs = {text.rpartition(": ")[2] for record in records.of_kind("promise") for text in record.texts("needs")}
     assert needs == {record.title for record in records.of_kind("premise")}
+
+def test_clause_on_an_open_connection_or_a_clean_disk_has_the_premise():
+    meant = {"IsOpen": {"open", "open before"}, "IsClean": {"clean"}}
+    for record in records.of_kind("promise"):
+        needs = {text.rpartition(": ")[2] for text in record.texts("needs")}
+        said = set(re.findall(r"\b(?:IsOpen|IsClean)\b", "\n".join(map(rattle.clause_text, record.clauses()))))
+        assert all(meant[word] & needs for word in said), record
