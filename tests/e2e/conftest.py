@@ -9,6 +9,17 @@ INPUTS = ("web", "images", "crates/rd_trials/data")
 DRAWS = True
 
 
+@pytest.fixture
+def ends(desk, tmp_path):
+    """Runs a command in the test's folder, and gives how it ends: its status, and what it writes."""
+
+    def run(*words, **how):
+        ran = desk(*words, cwd=tmp_path, **how)
+        return ran.returncode, ran.stdout.decode(), ran.stderr.decode()
+
+    return run
+
+
 def fill(program, store, cases):
     """Has a desk answer these, and end, so that the store is one file."""
     with clients.Serving(program, store, len(cases)) as served:
@@ -27,10 +38,20 @@ def filled(desk, program, tmp_path_factory):
     return fill(program, store, [*samples.FIRST, *samples.MORE])
 
 
+@pytest.fixture(scope="session")
+def long_filled(filled, program, tmp_path_factory):
+    """The filled store with a disk that is full of one file."""
+    return fill(program, shutil.copy(filled, tmp_path_factory.mktemp("long") / "desk.sqlite"), samples.LONG)
+
+
 @pytest.fixture
 def store(filled, tmp_path):
-    """A copy of the filled store, for one test."""
     return shutil.copy(filled, tmp_path / "desk.sqlite")
+
+
+@pytest.fixture
+def long_store(long_filled, tmp_path):
+    return shutil.copy(long_filled, tmp_path / "desk.sqlite")
 
 
 @pytest.fixture
@@ -40,20 +61,7 @@ def server(serving, store):
         yield served
 
 
-@pytest.fixture(scope="module")
-def reading(serving, filled, tmp_path_factory):
-    """The same for all tests of a module, none of which changes it."""
-    with serving(shutil.copy(filled, tmp_path_factory.mktemp("reading") / "desk.sqlite")) as served:
-        yield served
-
-
-@pytest.fixture(scope="session")
-def long_store(filled, program, tmp_path_factory):
-    """The filled store with a disk that is full of one file."""
-    return fill(program, shutil.copy(filled, tmp_path_factory.mktemp("long") / "desk.sqlite"), samples.LONG)
-
-
 @pytest.fixture
-def long_server(serving, long_store, tmp_path):
-    with serving(shutil.copy(long_store, tmp_path / "desk.sqlite")) as served:
+def long_server(serving, long_store):
+    with serving(long_store) as served:
         yield served

@@ -1,52 +1,19 @@
-"""What only the real process shows: its status and streams, the rights of its files and sockets, paths that are no
-files, a store whose bits flip, and two programs at one store. What it prints otherwise the trials show."""
+"""What only the real process shows: its status and streams, pipes, paths that are no files, the rights of its files and
+sockets, sums, and two programs at one store. What it prints otherwise the trials show."""
 
-import contextlib
 import os
 import pathlib
 import stat
 import subprocess
-import threading
 
 import pytest
 from support import model_disks
-from support.server import ROOT, free_port, socket_at
+from support.server import ROOT, socket_at
 
-IMAGES = pathlib.Path(ROOT, "images")
-WELCOME, MUSEUM = str(IMAGES / "welcome.img"), str(IMAGES / "museum.d64")
-DISK = pathlib.Path(WELCOME).read_bytes()
-TEXT = model_disks.read("cpm8", DISK).files[0].data
-LIST = b"0\t0\tTXT\t896\t\tWELCOME.TXT\n1\t0\tTXT\t640\t\tSKEW.TXT\nfiles\t2\tend\n"
-SHEET = "accession,kind,deed,sha256,file\n"
-KEY, NO_VISIT = ["--key", "abc"], ["--count", "0"]
-# The status of each refusal.
-REFUSED = {"exists": 1, "wrong-size": 1, "listed-only": 1, "usage": 2, "store": 3, "device": 3, "not-a-desk": 3}
-# The byte of a store that says how many bytes of each page are left to a sum.
-PAGE, SUM_BYTES = 4096, 20
-
-
-def ending(ran):
-    return ran.returncode, ran.stdout, ran.stderr
-
-
-def refusal(name, *lines):
-    """How a command ends that is refused, and explains it by these lines."""
-    return REFUSED[name], b"", "\n  ".join([f"desk: {name}", *lines]).encode() + b"\n"
-
-
-DONE = 0, b"done\n", b""
-
-
-def kind_at(path):
-    """What is at a path: its mode and kind, and where a link leads; None where nothing is."""
-    if os.path.lexists(path):
-        return stat.filemode(os.lstat(path).st_mode), path.is_symlink() and os.readlink(path)
-
-
-@pytest.fixture
-def ends(desk, tmp_path):
-    """Runs a command in the test's folder, and gives how it ends."""
-    return lambda *words, **how: ending(desk(*words, cwd=tmp_path, **how))
+WELCOME, MUSEUM = (pathlib.Path(ROOT, "images", name) for name in ("welcome.img", "museum.d64"))
+KEY, SERVE, DONE = ["--key", "abc"], ["serve", "--count", "0"], (0, "done\n", "")
+EXISTS, USAGE = (1, "", "desk: exists\n"), (2, "", "desk: usage\n")
+STORE, DEVICE, NO_DESK = ((3, "", f"desk: {name}\n") for name in ("store", "device", "not-a-desk"))
 
 
 @pytest.fixture
@@ -61,288 +28,134 @@ def plain(ends, tmp_path):
     return tmp_path / "plain"
 
 
-def keys(desk, store):
+def keys(ends, name):
     """What shows that a store opens as the desk that it was."""
-    ran = desk("show", "keys", "--store", store, *KEY)
-    assert (ran.returncode, ran.stderr, ran.stdout.count(b'"audience"')) == (0, b"", 1)
-    return ran.stdout
-
-
-# Statuses and streams
-
-
-def test_help_is_output_and_a_mistake_an_error(desk):
-    told, mistaken = desk("--help"), desk("list", "d65", WELCOME)
-    assert (told.returncode, told.stderr, mistaken.returncode, mistaken.stdout) == (0, b"", 2, b"")
-    assert told.stdout and mistaken.stderr
+    status, told, errors = ends("show", "keys", "--store", name, *KEY)
+    assert (status, told.count('"audience"'), errors) == (0, 1, "")
+    return told
 
 
 @pytest.mark.parametrize("words, wanted", [
-    (["cat", "cpm8", WELCOME, "0"], (0, TEXT, b"")),
-    (["list", "cpm8", "--", WELCOME], (0, LIST, b"")),
-    (["-V", "list"], (0, b"desk 0.1.0\n", b"")),
-    (["cat", "d64", MUSEUM, "1"], refusal("listed-only")),
-    (["list", "cpm8", b"\xff"], refusal("usage")),
-    (["list", "cpm8", "missing"], refusal("device")),
-    (["cat", "cpm8", "/", "0"], refusal("device")),
-    (["list", "cpm8", "/dev/zero"], refusal("wrong-size")),
-], ids=lambda case: case[0] if isinstance(case, list) else f"status-{case[0]}")
-def test_status_and_streams(program, words, wanted):
-    assert ending(subprocess.run([program, *words], capture_output=True, timeout=60)) == wanted
+    (["cat", "cpm8", WELCOME, 0], (0, model_disks.read("cpm8", WELCOME.read_bytes()).files[0].data.decode(), "")),
+    (["-V", "list"], (0, "desk 0.1.0\n", "")), (["cat", "d64", MUSEUM, 1], (1, "", "desk: listed-only\n")),
+    (["list", "cpm8", os.fsdecode(b"\xff")], USAGE), (["list", "cpm8", "missing"], DEVICE),
+], ids=["bytes", "text", "refused", "usage", "device"])
+def test_status_and_streams(ends, words, wanted):
+    assert ends(*words) == wanted
 
 
-@contextlib.contextmanager
-def bad_stream(name):
-    """The words for a process whose standard output takes nothing."""
-    how = {"capture_output": False, "stderr": subprocess.PIPE}
-    if name == "closed":
-        yield {**how, "preexec_fn": lambda: os.close(1)}
-    elif name == "full":
-        with open("/dev/full", "wb") as full:
-            yield {**how, "stdout": full}
-    else:
-        reading, writing = os.pipe()
-        os.close(reading)
-        yield {**how, "stdout": writing, "restore_signals": name == "unread"}
-        os.close(writing)
+def test_help_is_output_and_a_mistake_an_error(ends):
+    status, output, errors = ends("list", "d65", WELCOME)
+    assert (status, output, "d65" in errors) == (2, "", True)
+    assert ends("--help")[::2] == (0, "")
 
 
-UNREAD = "nobody reads what is written there"
-
-
-@pytest.mark.parametrize("words", [["cat", "cpm8", WELCOME, 0], ["list", "cpm8", WELCOME], ["--help"], ["--version"]],
-                         ids=lambda words: words[0])
 @pytest.mark.parametrize("stream, told", [
-    ("full", "the disk is full"), ("unread", UNREAD), ("unread-without-a-signal", UNREAD),
+    ("full", "the disk is full"), ("unread", "nobody reads what is written there"),
     ("closed", "the system failed, and says no more"),
 ])
-def test_output_that_cannot_be_written(desk, stream, told, words):
-    explains = not words[0].startswith("-")
-    with bad_stream(stream) as how:
-        ran = desk(*words, *explains * ["--explain"], **how)
-    assert ran.returncode == 3
-    assert ran.stderr.decode() == "desk: device\n" + explains * f"  standard output: {told}\n"
+def test_output_that_cannot_be_written(desk, stream, told):
+    reading, writing = os.pipe()
+    os.close(reading)
+    with open("/dev/full", "wb") as full, open(writing, "wb") as unread:
+        closes = {"preexec_fn": lambda: os.close(1)}
+        how = {"full": {"stdout": full}, "unread": {"stdout": unread}, "closed": closes}[stream]
+        ran = desk("list", "cpm8", WELCOME, "--explain", capture_output=False, stderr=subprocess.PIPE, **how)
+    assert (ran.returncode, ran.stderr.decode()) == (3, f"desk: device\n  standard output: {told}\n")
 
 
-def test_store_is_not_taken_for_a_closed_stream(desk, tmp_path):
+def test_store_is_not_taken_for_a_closed_stream(desk, ends, tmp_path):
     how = {"capture_output": False, "stdin": None, "preexec_fn": lambda: os.closerange(0, 3)}
     assert desk("init", "--store", tmp_path / "store", *KEY, **how).returncode == 3
-    keys(desk, tmp_path / "store")
+    keys(ends, "store")
 
 
-def test_image_by_a_pipe_in_pieces(program):
-    with subprocess.Popen([program, "list", "cpm8", "-"], stdin=subprocess.PIPE, stdout=subprocess.PIPE) as process:
-        for at in range(0, len(DISK), 999):
-            os.write(process.stdin.fileno(), DISK[at : at + 999])
-        assert process.communicate(timeout=60)[0] == LIST
+def test_image_by_a_pipe(ends):
+    told = ends("list", "cpm8", WELCOME)
+    assert (told[0], ends("list", "cpm8", "-", input=WELCOME.read_bytes())) == (0, told)
 
 
-@pytest.mark.parametrize("image", [b"", DISK[:-1], DISK + b"x"], ids=["none", "short", "long"])
-def test_image_of_another_size_by_a_pipe(ends, image):
-    assert ends("list", "cpm8", "-", input=image) == refusal("wrong-size")
+@pytest.mark.parametrize("words, paths, wanted", [
+    (["init", *KEY, "--store"], [":memory:", "file:desk", "", "none/new", "folder"], STORE),
+    (["export", "--store"], ["", "none/store", "dangling", "text", "folder"], STORE),
+    (["copy", "--store", "plain", "--to"], [":memory:", "file:desk", "", "none/new"], STORE),
+    (["copy", "--store", "plain", "--to"], ["empty", "folder", "dangling", "link", "plain-wal", "other"], EXISTS),
+], ids=["init", "export", "copy", "copy-over"])
+def test_store_is_made_in_a_new_file_and_opened_in_a_file_alone(ends, plain, words, paths, wanted):
+    def seen():
+        found = (path for path in plain.parent.iterdir() if path.name != "plain-wal")
+        return {path: path.is_symlink() or path.is_file() and path.read_bytes() for path in found}
 
-
-def test_long_sheet_by_a_pipe(ends, plain):
-    sheet = SHEET.encode() + 20_000 * b"12,zip,7,0,none\n"
-    lines = "".join(f"row {row} bad-row\n" for row in range(1, 20_001)).encode()
-    assert ends("import", "--store", "plain", *KEY, "--sheet", "/dev/stdin", input=sheet) == (1, lines, b"")
-
-
-# Paths
-
-
-@pytest.mark.parametrize("words, paths", [
-    (["init", *KEY, "--store"], [":memory:", "file:desk", "", "none/new", "folder"]),
-    (["copy", "--store", "plain", "--to"], [":memory:", "file:desk", "", "none/new"]),
-    (["export", "--store"], ["", "none/store", "dangling", "text", "folder"]),
-], ids=["init", "copy", "export"])
-def test_store_is_made_and_opened_in_a_file_alone(ends, plain, words, paths):
-    before = set(plain.parent.iterdir())
-    for path in paths:
-        assert ends(*words, path) == refusal("store"), path
-    assert set(plain.parent.iterdir()) == before
-
-
-def test_folder_is_no_sheet_and_no_image(ends, plain):
-    words = ["import", "--store", "plain", *KEY, "--sheet"]
-    assert ends(*words, "folder") == refusal("device")
-    sheet = f"{SHEET}12,d64,7,{64 * '0'},{plain.parent}\n".encode()
-    assert ends(*words, "/dev/stdin", input=sheet) == refusal("device")
+    before = seen()
+    assert {path: ends(*words, path) for path in paths} == dict.fromkeys(paths, wanted)
+    assert seen() == before
+    keys(ends, "plain")
 
 
 @pytest.mark.parametrize("words", [
     ["show", "keys", *KEY], ["export"], ["check", "--acc", "12", *KEY], ["import", "--sheet", "none.csv", *KEY],
-    ["staff-key", *KEY], ["serve", "--socket", "socket", *NO_VISIT], ["copy", "--to", "new"],
+    ["staff-key", *KEY], [*SERVE, "--socket", "socket"], ["copy", "--to", "new"],
 ], ids=lambda words: words[0])
 def test_no_command_but_init_makes_a_store(ends, tmp_path, words):
-    assert ends(*words, "--store", "none") == refusal("not-a-desk")
+    assert ends(*words, "--store", "none") == NO_DESK
     assert list(tmp_path.iterdir()) == []
 
 
-# Sums, and copies
+def test_explanation_has_what_the_system_said(ends, serving, plain):
+    """What to do next the trials show. The store that is in use stays locked for each command."""
+    with serving(plain) as served:
+        in_use = f"port {served.port}: another program uses it", "plain: another program uses it"
+        for name, why, *words in [
+            ("device", "folder: it is a folder", "list", "cpm8", "folder"),
+            ("store", "none/new: the folder for it is not there", "init", "--store", "none/new", *KEY),
+            ("device", "text: there is one already", *SERVE, "--store", "other", "--socket", "text"),
+            ("device", in_use[0], *SERVE, "--store", "other", "--port", served.port),
+            ("not-a-desk", "none: there is no such file", "export", "--store", "none"),
+            ("store", "text: it is no store of a desk", "export", "--store", "text"),
+            ("store", in_use[1], "copy", "--store", "plain", "--to", "new"),
+            ("store", in_use[1], *SERVE, "--store", "plain", "--socket", "new"),
+        ]:
+            status, output, errors = ends(*words, "--explain")
+            assert (status, output, errors.splitlines()[:2]) == (3, "", [f"desk: {name}", f"  {why}"])
+    assert not plain.with_name("new").exists()
 
 
-@contextlib.contextmanager
-def flipped(path, place):
-    """A file while the lowest bit of one of its bytes is flipped."""
-    data = path.read_bytes()
-    path.write_bytes(data[:place] + bytes([data[place] ^ 1]) + data[place + 1 :])
-    yield
-    path.write_bytes(data)
-
-
-def sum_bytes(path):
-    return path.read_bytes()[SUM_BYTES]
-
-
-@pytest.mark.parametrize("name", ["new", "empty"])
-@pytest.mark.parametrize("words, wanted", [(["--sums"], 8), ([], 0)], ids=["sums", "no-sums"])
-def test_new_store_has_sums_where_they_are_asked_for(ends, plain, words, wanted, name):
-    assert ends("init", *words, "--store", name, *KEY) == DONE
-    assert sum_bytes(plain.with_name(name)) == wanted
-
-
-def test_flipped_bit_of_any_page_shuts_a_store_with_sums(desk, ends, tmp_path):
-    assert ends("init", "--sums", "--store", "new", *KEY) == DONE
-    store = tmp_path / "new"
-    pages = range(0, store.stat().st_size, PAGE)
-    assert len(pages) > 10
-    for page in pages:
-        with flipped(store, page + PAGE // 2):
-            assert ends("show", "keys", "--store", "new", *KEY) == refusal("store")
-    keys(desk, store)
+@pytest.mark.parametrize("words, bytes_of_sums", [(["--sums"], 8), ([], 0)], ids=["sums", "no-sums"])
+def test_sums_are_where_they_are_asked_for(ends, plain, words, bytes_of_sums):
+    """The byte 20 of a store says how many bytes of each page are left to a sum. A copy is for its owner alone."""
+    assert ends("init", *words, "--store", "new", *KEY) == ends("init", *words, "--store", "empty", *KEY) == DONE
+    assert ends("copy", *words, "--store", "plain", "--to", "copy", umask=0o022) == DONE
+    assert ends("copy", "--store", "copy", "--to", "back") == DONE
+    sums = {name: plain.with_name(name).read_bytes()[20] for name in ("new", "empty", "copy", "back")}
+    assert sums == {"new": bytes_of_sums, "empty": bytes_of_sums, "copy": bytes_of_sums, "back": 0}
+    assert {stat.filemode(plain.with_name(name).stat().st_mode) for name in ("copy", "copy-wal")} == {"-rw-------"}
+    assert keys(ends, "copy") == keys(ends, "back") == keys(ends, "plain")
 
 
 def test_no_sums_where_a_database_is_already(ends, plain):
-    assert ends("init", "--sums", "--store", "plain", *KEY) == refusal("exists")
-    assert ends("show", "keys", "--store", "empty", *KEY) == refusal("not-a-desk")
-    assert ends("init", "--sums", "--store", "empty", *KEY) == refusal("store")
+    assert ends("init", "--sums", "--store", "plain", *KEY) == EXISTS
+    assert ends("show", "keys", "--store", "empty", *KEY) == NO_DESK
+    assert ends("init", "--sums", "--store", "empty", *KEY) == STORE
     assert ends("init", "--store", "empty", *KEY) == DONE
 
 
-def test_copy_is_for_its_owner_and_has_sums_where_they_are_asked_for(desk, ends, plain):
-    summed, back = plain.with_name("summed"), plain.with_name("back")
-    assert ends("copy", "--store", "plain", "--to", "summed", "--sums", umask=0o022) == DONE
-    assert [kind_at(plain.with_name(name))[0] for name in ("summed", "summed-wal")] == 2 * ["-rw-------"]
-    with flipped(summed, PAGE // 2):
-        assert ends("show", "keys", "--store", "summed", *KEY) == refusal("store")
-    assert ends("copy", "--store", "summed", "--to", "back") == DONE
-    assert (sum_bytes(summed), sum_bytes(back)) == (8, 0)
-    assert keys(desk, summed) == keys(desk, back) == keys(desk, plain)
+def test_files_of_an_image_are_its_bytes_and_follow_no_link(ends, tmp_path):
+    files = [file for file in model_disks.read("d64", MUSEUM.read_bytes()).files if file.data is not None]
+    words, link = ["files", "d64", MUSEUM, "--to", tmp_path], tmp_path / "00000-TOUR"
+    link.symlink_to("nowhere")
+    assert ends(*words) == EXISTS
+    link.unlink()
+    assert ends(*words)[0] == 0
+    wanted = {f"{int(file.fields['slot']):05}-{file.fields['name']}": file.data for file in files}
+    assert {path.name: path.read_bytes() for path in tmp_path.iterdir()} == wanted
 
 
-@pytest.mark.parametrize("name", ["empty", "folder", "dangling", "link", "text", "plain", "plain-wal", "other"])
-def test_copy_takes_nothing_that_is_there(desk, ends, plain, name):
-    path = plain.with_name(name)
-    before = kind_at(path), name == "text" and path.read_bytes()
-    assert ends("copy", "--store", "plain", "--to", name) == refusal("exists")
-    assert (kind_at(path), name == "text" and path.read_bytes()) == before
-    assert not plain.with_name("nowhere").exists()
-    keys(desk, plain)
-
-
-def test_copy_that_cannot_say_done_is_whole(desk, plain):
-    with bad_stream("full") as how:
-        assert desk("copy", "--store", plain, "--to", plain.with_name("new"), **how).stderr == b"desk: device\n"
-    assert keys(desk, plain.with_name("new")) == keys(desk, plain)
-
-
-# Sockets, and two programs at one store
-
-
-def serve(*words):
-    return ["serve", "--store", "other", *NO_VISIT, *words]
-
-
-def test_socket_of_a_desk_that_serves_stays_and_of_a_killed_one_gives_way(ends, serving, plain):
-    """What else is at its path stays too; the last desk takes the socket away again."""
-    path = plain.with_name("socket")
+def test_socket_is_of_one_desk_and_that_of_a_killed_one_gives_way(ends, serving, plain):
+    path, words = plain.with_name("socket"), [*SERVE, "--store", "other", "--socket", "socket"]
     with serving(plain, place=path):
-        assert kind_at(path)[0] == "srw-rw----"
-        assert ends(*serve("--socket", "socket")) == refusal("device")
+        assert stat.filemode(path.stat().st_mode) == "srw-rw----"
+        assert ends(*words) == DEVICE
         socket_at(path).close()
-    assert kind_at(path)[0] == "srw-rw----"
-    plain.with_name("to-socket").symlink_to(path)
-    for name in ("to-socket", "folder", "text", "dangling"):
-        before = kind_at(plain.with_name(name))
-        assert ends(*serve("--socket", name)) == refusal("device")
-        assert kind_at(plain.with_name(name)) == before
-    assert ends(*serve("--socket", "socket")) == (0, b"listening socket\nserved 0\n", b"")
-    assert kind_at(path) is None
-
-
-@pytest.mark.parametrize("words", [["copy", "--to", "new"], ["serve", "--socket", "socket"]], ids=["copy", "serve"])
-def test_store_of_a_desk_that_serves_is_locked(ends, serving, plain, words):
-    with serving(plain):
-        assert ends(*words, "--store", "plain") == refusal("store")
-    assert not plain.with_name("new").exists() and not plain.with_name("socket").exists()
-
-
-# Explanations: what the system said, and what to do next
-
-LOOK = "Check how the path is written, and what you may do there."
-NO_FOLDER = ": the folder for it is not there"
-NO_STORE = ["none: there is no such file", LOOK, "For a new desk, make it there with desk init."]
-NO_DATABASE = [
-    "text: it is no store of a desk", "Check which file you name; if it was a store, bring back a backup of it.",
-]
-MAKE = "Make the folder first, or give one that is there."
-FRESH = "Give the path of a file that is not there yet."
-OTHER_SIZE = "has another number of bytes than an image of its kind: cpm8 has 256256."
-SAVE = "Save it as a file, and give its path: then more can be said of it."
-USED = "First look that no other desk or sqlite3 uses it; else give the file of a store, or bring back a backup of it."
-
-
-@pytest.mark.parametrize("words, wanted", [
-    (["list", "cpm8", "folder"], refusal("device", "folder: it is a folder", "Give the path of a file in it.")),
-    (serve("--socket", "none/socket"), refusal("device", f"none/socket{NO_FOLDER}", MAKE)),
-    (serve("--socket", "text"), refusal("device", "text: there is one already", FRESH)),
-    (["init", "--store", "none/new", *KEY], refusal("store", f"none/new{NO_FOLDER}", MAKE)),
-    (["init", "--store", "other", *KEY], refusal("exists", "other: there is one already", FRESH)),
-    (["init", "--store", "new", "--key-file", "none"], refusal("device", "none: there is no such file", LOOK)),
-    (["export", "--store", "none"], refusal("not-a-desk", *NO_STORE)),
-    (["serve", "--store", "none", "--socket", "none"], refusal("not-a-desk", *NO_STORE)),
-    (["export", "--store", "text"], refusal("store", *NO_DATABASE)),
-    (["files", "d64", MUSEUM, "--to", "none"], refusal("device", f"none/00000-TOUR{NO_FOLDER}", MAKE)),
-    (["files", "d64", MUSEUM, "--to", ""], refusal("device", f"''{NO_FOLDER}", MAKE)),
-], ids=lambda case: " ".join(case[:2]) if isinstance(case, list) else "")
-def test_explanation(ends, plain, words, wanted):
-    assert ends(*words, "--explain") == wanted
-
-
-def test_explanation_of_a_port_and_of_a_store_in_use(ends, serving, plain):
-    port = free_port()
-    with serving(plain, place=port):
-        told = f"port {port}: another program uses it", "Give another port, or stop what uses this one."
-        assert ends(*serve("--port", port), "--explain") == refusal("device", *told)
-        told = "plain: another program uses it", USED
-        assert ends("export", "--store", "plain", "--explain") == refusal("store", *told)
-
-
-def test_explanation_of_what_can_be_read_once(ends, tmp_path):
-    words = ["list", "cpm8", "--explain"]
-    assert ends(*words, "-", input=DISK[:-1]) == refusal("wrong-size", f"standard input {OTHER_SIZE}", SAVE)
-    os.mkfifo(tmp_path / "fifo")
-    writer = threading.Thread(target=(tmp_path / "fifo").write_bytes, args=[DISK[:-1]], daemon=True)
-    writer.start()
-    assert ends(*words, "fifo") == refusal("wrong-size", f"fifo {OTHER_SIZE}", SAVE)
-
-
-# The files of an image
-
-
-def test_files_of_an_image_go_into_a_folder_byte_for_byte_and_over_nothing(ends, tmp_path):
-    files = [file for file in model_disks.read("d64", pathlib.Path(MUSEUM).read_bytes()).files if file.data is not None]
-    told = [(int(file.fields["slot"]), file.fields["name"], file.data) for file in files]
-    lines = "".join(f"{slot}\t{slot:05}-{name}\t{len(data)}\n" for slot, name, data in told).encode()
-    wanted = {f"{slot:05}-{name}": data for slot, name, data in told}
-    words = ["files", "d64", MUSEUM, "--to", tmp_path]
-    for ended in ((0, lines, b""), refusal("exists")):
-        assert ends(*words) == ended
-        assert {path.name: path.read_bytes() for path in tmp_path.iterdir()} == wanted
-
-
-def test_files_of_an_image_follow_no_link(ends, tmp_path):
-    (tmp_path / "00000-TOUR").symlink_to("nowhere")
-    assert ends("files", "d64", MUSEUM, "--to", tmp_path) == refusal("exists")
-    assert not (tmp_path / "nowhere").exists()
+    assert path.is_socket()
+    assert ends(*words) == (0, "listening socket\nserved 0\n", "")
+    assert not path.exists()

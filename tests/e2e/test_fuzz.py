@@ -3,11 +3,10 @@
 import collections
 import contextlib
 import datetime
-import itertools
 import json
 import shutil
-import socket
 import sqlite3
+import tempfile
 
 import hypothesis
 import pytest
@@ -15,42 +14,33 @@ from hypothesis import stateful
 from support import clients, model, model_requests, mutations, samples
 
 # The names of refusals, and the sorts of answers, that have to come at least once.
-NAMES = set("""
-    bad-head framing no-route method unknown-key staff-only bad-body no-accession no-file no-deed denied listed-only
-    faulty wrong-size digest-differs conflict images files directory text/csv application/octet-stream sound changed
-    done
-""".split())
-# One byte of the file of accession 12.
-ONE_BYTE = "CAST(substr(bytes, 1, 86018) || x'42' || substr(bytes, 86020) AS BLOB)"
-DISK, OTHER_DIGEST = samples.PROGRAM_DISK, samples.digest(b"another")
+NAMES = set(
+    "bad-head framing no-route method unknown-key staff-only bad-body no-accession no-file no-deed denied listed-only "
+    "faulty wrong-size digest-differs conflict images files directory text/csv application/octet-stream sound changed "
+    "done".split())
+# The image of accession 12 with another byte of its file.
+CHANGED = samples.PROGRAM_DISK[:86018] + b"B" + samples.PROGRAM_DISK[86019:]
+# Visits at the end of each story, so that each name comes whatever is drawn.
+LAST = [
+    *(samples.get(path) for path in ("/catalogue", "/images/16/files/1", "/images/14/files/0")), samples.check(12),
+    *(samples.put_image(12, "d64", 7, data, samples.digest(b"another")) for data in (samples.PROGRAM_DISK, b"")),
+]
 
 
 def name_of(reply):
     """What a reply is called: the name of the refusal or of the outcome, or the sort of the answer."""
     first, _, body = reply.partition(b"\r\n\r\n")
     kind = first.split(b"\r\n")[1].decode().removeprefix("Content-Type: ")
-    if kind != "application/json":
-        return kind
-    keys = json.loads(body)
-    sorts = (sort for sort in ("done", "images", "directory", "files") if sort in keys)
+    keys = json.loads(body) if kind == "application/json" else {kind: True}
+    sorts = (sort for sort in ("done", "images", "directory", "files", kind) if sort in keys)
     return keys.get("error") or keys.get("outcome") or next(sorts)
 
 
 def send(port, visit):
     """The bytes that come, and how they end. Where the desk waits for more, the sending is ended."""
     step = -(-len(visit.data) // visit.parts) or 1
-    with clients.connected(port) as connection:
-        with contextlib.suppress(BrokenPipeError, ConnectionResetError):
-            for at in range(0, len(visit.data), step):
-                connection.sendall(visit.data[at : at + step])
-            if model_requests.is_waited_for(visit.data):
-                connection.shutdown(socket.SHUT_WR)
-        return clients.read_all(connection)
-
-
-@pytest.fixture(scope="module")
-def disks(program, tmp_path_factory):
-    return model.Disks(program, tmp_path_factory.mktemp("disks"))
+    parts = [visit.data[at : at + step] for at in range(0, len(visit.data), step)]
+    return clients.by_socket(port, parts, model_requests.is_waited_for(visit.data), pause=0)
 
 
 def rows_of(store):
@@ -60,16 +50,15 @@ def rows_of(store):
 
 
 @pytest.fixture
-def machine(serving, disks, filled, tmp_path):
+def machine(program, serving, store, tmp_path):
     """A desk over a copy of the filled store in which a byte of an image is changed, with its model beside it."""
-    origin, names, numbers = shutil.copy(filled, tmp_path / "origin.sqlite"), collections.Counter(), itertools.count()
-    with contextlib.closing(sqlite3.connect(origin)) as connection, connection:
-        connection.execute(f"UPDATE image SET bytes = {ONE_BYTE} WHERE acc = 12")
-        [(changed,)] = connection.execute("SELECT bytes FROM image WHERE acc = 12")
+    names, disks = collections.Counter(), model.Disks(program, tmp_path)
+    with contextlib.closing(sqlite3.connect(store)) as connection, connection:
+        connection.execute("UPDATE image SET bytes = ? WHERE acc = 12", [CHANGED])
 
     def begun():
-        store = shutil.copy(origin, tmp_path / f"{next(numbers)}.sqlite")
-        return store, serving(store, "--zone", clients.noon_zone(), few_files=clients.OPEN_FILES)
+        copy = shutil.copy(store, tempfile.mkdtemp(dir=tmp_path))
+        return copy, serving(copy, "--zone", clients.noon_zone(), few_files=clients.OPEN_FILES)
 
     class Machine(stateful.RuleBasedStateMachine):
         def __init__(self):
@@ -80,7 +69,7 @@ def machine(serving, disks, filled, tmp_path):
             self.desk = model.Desk(disks, datetime.datetime.now(datetime.timezone.utc).date().isoformat())
             for _, asked, _ in (*samples.FIRST, *samples.MORE):
                 self.desk.due(samples.raw(asked)).change()
-            self.desk.images[12] = self.desk.images[12]._replace(bytes=changed)
+            self.desk.images[12] = self.desk.images[12]._replace(bytes=CHANGED)
 
         @stateful.rule(visit=mutations.visits())
         def visit(self, visit):
@@ -93,10 +82,8 @@ def machine(serving, disks, filled, tmp_path):
 
         def teardown(self):
             """The commands alone that were done make the same rows in another desk."""
-            last = [samples.get(path) for path in ("/catalogue", "/images/16/files/1", "/images/14/files/0")]
-            last += [samples.check(12), *(samples.put_image(12, "d64", 7, data, OTHER_DIGEST) for data in (DISK, b""))]
             with self.opened:
-                for asked in last + [samples.survey(acc) for acc in self.desk.images]:
+                for asked in LAST + [samples.survey(acc) for acc in self.desk.images]:
                     self.visit(mutations.Visit(samples.raw(asked)))
             store, serves = begun()
             with serves as served:
@@ -111,9 +98,7 @@ def machine(serving, disks, filled, tmp_path):
 @pytest.mark.parametrize("stories", [40, pytest.param(2000, marks=pytest.mark.long)])
 @pytest.mark.timeout(3600)
 def test_mutated_visits_have_the_replies_that_are_due(machine, seed, stories):
-    checks = hypothesis.settings(
-        max_examples=stories, stateful_step_count=80, deadline=None, database=None,
-        suppress_health_check=list(hypothesis.HealthCheck), print_blob=False,
-    )
+    how = {"suppress_health_check": list(hypothesis.HealthCheck), "deadline": None, "database": None}
+    checks = hypothesis.settings(max_examples=stories, stateful_step_count=80, print_blob=False, **how)
     stateful.run_state_machine_as_test(hypothesis.seed(seed)(machine), settings=checks)
     assert set(machine.names) == NAMES

@@ -6,17 +6,16 @@ import collections
 import contextlib
 import select
 import statistics
-import subprocess
 import time
 
 import pytest
-from support.clients import beside, by_client, connected, curl, read_all
+from support.clients import beside, by_client, by_socket, connected, read_all
 from support.samples import FRAMING, LONG_FILE, LONG_QUESTION, content, head, put_image
 from support.server import LIMIT
 
 # The desk reads on for a fifth of a second: how many clients stay, and how long the next ones may take in the median.
 STAYS, SOON = 20, 0.4
-TOO_MUCH = put_image(30, "cpm8", 9, bytes(819200))
+QUESTION = head("GET /images HTTP/1.1")
 pytestmark = pytest.mark.alone
 
 
@@ -32,26 +31,20 @@ def with_two_bytes_more(port):
         return read_all(client)[0]
 
 
-def refused_to_http_client(port):
-    try:
-        return by_client(port, TOO_MUCH)
-    except (BrokenPipeError, ConnectionResetError) as fault:
-        return repr(fault)
-
-
-def refused_to_curl(port):
-    words = ["-X", "PUT", "-H", f"Desk-Key: {TOO_MUCH.key}", "--data-binary", "@-"]
-    ran = subprocess.run(curl(port, TOO_MUCH.path, *words), input=TOO_MUCH.body, capture_output=True)
-    return ran.stdout if ran.returncode == 0 else ran.stderr
+def with_too_long_a_body(port):
+    """A refusal for a client that sends all of its body before it reads, and fails where it cannot."""
+    return by_client(port, put_image(30, "cpm8", 9, bytes(819200)))
 
 
 @pytest.mark.parametrize("visits", [30, pytest.param(1000, marks=pytest.mark.long)])
-@pytest.mark.parametrize("client, due", [
-    (with_two_bytes_more, content(LONG_FILE)), (refused_to_http_client, FRAMING), (refused_to_curl, FRAMING),
-], ids=["socket", "http.client", "curl"])
-def test_reply_is_whole_though_more_was_sent(long_server, client, due, visits):
-    came = collections.Counter(client(long_server.port) for _ in range(visits))
-    assert came == {due: visits}
+@pytest.mark.parametrize("come", [with_two_bytes_more, with_too_long_a_body])
+def test_reply_is_whole_though_more_was_sent(long_server, come, visits):
+    due = content(LONG_FILE) if come == with_two_bytes_more else FRAMING
+    assert collections.Counter(come(long_server.port) for _ in range(visits)) == {due: visits}
+
+
+def silent(client, ended):
+    ended.wait(LIMIT)
 
 
 def sending(client, ended):
@@ -60,25 +53,16 @@ def sending(client, ended):
         client.sendall(b"x")
 
 
-def visit(port):
-    """A connection that stays open, and what came of its visit."""
-    client = connected(port)
-    client.sendall(head("GET /images HTTP/1.1"))
-    return client, read_all(client)
-
-
-@pytest.mark.parametrize("stays", [lambda _, ended: ended.wait(LIMIT), sending], ids=["silent", "sending"])
+@pytest.mark.parametrize("stays", [silent, sending])
 def test_next_client_waits_briefly_for_one_that_stays(server, stays):
-    client, due = visit(server.port)
-    client.close()
+    due, taken = by_socket(server.port, [QUESTION]), []
     assert due[0].startswith(b"HTTP/1.1 200 ") and due[1] == "an end"
-    taken = []
     for _ in range(STAYS):
-        first, reply = visit(server.port)
-        with first, beside(stays, first):
-            begun = time.monotonic()
-            second, next_reply = visit(server.port)
-            taken.append(time.monotonic() - begun)
-            second.close()
-        assert (reply, next_reply) == (due, due)
+        with connected(server.port) as first:
+            first.sendall(QUESTION)
+            assert read_all(first) == due
+            with beside(stays, first):
+                begun = time.monotonic()
+                assert by_socket(server.port, [QUESTION]) == due
+                taken.append(time.monotonic() - begun)
     assert 0.1 < statistics.median(taken) <= SOON, f"the longest took {max(taken):.2f} s"

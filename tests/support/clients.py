@@ -2,24 +2,24 @@
 
 import contextlib
 import datetime
+import functools
 import socket
-import struct
 import threading
 import time
 from concurrent import futures
 
 from support import server
 from support.samples import head, raw
-from support.server import HOST, LIMIT
 
-# What a client does that has sent its parts, how long it waits between them, and how many files a desk may open.
-ENDS, PAUSE, OPEN_FILES = "ends its sending", 0.3, 32
+# How long a client waits between its parts, and how many files a desk may open that a connection left open stops soon.
+PAUSE, OPEN_FILES = 0.3, 32
+Serving = functools.partial(server.Serving, few_files=OPEN_FILES)
 
 
 def curl(port, path, *words):
     """The words of a visit by curl, without the settings of its user."""
-    always = ["-q", "-sS", "-i", "--raw", "-g", "--path-as-is", "--noproxy", "*", "--max-time", str(LIMIT)]
-    return ["curl", *always, *words, f"http://{HOST}:{port}{path}"]
+    always = "curl -q -sS -i --raw -g --path-as-is --noproxy * --max-time 60".split()
+    return [*always, *words, f"http://{server.HOST}:{port}{path}"]
 
 
 def by_client(place, asked):
@@ -28,51 +28,44 @@ def by_client(place, asked):
     with contextlib.closing(server.client_at(place)) as connection:
         connection.request(asked.method, asked.path, asked.body, fields)
         response = connection.getresponse()
-        version = f"HTTP/{response.version // 10}.{response.version % 10}"
         lines = [f"{name}: {value}" for name, value in response.getheaders()]
-        return head(f"{version} {response.status} {response.reason}", *lines) + response.read()
+        return head(f"HTTP/{response.version / 10} {response.status} {response.reason}", *lines) + response.read()
 
 
 def connected(place, room=None):
-    """A plain socket, that sends at once what it is given; its system keeps so much that it has not read yet. The place
-    is a port, or the path of a Unix socket.
-
-    At a Unix socket the sender's system keeps what is not read. At a port, small segments make the desk's system keep
-    little of a reply, too: over loopback it takes megabytes of large ones."""
+    """A plain socket to a port or a Unix socket, that sends at once. Its system keeps so much that it has not read."""
     is_port = isinstance(place, int)
     connection = socket.socket(socket.AF_INET if is_port else socket.AF_UNIX)
-    connection.settimeout(LIMIT)
+    connection.settimeout(server.LIMIT)
     if is_port:
         connection.setsockopt(socket.IPPROTO_TCP, socket.TCP_NODELAY, 1)
     if room:
         connection.setsockopt(socket.SOL_SOCKET, socket.SO_RCVBUF, room)
-    if room and is_port:
-        connection.setsockopt(socket.IPPROTO_TCP, socket.TCP_MAXSEG, 536)
-    connection.connect((HOST, place) if is_port else str(place))
+        # small segments make the desk's system keep little, too: over loopback it takes megabytes of large ones
+        if is_port:
+            connection.setsockopt(socket.IPPROTO_TCP, socket.TCP_MAXSEG, 536)
+    connection.connect((server.HOST, place) if is_port else str(place))
     return connection
 
 
 def read_all(connection):
     """The bytes that come, and how they end: with an end or a reset."""
     came = b""
-    while True:
-        try:
-            part = connection.recv(65536)
-        except ConnectionResetError:
-            return came, "a reset"
-        if not part:
-            return came, "an end"
-        came += part
+    with contextlib.suppress(ConnectionResetError):
+        while part := connection.recv(65536):
+            came += part
+        return came, "an end"
+    return came, "a reset"
 
 
-def by_socket(place, parts, then=None):
+def by_socket(place, parts, ends=False, pause=PAUSE):
     """The bytes that come, and how they end. A desk that closes early is heard all the same."""
     with connected(place) as connection:
         for number, part in enumerate(parts):
-            time.sleep(PAUSE if number else 0)
+            time.sleep(pause if number else 0)
             with contextlib.suppress(BrokenPipeError, ConnectionResetError):
                 connection.sendall(part)
-        if then == ENDS:
+        if ends:
             connection.shutdown(socket.SHUT_WR)
         return read_all(connection)
 
@@ -80,21 +73,8 @@ def by_socket(place, parts, then=None):
 def ask(place, asked):
     """The bytes of the reply to a request, which have to end with an end."""
     came, ending = by_socket(place, [raw(asked)])
-    assert ending == "an end", (ending, came[:1000])
+    assert ending == "an end", came[:1000]
     return came
-
-
-def reset(connection):
-    """Has the connection end with a reset when it is closed."""
-    connection.setsockopt(socket.SOL_SOCKET, socket.SO_LINGER, struct.pack("ii", 1, 0))
-
-
-def leave(place, sent, resets):
-    """Sends bytes and goes."""
-    with connected(place) as connection:
-        connection.sendall(sent)
-        if resets:
-            reset(connection)
 
 
 @contextlib.contextmanager
@@ -112,7 +92,7 @@ def beside(act, client):
             yield
         finally:
             ended.set()
-        running.result(LIMIT)
+        running.result(server.LIMIT)
 
 
 def zone_of(seconds):
@@ -123,8 +103,3 @@ def zone_of(seconds):
 def noon_zone():
     """The rule of a clock that shows about noon of the day that UTC has, so one day for eleven hours and more."""
     return zone_of(43200 - int(time.time()) % 86400)
-
-
-def Serving(program, store, count, words=(), environment=None):
-    """A desk that serves at a free port, and may open few files: a connection that stays open is soon one too many."""
-    return server.Serving(program, store, count, words, environment, few_files=OPEN_FILES)
