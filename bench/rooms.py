@@ -48,21 +48,8 @@ def numbered(count, step=7):
 
 
 def disk(files):
-    """A 1541 disk of one directory block with these programs: names and contents, at most eight."""
-    image = bytearray(174848)
-    free = [(track, sector) for track in cbm_image.SECTORS if track != 18 for sector in range(cbm_image.SECTORS[track])]
-    entries = b""
-    for name, data in files:
-        parts = cbm_image.parts_of(data)
-        blocks, free = free[: len(parts)], free[len(parts) :]
-        cbm_image.put_chain(image, blocks, parts)
-        size = len(parts).to_bytes(2, "little")
-        entries += b"\0\0\x82" + bytes(blocks[0]) + cbm_image.padded(name) + bytes(9) + size
-    at = cbm_image.place(18, 1)
-    image[at : at + len(entries)] = b"\x00\xff" + entries[2:]
-    head = b"\x12\x01A\x00" + cbm_image.free_map(set(free)) + cbm_image.padded(b"MUSEUM") + b"\xa0\xa0RD\xa02A"
-    image[cbm_image.place(18, 0) : cbm_image.place(18, 0) + len(head)] = head
-    return bytes(image)
+    """A 1541 disk of these programs: names and contents."""
+    return cbm_image.filled(b"MUSEUM", [(0x82, name, data) for name, data in files])
 
 
 def marked(image, number):

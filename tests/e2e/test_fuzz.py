@@ -52,7 +52,7 @@ def rows_of(store):
 @pytest.fixture
 def machine(program, serving, store, tmp_path):
     """A desk over a copy of the filled store in which a byte of an image is changed, with its model beside it."""
-    names, disks = collections.Counter(), model.Disks(program, tmp_path)
+    names, disks = collections.Counter(), model.Disks()
     with contextlib.closing(sqlite3.connect(store)) as connection, connection:
         connection.execute("UPDATE image SET bytes = ? WHERE acc = 12", [CHANGED])
 

@@ -9,48 +9,49 @@ from support import museums
 CANNOT_REACH = "This page cannot reach the desk. Check the connection, and try again."
 MAY_BE = " The desk may have done it all the same. You can safely send it again."
 UNSURE = f"{CANNOT_REACH}{MAY_BE}"
-AUDIENCES = {"public": "the public", "room": "the reading room", "staff": "the staff"}
-# Scripts: which of some texts a field takes; and the longest piece of work of the page from then on, in milliseconds.
+# A script: all places of a page in which something could be left.
+LEFT = """
+return [location.href, document.referrer, document.cookie, JSON.stringify({...localStorage}), document.title,
+    JSON.stringify({...sessionStorage}), JSON.stringify(history.state), document.documentElement.outerHTML,
+    ...Array.from(document.querySelectorAll("input"), (field) => field.value)].join(" ");
+"""
+# A script: which of some texts a field takes.
 TAKES = """
 const [field, texts] = arguments;
 const type = (text) => Object.assign(field, { value: text }).dispatchEvent(new Event("input", { bubbles: true }));
 return texts.filter((text) => type(text) && field.checkValidity());
 """
-WATCH = """
-const take = (list) => list.getEntries().forEach((one) => { window.longest = Math.max(window.longest, one.duration); });
-new PerformanceObserver(take).observe({ type: "longtask" });
-"""
-
 
 def older(name):
     """What the page says where it cannot read anew what stands."""
     return f"The {name} could not be read anew after that: the list below may be older. Open this view again."
 
+def put_deed(staff, deed="35", donor="F. Founder"):
+    staff.fill("deeds", deed=deed, donor=donor, signed="1999-12-31")
+    return staff.submit("deeds")
 
 def takedown(rank, slot):
     return {rank: museums.rule(rank, "deny", ("public", "room"), {"slot": slot})}
 
-
-def lost_at(number, stays=False):
-    """Has the connection lost by which the change of this number is put; where it stays lost, all from then on."""
-    changes = []
+def lost_at(number, stays=False, is_done=False):
+    """Has the connection lost by which the change of this number is put, or, if that is done, all from then on; where
+    it stays lost, both."""
+    came = []
 
     def before(method, path):
-        is_put = method == "PUT" and not path.startswith("/staff/")
-        changes.extend([path] if is_put else [])
-        return b"" if len(changes) >= number and (stays or (is_put and len(changes) == number)) else None
+        came.append(method != "GET" and not path.startswith("/staff/"))
+        is_now = came[-1] and sum(came) == number
+        is_later = sum(came) >= number and not is_now
+        return b"" if (is_now and not is_done) or (is_later and (stays or is_done)) else None
 
     return before
-
 
 def saved_table(page, name):
     """The records of a table that the page saved."""
     return list(csv.reader(page.saved(name).decode().splitlines()))
 
-
 def moment(at):
     return datetime.datetime.fromtimestamp(at, datetime.timezone.utc).strftime("%Y-%m-%dT%H:%M:%S+00:00")
-
 
 def journal_lines(number, at, status, method, path, staff="", note="", body=""):
     """The lines of a change in the journal, as nginx writes them: when it came, and, with its status, when it ended."""
@@ -60,15 +61,3 @@ def journal_lines(number, at, status, method, path, staff="", note="", body=""):
         keys |= {"path": path, "staff": staff, "note": note, "body": body}
         lines += json.dumps(keys, separators=(",", ":")).encode() + b"\n"
     return lines
-
-
-def longest_work(page, doing):
-    """The longest piece of the page's work while something is done, in milliseconds. Other work on the machine can hold
-    the browser up, so what takes 200 is done again, up to twice: a stop of the page's own would come each time."""
-    longest = []
-    page.script(WATCH)
-    while len(longest) < 3 and min(longest, default=200) >= 200:
-        page.script("window.longest = 0")
-        doing(len(longest))
-        longest.append(page.script("return window.longest"))
-    return min(longest)

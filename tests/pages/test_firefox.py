@@ -13,7 +13,7 @@ from selenium.webdriver.remote.command import Command
 from support import museums
 from support.browser import LIMIT
 from support.server import HOST, free_port, wait_for
-from test_accessibility import CONTRAST, NAMELESS, REFUSED
+from test_accessibility import CONTRAST, REFUSED
 
 pytestmark = pytest.mark.xdist_group("firefox")
 # How Marionette calls the commands of Selenium.
@@ -26,15 +26,13 @@ COMMANDS = {
 # It saves files without a word, and asks nobody else for anything.
 OFF = ["browser.download.always_ask_before_handling_new_types", "datareporting.policy.dataSubmissionEnabled",
        "app.update.enabled", "extensions.systemAddon.update.enabled", "network.captive-portal-service.enabled"]
-SETTINGS = {"browser.download.folderList": 2, "browser.startup.page": 0, "services.settings.server": "data:,",
-            **dict.fromkeys(OFF, False)}
-
+SETTINGS = {"browser.download.folderList": 2, "browser.startup.page": 0, "services.settings.server": "data:,"}
 
 class Marionette:
     """Commands and replies of Marionette: texts of JSON, each behind its length."""
 
     def __init__(self, port):
-        self.stream, self.number = socket.create_connection((HOST, port), 4 * LIMIT).makefile("rwb"), 0
+        self.stream = socket.create_connection((HOST, port), 4 * LIMIT).makefile("rwb")
         self.taken()
 
     def taken(self):
@@ -46,9 +44,7 @@ class Marionette:
     def execute(self, command, values):
         if command == Command.GET_LOG:
             return {"value": []}
-        values = {"acceptInsecureCerts": True} if command == Command.NEW_SESSION else values
-        self.number += 1
-        text = json.dumps([0, self.number, f"WebDriver:{COMMANDS[command]}", values])
+        text = json.dumps([0, 1, f"WebDriver:{COMMANDS[command]}", {} if command == Command.NEW_SESSION else values])
         self.stream.write(f"{len(text)}:{text}".encode())
         self.stream.flush()
         _, _, fault, value = self.taken()
@@ -56,16 +52,15 @@ class Marionette:
             raise WebDriverException(fault["message"] or fault["error"])
         return {"value": value["value"] if isinstance(value, dict) and "value" in value else value}
 
-
 @pytest.fixture(scope="module")
 def driver(tmp_path_factory):
     """Firefox, with a profile and a home of its own."""
     folder, port = tmp_path_factory.mktemp("firefox"), free_port()
-    settings = {**SETTINGS, "marionette.port": port, "browser.download.dir": str(folder)}.items()
-    (folder / "user.js").write_text("\n".join(f"user_pref({json.dumps(one)[1:-1]});" for one in settings))
-    words = ["firefox-esr", "--headless", "--marionette", "--no-remote", "--profile", str(folder)]
-    own, no = {**os.environ, "HOME": str(folder)}, subprocess.DEVNULL
-    process = subprocess.Popen(words, env=own, start_new_session=True, stdin=no, stdout=no, stderr=no)
+    settings = {**SETTINGS, "marionette.port": port, "browser.download.dir": str(folder), **dict.fromkeys(OFF, False)}
+    (folder / "user.js").write_text("\n".join(f"user_pref({json.dumps(one)[1:-1]});" for one in settings.items()))
+    words = ["firefox-esr", "--headless", "--marionette", "--no-remote", "--profile", folder]
+    no = dict.fromkeys(("stdin", "stdout", "stderr"), subprocess.DEVNULL)
+    process = subprocess.Popen(words, env={**os.environ, "HOME": str(folder)}, start_new_session=True, **no)
     try:
         wait_for(port, process, 2 * LIMIT)
         begun = webdriver.Remote(Marionette(port), options=webdriver.FirefoxOptions())
@@ -75,27 +70,21 @@ def driver(tmp_path_factory):
         os.killpg(process.pid, signal.SIGKILL)
         process.wait()
 
-
 def test_reader_finds_reads_and_saves_a_file(museum, reader):
     museums.harmful_disk(museum, 1066, 9)
     assert reader.go("1066")["rows"][2][1].startswith("<IMG") and reader.harmed() == [None, 0]
     assert reader.find("welcome")["rows"][0][:2] == ["Disk 1001", "0"]
+    assert reader.script(CONTRAST) == []
     reader.go("1001/0")
     reader.push("As bytes")
     assert reader.text("pre").startswith("000000  ")
     reader.named("link", "Download the bytes").click()
     assert len(reader.saved("WELCOME.TXT")) == 896
-
+    assert reader.script(CONTRAST) == []
+    assert reader.driver.execute_async_script(REFUSED) == ["TypeError", "TypeError", "connect-src"]
 
 def test_staff_rehearses_and_puts_a_takedown(staff):
     staff.go("takedowns")
     assert "GUIDE (disk 1002, slot 2)" in staff.take_down("1002", "", "2", "public", "room")["sure"]
     assert staff.answer(True)["result"] == ["Done: takedown 1000 of disk 1002."]
     assert staff.door.effects(1002)["public"] == ["read", "read", "deny"]
-
-
-@pytest.mark.parametrize("place", ["", "1002", "1001/0", "find/welcome"])
-def test_view_has_names_and_contrast_and_refuses_markup(reader, place):
-    reader.go(place)
-    assert (reader.script(NAMELESS), reader.script(CONTRAST)) == ([], [])
-    assert reader.driver.execute_async_script(REFUSED) == ["TypeError"] * 3

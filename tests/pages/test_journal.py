@@ -1,63 +1,52 @@
 """The journal on the staff's page: who changed what, when and why, and what became of it; what is looked for in it; and
 a journal that is long, was rotated away, is missing or may not be read."""
 
-import pytest
+from staff_helpers import CANNOT_REACH, journal_lines, moment, saved_table
 from support.browser import TODAY
-from support.samples import digest
-from support.stand_in import refusal, refused_by_nginx
-from staff_helpers import CANNOT_REACH, journal_lines, longest_work, moment, saved_table
+from support.museums import HARMFUL
+from support.samples import digest, refused
+from support.stand_in import refused_by_nginx
 
 START, PIECE = 1_800_000_000, 4 << 20
-KEY = digest(b"room 3")
+KEY, HARM = digest(b"room 3"), HARMFUL[2]
 RULE = '{"audiences":["room","public"],"select":{"slot":2},"effect":"deny","until":"2030-01-01"}'
 HIDDEN = "the file at slot 2 hidden from the public and the reading room, until 2030-01-01"
-UNKNOWN = "nobody knows whether the desk did it"
-HARM = "<img src=x onerror=window.harmed=1>"
+UNKNOWN, NOT_THERE = "nobody knows whether the desk did it", "refused: that cannot be done there"
 DEED = "/deeds/7", "Ada%20M%C3%BCller", "a%20letter%20of%203%20May", '{"donor":"A. <b>C</b>","signed":"2019-05-04"}'
 NO_DISK = "refused: there was no such disk, deed or address"
 BAD_BODY = "refused: the desk could not read it, or a value was beyond its limits"
-NOT_THERE = "that cannot be done there"
 # Changes from the oldest on: the status, what came, and the cells of who, what, outcome and reason.
 CHANGES = [
     ("200", ("PUT", *DEED), "Ada Müller|Put deed 7: A. <b>C</b>, signed on 2019-05-04|done|a letter of 3 May"),
     ("200", ("PUT", "/deeds/7/rules/20", "", "", RULE), f"|Put rule 20 of deed 7: {HIDDEN}|done|"),
     ("200", ("DELETE", "/deeds/7/rules/20?x=y", "bob"), "bob|Drop rule 20 of deed 7|done|"),
-    (
-        "200", ("PUT", f"/accessions/1002/d64/9/{KEY}", "=1+1", "100%"),
-        f"=1+1|Put disk 1002, Commodore 1541, under deed 9, SHA-256 {KEY}|done|100%",
-    ),
+    ("200", ("PUT", f"/accessions/1002/d64/9/{KEY}", "=1+1", "100%"),
+     f"=1+1|Put disk 1002, Commodore 1541, under deed 9, SHA-256 {KEY}|done|100%"),
     ("404", ("PUT", "/images/99/rules/9", "bob", "", RULE), f"bob|Put takedown 9 of disk 99: {HIDDEN}|{NO_DISK}|"),
     ("200", ("POST", "/images/1002/check"), "|Check disk 1002|done|"),
-    (
-        "502", ("PUT", f"/badges/{KEY}", "bob", "", '{"audience":"room"}'),
-        f"bob|Put a key of the reading room, SHA-256 {KEY}|{UNKNOWN} (502)|",
-    ),
+    ("502", ("PUT", f"/badges/{KEY}", "bob", "", '{"audience":"room"}'),
+     f"bob|Put a key of the reading room, SHA-256 {KEY}|{UNKNOWN} (502)|"),
     (None, ("DELETE", f"/badges/{KEY}", "bob"), f"bob|Drop the key with SHA-256 {KEY}|{UNKNOWN}|"),
     ("400", ("PUT", "/images/1002/rules/1", HARM, "", "7"), f"{HARM}|Put takedown 1 of disk 1002|{BAD_BODY}|"),
-    ("405", ("DELETE", f"/deeds/7/{'x' * 400}"), f"|DELETE /deeds/7/{'x' * 291} ..|refused: {NOT_THERE}|"),
+    ("405", ("DELETE", f"/deeds/7/{'x' * 400}"), f"|DELETE /deeds/7/{'x' * 291} ..|{NOT_THERE}|"),
     ("408", ("PUT", "/deeds/8", "", "", "{"), f"|Put deed 8|{UNKNOWN} (408)|"),
 ]
 LINES = [journal_lines(number, START + 60 * number, status, *came) for number, (status, came, _) in enumerate(CHANGES)]
 # All changes in a file whose last line was cut off.
 JOURNAL = b"".join(LINES) + b'{"id":"torn","moment":"2027-01-15T09:0'
 
-
 def time_of(number):
     return moment(START + 60 * number + (0.5 if CHANGES[number][0] else 0))[:19].replace("T", " ")
-
 
 def rows_of(*numbers):
     """The rows of some changes, from the newest on."""
     return [[time_of(number), *CHANGES[number][2].split("|")] for number in sorted(numbers, reverse=True)]
 
-
-def read(staff, journal, **months):
+def read(staff, journal, older=None):
     """Opens the journal with these files: what is written now, and what was rotated away."""
-    older = {f"/journal-{month[1:5]}-{month[5:]}": data for month, data in months.items()}
-    staff.door.journals = {"/journal": journal, **older}
+    staff.door.journals = {"/journal": journal, **(older or {})}
     staff.door.visits.clear()
     return staff.go("journal")
-
 
 def asked(staff):
     """What was asked of the journal since the last time: each path, and the bytes of it that are wished."""
@@ -65,10 +54,8 @@ def asked(staff):
     staff.door.visits.clear()
     return came
 
-
 def test_changes_stand_with_who_what_outcome_and_reason(staff):
     shown = read(staff, JOURNAL)
-    assert (shown["heading"], shown["title"]) == ("Journal", "Journal \u2013 the staff's page")
     summary = f"11 changes read, back to {time_of(0)}, and there may be older ones. "
     summary += f"Of 3 {UNKNOWN}, or it has not ended yet. 1 line cannot be read."
     assert shown["stands"] == [summary, "10 changes shown here; 1 check of disks left out."]
@@ -76,54 +63,40 @@ def test_changes_stand_with_who_what_outcome_and_reason(staff):
     assert (staff.harmed(), staff.one("#who").is_displayed()) == ([None, 0], False)
     fields = [(path, [name for name in fields if b"desk" in name]) for _, path, fields in staff.door.visits]
     assert fields == [("/journal", [b"desk-key"])]
-    bound = "the last 4 MB first and as much at each press; then what was put away, month by month, of the last 10 "
-    bound += "years, and of a month at most the last 64 MB, until it holds 100,000 changes"
-    assert staff.text("#journal .bound") == bound
 
-
-def test_what_is_looked_for_is_found(staff):
+def test_what_is_looked_for_is_found_and_saved_without_a_formula(staff):
     read(staff, JOURNAL)
-    fields = ("accession", "deed", "words", "day", "checks")
     cases = [
-        ("1002", "", "", "", False, [3, 8]), ("1002", "", "", "", True, [3, 5, 8]), ("99", "", "", "", False, [4]),
-        ("", "7", "", "", False, [0, 1, 2]), ("", "9", "", "", False, [3]), ("", "", "BOB", "", False, [2, 4, 6, 7]),
-        ("", "", "müller", "", False, [0]), ("", "", "3 may", "", False, [0]), ("", "", "", "2020-02-29", False, []),
-        ("", "7", "bob", moment(START)[:10], False, [2]),
+        ({"deed": "9"}, [3]), ({"words": "BOB"}, [2, 4, 6, 7]), ({"words": "müller"}, [0]), ({"words": "3 may"}, [0]),
+        ({"day": "2020-02-29"}, []), ({"deed": "7", "words": "bob", "day": moment(START)[:10]}, [2]),
+        ({"accession": "99"}, [4]), ({"accession": "1002"}, [3, 8]), ({"accession": "1002", "checks": True}, [3, 5, 8]),
     ]
-    for *typed, numbers in cases:
-        staff.fill("journal", **dict(zip(fields, typed)))
+    for typed, found in cases:
+        staff.fill("journal", **{"accession": "", "deed": "", "words": "", "day": "", "checks": False, **typed})
         shown = staff.read()
-        assert (shown["rows"], int(shown["stands"][1].split()[0])) == (rows_of(*numbers), len(numbers)), typed
-    assert staff.go("journal/99")["heading"] == "Journal of disk 99"
-
-
-def test_saved_table_has_what_is_shown_and_no_formula(staff):
-    read(staff, JOURNAL)
-    staff.fill("journal", accession="1002")
+        assert (shown["rows"], int(shown["stands"][1].split()[0])) == (rows_of(*found), len(found)), typed
     staff.push("Save what is shown as CSV")
     heads, *records = saved_table(staff, f"journal-{TODAY}.csv")
     assert heads == ["moment", "name", "reason", "what", "outcome", "method", "path", "status", "body"]
     what, path = rows_of(3)[0][2], CHANGES[3][1][1]
-    assert (len(records), records[1][1:]) == (2, ["'=1+1", "100%", what, "done", "PUT", path, "200", ""])
-
+    assert (len(records), records[2][1:]) == (3, ["'=1+1", "100%", what, "done", "PUT", path, "200", ""])
 
 def many(count, first=0, begun=START):
     """The changes of so many deeds, each with two lines."""
     came = [("PUT", f"/deeds/{1 + number % 900}", "ada", "x" * 500, "{}") for number in range(count)]
     return b"".join(journal_lines(first + number, begun + number, "200", *one) for number, one in enumerate(came))
 
-
 def test_long_journal_is_read_in_pieces_and_then_month_by_month(staff):
     count, data = 7000, many(7000)
-    read(staff, data, m202609=many(40, 1e5, START - 9e6), m202512=many(50, 2e5, START - 3e7))
+    older = {"/journal-2026-09": many(40, 1e5, START - 9e6), "/journal-2025-12": many(50, 2e5, START - 3e7)}
+    read(staff, data, older)
     assert asked(staff) == [("/journal", f"bytes=-{PIECE}")]
     for until in range(len(data) - PIECE, 0, -PIECE):
         shown = staff.push("Read what is older")
         assert asked(staff) == [("/journal", f"bytes={max(0, until - PIECE)}-{until - 1}")]
-    back = f"back to {moment(START)[:19].replace('T', ' ')}, and there may be older ones."
+    back = f"back to {time_of(0)}, and there may be older ones."
     assert shown["stands"] == [f"7,000 changes read, {back}", "7,000 changes shown here."]
-    earlier = [f"/journal-{year}-{month:02}" for year in range(2026, 2016, -1) for month in range(12, 0, -1)]
-    months = ["/journal-2027-01", *earlier]
+    months = ["/journal-2027-01", *(f"/journal-{2026 - at // 12}-{12 - at % 12:02}" for at in range(120))]
     for begin, end, more in ((0, 5, 40), (5, 14, 50), (14, 120, 0)):
         shown = staff.push("Read what is older")
         count += more
@@ -133,46 +106,22 @@ def test_long_journal_is_read_in_pieces_and_then_month_by_month(staff):
     assert shown["stands"][0].endswith("which is all that there is.")
     assert (staff.one("#journal [name=older]").is_enabled(), shown["focus"]) == (False, "result")
 
+def test_journal_that_has_become_shorter_is_another_one(staff):
+    data, words = many(5000), "The journal has begun a new file since you opened it. Read it anew."
+    for length in (5 << 20, 0):
+        read(staff, data)
+        staff.door.journals = {"/journal": data[:length], "/journal-2026-06": LINES[0]}
+        assert staff.push("Read what is older")["result"] == [words]
+    assert staff.push("Read it anew")["stands"][0] == "0 changes read, and there may be older ones."
+    assert staff.push("Read what is older")["stands"][0].startswith("1 change read, ")
 
-@pytest.mark.parametrize("length", [5 << 20, 1000, 0])
-def test_journal_that_has_become_shorter_is_another_one(staff, length):
-    data = many(5000)
-    read(staff, data)
-    staff.door.journals = {"/journal": data[:length], "/journal-2026-06": LINES[0]}
-    words = "The journal has begun a new file since you opened it. Read it anew."
-    assert staff.push("Read what is older")["result"] == [words]
-    if length == 0:
-        assert staff.push("Read it anew")["stands"][0] == "0 changes read, and there may be older ones."
-        assert staff.push("Read what is older")["stands"][0].startswith("1 change read, ")
-
-
-NO_FILE, NOT_READ = "There is no journal here: nginx has no file of it.", "nginx cannot read its journal."
-
-
-@pytest.mark.parametrize("reply, words", [
-    (refused_by_nginx(404, "X"), f"{NO_FILE} Nobody can see here who changed what."),
-    (refused_by_nginx(500, "X"), f"{NOT_READ} Most likely its group may not: call whoever runs the desk."),
-    (refused_by_nginx(502, "X"), "The desk is closed at the moment. Try again later."), (b"", CANNOT_REACH),
-    (refusal(403, "staff-only"), "Only the staff may do this. Use a key of the staff."),
-], ids=["404", "500", "502", "lost", "403"])
-def test_journal_that_cannot_be_read_says_why(staff, reply, words):
-    staff.door.before = lambda method, path: reply if path == "/journal" else None
-    shown = read(staff, JOURNAL)
-    assert (shown["result"][0], shown["rows"]) == (words, [])
-
-
-@pytest.mark.alone
-def test_no_piece_of_work_is_long_where_the_journal_is_full(staff):
-    """More changes than the page holds, in one file."""
-    checks = [journal_lines(n, START + n, None, "POST", f"/images/{1 + n % 9999}/check") for n in range(100_001)]
-    data = b"".join(checks)
-
-    def read_all(_):
-        read(staff, b"", m202606=data)
-        stands = staff.push("Read what is older")["stands"]
-        assert stands[0].startswith("100,001 changes read, ") and stands[0].endswith("The page reads no more of them.")
-        assert stands[1] == "0 changes shown here; 100,001 checks of disks left out."
-
-    assert longest_work(staff, read_all) < 200
-    staff.fill("journal", checks=True)
-    assert 50 <= len(staff.wait(lambda state: state["rows"])["rows"]) <= 500
+def test_journal_that_cannot_be_read_says_why(staff):
+    wanted = [
+        (refused_by_nginx(404, "X"), "There is no journal here: nginx has no file of it. "), (b"", CANNOT_REACH),
+        (refused_by_nginx(500, "X"), "nginx cannot read its journal. Most likely its group may not: "),
+        (refused(403, "staff-only"), "Only the staff may do this. Use a key of the staff."),
+    ]
+    for reply, words in wanted:
+        staff.door.before = lambda method, path: reply if path == "/journal" else None
+        shown = read(staff, JOURNAL)
+        assert (shown["result"][0][: len(words)], shown["rows"]) == (words, [])

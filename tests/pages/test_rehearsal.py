@@ -4,17 +4,17 @@ that a takedown gets."""
 import threading
 
 import pytest
+from selenium.webdriver.common.keys import Keys
+from staff_helpers import CANNOT_REACH, UNSURE, lost_at, older, takedown
 from support import museums
 from support.browser import LIMIT, TODAY
-from staff_helpers import CANNOT_REACH, UNSURE, lost_at, older, takedown
 
 BOTH = ("public", "room")
 HIDDEN = "he file at slot {} hidden from the public and the reading room, on all days."
-NOW = f"Today, {TODAY}"
+NOW, NOTHING = f"Today, {TODAY}", "Nothing opens, and nothing closes."
 CLOSES = "Closes for the public and the reading room: 1 file. Now they may read them; then they see nothing of them."
 OPENS = "Opens for the public and the reading room: 1 file. Now they see nothing of them; then they may read them."
-NOTHING = "Nothing opens, and nothing closes."
-
+TURNS = [OPENS, "TOUR (disk 1005, slot 0)", CLOSES, "GUIDE (disk 1005, slot 2)"]
 
 @pytest.fixture
 def takedowns(museum, staff):
@@ -24,87 +24,53 @@ def takedowns(museum, staff):
     staff.go("takedowns")
     return staff
 
-
 def ranks(shown):
     return [row[1] for row in shown["rows"]]
 
-
-def test_first_takedown_is_rehearsed_and_put(takedowns):
-    shown = takedowns.take_down("1002", "", "2", *BOTH)
+def test_takedowns_are_rehearsed_and_put_each_before_the_others(takedowns):
     rank = "Rank 1000: it is the first takedown of disk 1002."
     words = ["Put takedown 1000 of disk 1002?", f"T{HIDDEN.format(2)}", rank, NOW, CLOSES, "GUIDE (disk 1002, slot 2)"]
-    assert (shown["hint"], shown["sure"]) == (rank, words)
-    assert takedowns.answer(False)["result"] == ["Not put: takedown 1000 of disk 1002."]
-    assert takedowns.sent() == []
-    takedowns.take_down("1002", "", "2", *BOTH)
-    shown = takedowns.answer(True)
-    assert shown["result"] == ["Done: takedown 1000 of disk 1002."]
+    for is_agreed, said in ((False, "Not put"), (True, "Done")):
+        shown = takedowns.take_down("1002", "", "2", *BOTH)
+        assert (shown["hint"], shown["sure"]) == (rank, words)
+        shown = takedowns.answer(is_agreed)
+        assert (shown["result"], len(takedowns.door.sent())) == ([f"{said}: takedown 1000 of disk 1002."], is_agreed)
     row = ["1002", "1000", "the public and the reading room", "the file at slot 2", "see nothing of them"]
     assert [cells[:5] for cells in shown["rows"]] == [row]
-    assert [path for _, path, _, _ in takedowns.sent()] == ["/images/1002/rules/1000"]
-
-
-def test_second_takedown_comes_before_the_first(museum, takedowns):
-    museum.rules["T1002"] = takedown(1000, 2)
     shown = takedowns.take_down("1002", "", "0", "public")
     assert shown["sure"][2] == "Rank 990: before all other takedowns of disk 1002."
     assert ranks(takedowns.answer(True)) == ["990", "1000"]
     assert takedowns.door.effects(1002) == {"public": ["deny", "read", "deny"], "room": ["read", "read", "deny"]}
 
-
-def test_rank_in_use_is_said_to_be_replaced(takedowns):
+def test_rank_in_use_is_said_to_be_replaced_and_another_comes_after_it_where_none_is_free_before(takedowns):
     shown = takedowns.take_down("1005", "1", "2", *BOTH)
     words = f"In use: takedown 1 of disk 1005 stands, t{HIDDEN.format(0)} What you put replaces it."
-    turns = [OPENS, "TOUR (disk 1005, slot 0)", CLOSES, "GUIDE (disk 1005, slot 2)"]
-    assert (shown["hint"], shown["sure"][2:]) == (words, [words, NOW, *turns])
-
-
-def test_rank_comes_after_the_others_where_none_is_free_before(takedowns):
+    assert (shown["hint"], shown["sure"][2:]) == (words, [words, NOW, *TURNS])
+    takedowns.answer(False)
     shown = takedowns.take_down("1005", "", "2", *BOTH)
     words = "No rank is free before all others. Rank 2: after takedown 1 of disk 1005."
-    assert (shown["hint"], shown["sure"][2:]) == (words, [words, NOW, CLOSES, "GUIDE (disk 1005, slot 2)"])
+    assert (shown["hint"], shown["sure"][2:]) == (words, [words, NOW, *TURNS[2:]])
     assert ranks(takedowns.answer(True)) == ["1", "2"]
     assert takedowns.door.effects(1005) == dict.fromkeys(BOTH, ["deny", "read", "deny"])
 
-
-def test_what_another_put_meanwhile_is_shown(museum, takedowns):
-    """Where the button that was pressed is gone with its row, the outcome has the focus; else the focus stays."""
-    museum.rules["T1005"] |= takedown(3, 1)
-    takedowns.take_down("1005", "4", "1", "public")
-    assert ranks(takedowns.read()) == ["1", "3"]
-    takedowns.answer(False)
-    assert takedowns.focus() == "Put it"
-    museum.rules["T1005"].pop(3)
-    takedowns.of_row("takedown 1 of disk 1005", "Change")
-    takedowns.push("Put it")
-    shown = takedowns.answer(False)
-    assert (ranks(shown), shown["focus"]) == (["1"], "result")
-
-
 def test_drop_is_rehearsed_and_done(takedowns):
     shown = takedowns.of_row("takedown 1 of disk 1005", "Drop")
-    stands = f"It stands: t{HIDDEN.format(0)}"
-    wanted = ["Drop takedown 1 of disk 1005?", stands, NOW, OPENS, "TOUR (disk 1005, slot 0)"]
-    assert (shown["sure"], takedowns.focus()) == (wanted, "Leave it as it is")
-    assert takedowns.escape()["result"] == ["Kept: takedown 1 of disk 1005."]
+    wanted = ["Drop takedown 1 of disk 1005?", f"It stands: t{HIDDEN.format(0)}", NOW, *TURNS[:2]]
+    assert (shown["sure"], takedowns.focused()) == (wanted, "Leave it as it is")
+    takedowns.press(Keys.ESCAPE)
+    shown = takedowns.wait(lambda state: not state["busy"] and not state["sure"])
+    assert shown["result"] == ["Kept: takedown 1 of disk 1005."]
     takedowns.of_row("takedown 1 of disk 1005", "Drop")
     assert takedowns.answer(True)["result"] == ["Done: there is no takedown 1 of disk 1005 now."]
     assert takedowns.door.effects(1005)["public"] == ["read"] * 3
 
-
-@pytest.mark.parametrize("slot, days", [("50", {}), ("0", {"start": "2030-01-02", "until": "2030-01-01"})])
-def test_takedown_that_closes_nothing_is_said(takedowns, slot, days):
-    shown = takedowns.take_down("1001", "", slot, "public", **days)
-    assert shown["sure"][3:] == ["Mind: it closes nothing on any of these days.", NOW, NOTHING]
-
-
 def test_days_to_come_of_an_embargo(staff):
     """Today, its first day, its last, and the first without it; and those of the rule that it replaces."""
-    line = "Closes for the public: 2 files. Now they may read them; then they may see that they are there."
-    closes = [line, "WELCOME.TXT (disk 1001, slot 0)", "SKEW.TXT (disk 1001, slot 1)"]
+    closes = ["Closes for the public: 2 files. Now they may read them; then they may see that they are there.",
+              "WELCOME.TXT (disk 1001, slot 0)", "SKEW.TXT (disk 1001, slot 1)"]
     staff.go("rules/9")
-    days = {"start": "2090-03-01", "until": "2100-03-01"}
-    shown = staff.put_rule("rules", "9", "10", "type", "TXT", "public", effect="list", **days)
+    days = {"effect": "list", "start": "2090-03-01", "until": "2100-03-01"}
+    shown = staff.put_rule("rules", "9", "10", "type", "TXT", "public", **days)
     last = ["On 2100-02-28, its last day", "The same as on the day above."]
     without = ["On 2100-03-01, the first day without it", NOTHING]
     assert shown["sure"][2:] == [NOW, NOTHING, "On 2090-03-01, its first day", *closes, *last, *without]
@@ -116,7 +82,6 @@ def test_days_to_come_of_an_embargo(staff):
     first = ["On 2090-03-01, its first day", NOTHING, "On 2100-02-28", NOTHING]
     assert shown["sure"][3:] == [NOW, NOTHING, *first, "On 2100-03-01", *closes]
 
-
 def test_files_are_counted_and_the_first_ten_named_as_text(museum, takedowns):
     names = [*museums.HARMFUL, *(f"FILE {number}" for number in range(195))]
     museums.put_files(museum, 1077, "d64", 9, [(name, "SEQ", b"A") for name in names])
@@ -126,14 +91,16 @@ def test_files_are_counted_and_the_first_ten_named_as_text(museum, takedowns):
     assert shown["sure"][-12:] == [line, *first, "and 190 more files"]
     assert takedowns.harmed() == [None, 0]
 
-
-def test_refused_rehearsal_puts_nothing(takedowns):
+def test_rehearsal_that_closes_nothing_or_is_refused_says_so(takedowns):
+    for slot, days in (("50", {}), ("0", {"start": "2030-01-02", "until": "2030-01-01"})):
+        shown = takedowns.take_down("1001", "", slot, "public", **days)
+        assert shown["sure"][3:] == ["Mind: it closes nothing on any of these days.", NOW, NOTHING]
+        takedowns.answer(False)
     shown = takedowns.take_down("99", "", "0", "public")
     assert shown["result"] == ["There is no disk with this number. Check the number.", "Refusal: no-accession"]
     takedowns.door.before = lambda method, path: b"" if "/rehearsals/" in path else None
     assert takedowns.take_down("1001", "", "0", "public")["result"] == [CANNOT_REACH]
-    assert takedowns.sent() == []
-
+    assert takedowns.door.sent() == []
 
 @pytest.mark.parametrize("stands, is_lost", [({}, False), (takedown(1000, 0), False), ({}, True)])
 def test_lost_reply_says_that_the_desk_may_have_done_it(museum, takedowns, stands, is_lost):
@@ -143,7 +110,6 @@ def test_lost_reply_says_that_the_desk_may_have_done_it(museum, takedowns, stand
     takedowns.door.before = lost_at(1, is_lost)
     shown = takedowns.answer(True)
     assert (shown["result"], ranks(shown)) == ([UNSURE, older("takedowns")][: 1 + is_lost], list(map(str, stands)))
-
 
 def test_stop_hides_no_change_that_was_sent(takedowns):
     is_stopped, lost = threading.Event(), lost_at(1)

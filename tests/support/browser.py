@@ -10,7 +10,7 @@ from selenium import webdriver
 from selenium.common.exceptions import WebDriverException
 from selenium.webdriver.common.action_chains import ActionChains
 from selenium.webdriver.common.by import By
-from selenium.webdriver.common.keys import Keys
+from selenium.webdriver.support.wait import WebDriverWait
 
 # After how many seconds a page that does not come to its end fails the test: a machine that does much else needs them.
 LIMIT = 60
@@ -26,43 +26,36 @@ Date = class extends Date {
 """
 READ = """
 const texts = (root, selector) => Array.from(root.querySelectorAll(selector), (one) => one.textContent);
+const rows = (selector) => Array.from(open.querySelectorAll(selector),
+  (row) => Array.from(row.cells, (cell) => cell.querySelector("input")?.value ?? cell.textContent));
 const open = Array.from(document.querySelectorAll("section")).find((one) => !one.hidden) ?? document;
 const sure = document.getElementById("sure");
-const cellsOf = (row) => Array.from(row.cells, (cell) => cell.textContent);
 return {
   busy: document.querySelector("[aria-busy=true]") !== null, focus: document.activeElement.className,
   heading: texts(document, "h1")[0], title: document.title, status: texts(document, "#status").join(""),
   here: location.hash, caller: texts(document, "#caller")[0], refusal: texts(document, ".refused p"),
   result: texts(open, ".result p, .result dd, .result li"), hint: texts(open, ".hint")[0] ?? "",
-  stands: texts(open, ".stands > p"),
-  rows: Array.from(open.querySelectorAll(":is(.stands, #view) tbody tr:not(.space)"), cellsOf),
-  links: Array.from(open.querySelectorAll("tbody a"), (one) => one.getAttribute("href")),
-  list: Array.from(open.querySelectorAll(".list tbody tr"),
-    (row) => Array.from(row.cells, (cell) => cell.querySelector("input")?.value ?? cell.textContent)),
+  stands: texts(open, ".stands > p"), rows: rows(":is(.stands, #view) tbody tr:not(.space)"),
+  list: rows(".list tbody tr"), links: Array.from(open.querySelectorAll("tbody a"), (one) => one.getAttribute("href")),
   sure: sure?.open ? texts(sure, "h2, #sure-more p, #sure-more h3, #sure-more li") : null,
 };
 """
-NAMES = """
+# A script: the first control of a role with a name, or else with a longer one.
+NAMED = """
 const tags = { button: "button, summary", link: "a[href]", field: "input, select, textarea", region: "pre, section" };
-const labelOf = (one, label) => Array.from(label.childNodes).filter((node) => !node.contains(one))
+const words = (of) => Array.from(of.childNodes).filter((node) => !node.matches?.(tags.field))
   .map((node) => node.textContent).join("");
-const nameOf = (one) => (one.getAttribute("aria-label")
-  || Array.from(one.labels ?? [], (label) => labelOf(one, label)).join(" ") || one.textContent).trim();
-"""
-# Scripts: the first control of a role with a name, or else with a longer one; and the name of what has the focus.
-NAMED = NAMES + """
+const nameOf = (one) => (one.getAttribute("aria-label") || words(one.labels?.[0] ?? one)).trim();
 const [role, name] = arguments;
 const all = Array.from((document.querySelector("dialog[open]") ?? document).querySelectorAll(tags[role]))
   .filter((one) => one.checkVisibility() && !one.disabled);
 return all.find((one) => nameOf(one) === name) ?? all.find((one) => nameOf(one).includes(name)) ?? null;
 """
-FOCUSED = NAMES + "return nameOf(document.activeElement);"
-# A script: the page's own listener, which is older, comes first.
+# A script: goes to a place by its address; the page's own listener, which is older, comes first.
 FOLLOW = """
 const [place, done] = arguments;
 window.addEventListener("hashchange", () => setTimeout(done), { once: true });
-if (location.hash === place) window.dispatchEvent(new HashChangeEvent("hashchange"));
-else location.hash = place;
+if (location.hash === place) window.dispatchEvent(new HashChangeEvent("hashchange")); else location.hash = place;
 """
 # A script: gives a field a value, as somebody who types or chooses it.
 SET = """
@@ -76,34 +69,22 @@ def chromium(downloads, headed=False):
     """Chromium of one's own, which saves files in a folder, and whose clock begins at noon of the day of the tests."""
     options = webdriver.ChromeOptions()
     words = ["disable-dev-shm-usage", "disable-gpu", "lang=en", "hide-scrollbars", "window-size=1100,900"]
-    words += [] if headed else ["headless=new"]
-    words += ["no-sandbox"] if os.geteuid() == 0 else []
-    for word in words:
+    for word in [*words, *["headless=new"] * (not headed), *["no-sandbox"] * (os.geteuid() == 0)]:
         options.add_argument(f"--{word}")
     options.accept_insecure_certs = True
     options.set_capability("goog:loggingPrefs", {"browser": "ALL"})
     options.add_experimental_option("prefs", {"download.default_directory": str(downloads)})
     begun = webdriver.Chrome(options=options)
     begun.set_script_timeout(LIMIT)
-    noon = datetime.datetime.fromisoformat(f"{TODAY}T12:00:00+00:00").timestamp()
-    script = {"source": CLOCK % round(1000 * (noon - time.time()))}
-    begun.execute_cdp_cmd("Page.addScriptToEvaluateOnNewDocument", script)
+    ahead = datetime.datetime.fromisoformat(f"{TODAY}T12:00:00+00:00").timestamp() - time.time()
+    begun.execute_cdp_cmd("Page.addScriptToEvaluateOnNewDocument", {"source": CLOCK % round(1000 * ahead)})
     begun.downloads = downloads
     return begun
 
 
-def wait_for(what, find, seconds=LIMIT):
+def wait_for(what, find):
     """What `find` gives, as soon as that is something; a wait that is in vain fails the test."""
-    end, fault = time.monotonic() + seconds, None
-    while time.monotonic() < end:
-        try:
-            found = find()
-            if found:
-                return found
-        except WebDriverException as raised:
-            fault = raised
-        time.sleep(0.03)
-    raise AssertionError(f"in {seconds} seconds there is not: {what}" + (f" ({fault.msg})" if fault else ""))
+    return WebDriverWait(None, LIMIT, 0.03, [WebDriverException]).until(lambda _: find(), what)
 
 
 class Page:
@@ -114,25 +95,23 @@ class Page:
         driver.get("about:blank")
         driver.get_log("browser")
         driver.get(door.address)
+        self.read()
 
     def script(self, text, *values):
-        """What a script gives that the driver runs in the page, beside the page's own."""
         return self.driver.execute_script(text, *values)
 
-    # What the page shows
+    def cdp(self, name, **values):
+        return self.driver.execute_cdp_cmd(name, values)
 
     def wait(self, holds, what="the state that the test waits for"):
-        """What the page shows, once something holds of that."""
-        last = {}
+        """What the page shows, once something holds of that; a wait that is in vain says what it shows at last."""
+        last = {"awaited": what}
 
         def shown():
             last.update(self.script(READ))
             return holds(last) and dict(last)
 
-        try:
-            return wait_for(what, shown)
-        except AssertionError as fault:
-            raise AssertionError(f"{fault}; the page shows {last}") from None
+        return wait_for(last, shown)
 
     def read(self, holds=lambda state: True):
         return self.wait(lambda state: (not state["busy"] or state["sure"]) and holds(state), "a page that is done")
@@ -149,16 +128,11 @@ class Page:
         return self.one(selector).get_property("textContent")
 
     def texts(self, selector):
-        script = "return Array.from(document.querySelectorAll(arguments[0]), (one) => one.textContent)"
-        return self.script(script, selector)
-
-    def focus(self):
-        """What has the focus: its id, else its text."""
-        return self.script("const at = document.activeElement; return at.id || at.textContent;")
+        return self.script("return [...document.querySelectorAll(arguments[0])].map((at) => at.textContent)", selector)
 
     def focused(self):
-        """The name of what has the focus."""
-        return self.script(FOCUSED)
+        """The name of what has the focus, as the browser tells it a screen reader."""
+        return self.driver.switch_to.active_element.accessible_name
 
     def harmed(self):
         """What markup in a name has done, and how many elements it has become."""
@@ -169,20 +143,15 @@ class Page:
         return [line["message"] for line in self.driver.get_log("browser")]
 
     def saved(self, name):
-        """The bytes of a file that the page saved, once the browser has all of it."""
+        """The bytes of a file that the page saved, once Chromium or Firefox has no bytes of it in another file."""
         path = self.driver.downloads / name
-        # until then Chromium and Firefox have its bytes in another file
-        beside = lambda: [one for word in ("crdownload", "part") for one in path.parent.glob(f"*.{word}")]
-        is_whole = lambda: path.exists() and path.stat().st_size and not beside()
-        wait_for(f"a download with the name {name}", is_whole)
+        others = lambda: [one for one in path.parent.iterdir() if one.suffix in (".crdownload", ".part")]
+        wait_for(f"a download with the name {name}", lambda: path.exists() and path.stat().st_size and not others())
         data = path.read_bytes()
         path.unlink()
         return data
 
-    # What somebody does there
-
     def load(self):
-        """Loads the page anew."""
         self.driver.refresh()
         return self.read()
 
@@ -206,19 +175,9 @@ class Page:
         field.clear()
         field.send_keys(*keys)
 
-    def back(self):
-        self.driver.back()
-
     def press(self, *keys):
         """Presses keys wherever the focus is."""
         ActionChains(self.driver, duration=0).send_keys(*keys).perform()
-
-    def escape(self):
-        self.press(Keys.ESCAPE)
-        return self.wait(lambda state: not state["busy"] and not state["sure"])
-
-    def cdp(self, name, **values):
-        return self.driver.execute_cdp_cmd(name, values)
 
     @contextlib.contextmanager
     def phone(self):
@@ -229,17 +188,9 @@ class Page:
         finally:
             self.cdp("Emulation.clearDeviceMetricsOverride")
 
-    def scheme(self, name):
-        """Takes the colours that the reader's machine wishes: light or dark."""
-        self.cdp("Emulation.setEmulatedMedia", features=[{"name": "prefers-color-scheme", "value": name}])
-
 
 class ReadersPage(Page):
     """The page for readers."""
-
-    def __init__(self, driver, door):
-        super().__init__(driver, door)
-        self.read()
 
     def find(self, words):
         return self.go(f"find/{urllib.parse.quote(words, safe='')}")
@@ -255,12 +206,12 @@ class ReadersPage(Page):
 class StaffPage(Page):
     """The staff's page."""
 
-    def begin(self, name="Ada Archivist", reason="a letter of today", key=STAFF):
+    def begin(self):
         """Gives the page the key of the staff, and types who works and why."""
-        self.one("#key").send_keys(key)
+        self.one("#key").send_keys(STAFF)
         self.one("#key-form button").click()
         self.wait(lambda state: not state["busy"] and "takes this key" in state["status"], "a key that is taken")
-        self.fill("who", name=name, reason=reason)
+        self.fill("who", name="Ada Archivist", reason="a letter of today")
         return self
 
     def set(self, selector, value):
@@ -278,8 +229,7 @@ class StaffPage(Page):
         for name in ("public", "room", "staff"):
             self.set(f"#{section} [value={name}]", name in audiences)
         self.fill(section, scope=scope, rank=rank, effect=effect, how=how, **{"from": start}, until=until)
-        if what is not None:
-            self.fill(section, what=what)
+        self.fill(section, **({} if what is None else {"what": what}))
         return self.submit(section)
 
     def take_down(self, disk, rank, slot, *audiences, **days):
@@ -293,7 +243,3 @@ class StaffPage(Page):
     def of_row(self, words, button):
         """Presses a button of the row that it names."""
         return self.click(f"[aria-label='{button} {words}']")
-
-    def sent(self):
-        """The changes that the page has sent since it was asked last: method, path, name and reason."""
-        return self.door.sent()

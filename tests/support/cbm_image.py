@@ -2,22 +2,27 @@
 
 It shares no code with the program: blocks are placed by counting the sectors of the tracks."""
 
+import struct
+
 SECTORS = {track: 21 if track < 18 else 19 if track < 25 else 18 if track < 31 else 17 for track in range(1, 36)}
-BLOCKS = sum(SECTORS.values())
-SIZE = 256 * BLOCKS
-# That of an image with an error byte for each block behind it.
-MARKED_SIZE = SIZE + BLOCKS
+ALL_BLOCKS = [(track, sector) for track, count in SECTORS.items() for sector in range(count)]
+BLOCKS = len(ALL_BLOCKS)
+# The bytes of an image, without and with an error byte for each block behind it.
+SIZE, MARKED_SIZE = 256 * BLOCKS, 257 * BLOCKS
 # The blocks that files can have beside a directory that has a track of its own, and those of its entries.
-DATA_BLOCKS = [(track, sector) for track in SECTORS if track != 18 for sector in range(SECTORS[track])]
+DATA_BLOCKS = [(track, sector) for track, sector in ALL_BLOCKS if track != 18]
 ENTRY_BLOCKS = [(18, sector) for sector in range(1, SECTORS[18])]
+# Where the map of free blocks begins: for each track how many sectors are free, and three bytes with a bit for each.
+MAP = 256 * ALL_BLOCKS.index((18, 0)) + 4
 
 
 def place(track, sector):
     """The byte of the image at which a block begins."""
-    return 256 * (sum(SECTORS[t] for t in range(1, track)) + sector)
+    return 256 * ALL_BLOCKS.index((track, sector))
 
 
-MAP = place(18, 0) + 4
+def block_of(image, block):
+    return image[place(*block) : place(*block) + 256]
 
 
 def mark_place(track, sector):
@@ -25,7 +30,7 @@ def mark_place(track, sector):
     return SIZE + place(track, sector) // 256
 
 
-def marks_by_chance(random_, counts=(0, 1, 10, 40)):
+def marks_by_chance(random_, counts):
     """The error bytes of a disk, of which one of these counts report an error."""
     marks = bytearray(random_.choice([0, 1]) for _ in range(BLOCKS))
     for block in random_.sample(range(BLOCKS), random_.choice(counts)):
@@ -33,78 +38,54 @@ def marks_by_chance(random_, counts=(0, 1, 10, 40)):
     return bytes(marks)
 
 
-def padded(name):
-    return name.ljust(16, b"\xa0")
-
-
-def parts_of(data):
-    """What each block of a file holds of its bytes."""
-    return [data[i : i + 254] for i in range(0, len(data), 254)]
-
-
-def put_chain(image, blocks, parts):
-    """Writes blocks that link each to the next, and the last to how far it is used."""
-    for here, after, part in zip(blocks, blocks[1:] + [None], parts):
+def put_chain(image, blocks, data):
+    """Writes bytes to the first of some blocks, which link each to the next and the last to how far it is used, and
+    gives their number."""
+    parts = [data[at : at + 254] for at in range(0, len(data), 254)]
+    for here, after, part in zip(blocks, [*blocks[1 : len(parts)], None], parts):
         link = bytes(after) if after else bytes([0, len(part) + 1])
         image[place(*here) : place(*here) + 2 + len(part)] = link + part
+    return len(parts)
 
 
 def put_file(image, free, track, data):
     """Writes the blocks of a file on a track, ten sectors apart, and gives the first and their number."""
-    parts = parts_of(data)
     blocks, sector = [], 0
-    for _ in parts:
+    for _ in range(0, len(data), 254):
         while (track, sector) not in free:
             sector = (sector + 1) % SECTORS[track]
         free.remove((track, sector))
         blocks.append((track, sector))
         sector = (sector + 10) % SECTORS[track]
-    put_chain(image, blocks, parts)
-    return blocks[0], len(parts)
+    return blocks[0], put_chain(image, blocks, data)
 
 
 def put_directory(image, free, label, entries):
     """Writes a directory of entries, each a type, a first block, a name and a size, and the map of the free blocks,
     with the disk's name."""
-    groups = [entries[at : at + 8] for at in range(0, len(entries), 8)] or [[]]
-    blocks = ENTRY_BLOCKS[: len(groups)]
-    for here, after, group in zip(blocks, [*blocks[1:], None], groups):
-        rows = b"".join(
-            b"\x00\x00" + bytes([kind, *first]) + padded(name) + bytes(9) + size.to_bytes(2, "little")
-            for kind, first, name, size in group
-        )
-        image[place(*here) : place(*here) + max(2, len(rows))] = (bytes(after) if after else b"\x00\xff") + rows[2:]
-    head = b"\x12\x01A\x00" + free_map(set(free) - set(blocks)) + padded(label) + b"\xa0\xa0RR\xa02A"
-    image[place(18, 0) : place(18, 0) + len(head)] = head
+    rows = [struct.pack("<2xB2s16s9xH", kind, bytes(first), name.ljust(16, b"\xa0"), size)
+            for kind, first, name, size in entries]
+    groups = [b"".join(rows[at : at + 8])[2:].ljust(254, b"\x00") for at in range(0, len(rows) or 1, 8)]
+    free = set(free) - set(ENTRY_BLOCKS[: put_chain(image, ENTRY_BLOCKS, b"".join(groups))])
+    bits = [sum(1 << sector for sector in range(count) if (track, sector) in free) for track, count in SECTORS.items()]
+    head = b"\x12\x01A\x00" + b"".join(struct.pack("<I", one.bit_count() | one << 8) for one in bits)
+    image[MAP - 4 : MAP + 163] = head + label.ljust(16, b"\xa0") + b"\xa0\xa0RR\xa02A"
 
 
 def filled(label, files):
     """An image with files, each the byte of its type, its name and its bytes: block after block, and at most 144."""
     image, free, entries = bytearray(SIZE), DATA_BLOCKS, []
     for kind, name, data in files:
-        parts = parts_of(data)
-        blocks, free = free[: len(parts)], free[len(parts) :]
-        put_chain(image, blocks, parts)
-        entries.append((kind, blocks[0], name, len(parts)))
+        entries.append((kind, free[0], name, put_chain(image, free, data)))
+        free = free[entries[-1][3] :]
     put_directory(image, {*free, *ENTRY_BLOCKS}, label, entries)
     return bytes(image)
 
 
 def new_free():
-    """The blocks of an empty disk that files can have."""
-    return {*DATA_BLOCKS, *ENTRY_BLOCKS[1:]}
-
-
-def free_map(free):
-    """The four bytes for each track: how many sectors are free, and a bit for each."""
-    table = b""
-    for track in SECTORS:
-        bits = sum(1 << sector for sector in range(SECTORS[track]) if (track, sector) in free)
-        table += bytes([bin(bits).count("1")]) + bits.to_bytes(3, "little")
-    return table
+    return {*DATA_BLOCKS, *ENTRY_BLOCKS}
 
 
 def free_blocks(image):
-    """The blocks that the disk's map marks free, in order."""
-    bits = {track: int.from_bytes(image[MAP + 4 * track - 3 : MAP + 4 * track], "little") for track in SECTORS}
-    return [(track, sector) for track in SECTORS for sector in range(SECTORS[track]) if bits[track] >> sector & 1]
+    counted = [one for (one,) in struct.iter_unpack("<I", image[MAP : MAP + 140])]
+    return {(track, sector) for track, sector in ALL_BLOCKS if counted[track - 1] >> 8 + sector & 1}

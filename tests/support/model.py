@@ -1,222 +1,162 @@
 """A desk by plain functions: what it holds, the reply that is due to the bytes of a visit, and what a command changes.
 
-What is on a disk it has from the program: `list` gives the files, `cat` their bytes, and all else of a survey comes
-from a desk that has the disk alone. So it shows what the desk makes of requests, keys and rules, and which disk it
-describes, and not how it reads a disk."""
+It shares no code with the program: docs/FORMATS.md alone says what it does."""
 
 import collections
 import functools
-import json
-import os
-import subprocess
 
-from support import cbm_image, cpm_image, model_requests, model_rules
-from support.clients import Serving, by_client
-from support.model_requests import Refused
+from support import cbm_image, cpm_image, model_disks, model_rules
+from support.model_requests import DEED, KEY, ROUTES, Refused, asked_by, object_of, refuse_if, rule_of
 from support.samples import (
-    CONFLICT, DIFFERS, DIGEST_DIFFERS, DONE, LISTED_ONLY, NO_ACCESSION, NO_DEED, NO_FILE, SOUND, STAFF, STAFF_ONLY,
-    UNKNOWN_KEY, WRONG_SIZE, content, denied, digest, faulty, listed, put, put_image, survey, table, told,
+    BAD_BODY, DONE, NO_ACCESSION, NO_DEED, STAFF, STAFF_ONLY, UNKNOWN_KEY, content, denied, digest, refused, table,
+    told,
 )
-from support.server import write
 
 SIZES = {"cpm8": cpm_image.SIZE, "d64": cbm_image.SIZE, "d64e": cbm_image.MARKED_SIZE}
-# What a survey tells of the desk, and not of the disk.
-OF_DESK = ("accession", "deed", "donor", "kind", "signed")
 AUDIENCES = ("public", "room", "staff")
-SERVED = ("SEQ", "PRG", "USR")
-
+COLUMNS = ("accession", "deed", "kind", "slot", "user", "name", "type", "size", "faults", "rule", "effect")
+# What all may ask.
+QUESTIONS = ("ask images", "ask listing", "ask bytes", "ask catalogue")
 # An image that stands: its bytes, and the digest that was given for them.
 Image = collections.namedtuple("Image", "kind deed digest bytes")
 # What is due to a visit: a reply, and what is to be done where it comes, or None.
 Due = collections.namedtuple("Due", "reply change", defaults=(None,))
 
 
-Refusal = Refused
-
-
-def refuse_if(holds, reply_):
-    if holds:
-        raise Refused(reply_)
-
-
 class Disks:
-    """What the program tells of a disk, asked once."""
+    """Disks by the bytes of their images: those that were made, and those that are read when they are asked for."""
 
-    def __init__(self, program, folder):
-        self.program, self.folder = program, folder
-        self.files, self.contents, self.report = map(functools.cache, (self.listed, self.read, self.surveyed))
+    def __init__(self):
+        self.disks = {}
 
-    def path(self, image):
-        path = os.path.join(self.folder, f"{digest(image)}.img")
-        if not os.path.exists(path):
-            write(path, image)
-        return path
-
-    def run(self, *words):
-        return subprocess.run([self.program, *words], capture_output=True, check=True, stdin=subprocess.DEVNULL).stdout
-
-    def listed(self, kind, image):
-        return model_rules.files_told(self.run("list", kind, self.path(image)).decode().splitlines()[:-1])
-
-    def read(self, kind, image, slot):
-        return self.run("cat", kind, self.path(image), slot)
-
-    def surveyed(self, kind, image):
-        """What a survey tells of a disk that is alone in a desk."""
-        store = f"{self.path(image)}.{kind}.sqlite"
-        self.run("init", "--store", store, "--key", STAFF)
-        deed = put("/deeds/1", {"donor": "D", "signed": "2000-01-01"})
-        with Serving(self.program, store, 3) as serving:
-            serving.listens()
-            *_, came = [by_client(serving.port, one) for one in (deed, put_image(1, kind, 1, image), survey(1))]
-        keys = json.loads(came.partition(b"\r\n\r\n")[2])
-        return {name: value for name, value in keys.items() if name not in OF_DESK}
-
-
-def number_or_none(text):
-    return int(text) if text else None
+    def disk(self, kind, image):
+        if image not in self.disks:
+            self.disks[image] = model_disks.read(kind, image)
+        return self.disks[image]
 
 
 class Desk:
     """What a desk holds, and the day that it is there."""
 
+    routes = ROUTES
+
     def __init__(self, disks, day):
         self.disks, self.day = disks, day
-        self.deeds, self.images, self.checked = {}, {}, {}
-        # by "T" and an accession, or "R" and a deed: the rules by their rank
-        self.rules = collections.defaultdict(dict)
-        self.badges = {digest(STAFF.encode()): "staff"}
-
-    # What is due
+        self.deeds, self.images, self.badges = {}, {}, {digest(STAFF.encode()): "staff"}
+        # by "T" and an accession, or "R" and a deed: the rules by their rank; and the latest checks by accessions
+        self.rules, self.latest = collections.defaultdict(dict), {}
 
     def due(self, data):
         """What is due to the bytes of a visit."""
         try:
-            return self.answer(model_requests.asked_by(data))
+            return self.answer(asked_by(data, self.routes))
         except Refused as fault:
             return Due(fault.args[0])
 
     def answer(self, asked):
         audience = "public" if asked.key is None else self.badges.get(digest(asked.key))
         refuse_if(audience is None, UNKNOWN_KEY)
+        refuse_if(audience != "staff" and asked.what not in QUESTIONS, STAFF_ONLY)
         numbers = [int(part) if part.isdigit() and len(part) < 7 else part for part in asked.parts]
-        if asked.what in QUESTIONS:
-            return QUESTIONS[asked.what](self, audience, *numbers)
-        refuse_if(audience != "staff", STAFF_ONLY)
-        return FOR_STAFF[asked.what](self, asked.body, *numbers)
-
-    # Questions
-
-    def lines(self, acc, audience):
-        """The files of an accession that are listed to an audience: each with its verdict."""
-        image = self.image(acc)
-        for file in self.disks.files(image.kind, image.bytes):
-            label, effect = self.verdict(acc, audience, file)
-            if effect != "deny":
-                yield file, label, effect
-
-    def verdict(self, acc, audience, file):
-        bands = [(label, self.by_rank(label)) for label in (f"T{acc}", f"R{self.images[acc].deed}")]
-        return model_rules.verdict(bands, audience, self.day, file)
-
-    def by_rank(self, label):
-        return [self.rules[label][rank] for rank in sorted(self.rules[label])]
+        answer = getattr(self, asked.what.replace(" ", "_"))
+        return answer(audience if asked.what in QUESTIONS else asked.body, *numbers)
 
     def image(self, acc):
         refuse_if(acc not in self.images, NO_ACCESSION)
         return self.images[acc]
 
-    def ask_images(self, audience):
-        counts = [(acc, len(list(self.lines(acc, audience)))) for acc in sorted(self.images)]
-        return Due(told(images=[{**self.heading(acc), "files": count} for acc, count in counts if count]))
+    def disk(self, acc):
+        image = self.image(acc)
+        return self.disks.disk(image.kind, image.bytes)
+
+    def files_of(self, acc):
+        return [file.fields for file in self.disk(acc).files]
 
     def heading(self, acc):
         return {"accession": acc, "deed": self.images[acc].deed, "kind": self.images[acc].kind}
 
-    def cells(self, file, label, effect):
-        """A file as it is listed."""
-        size, user = number_or_none(file["size"]), number_or_none(file["user"])
-        return listed(int(file["slot"]), file["name"], file["type"], size, label, effect, file["faults"].split(), user)
+    def by_rank(self, label):
+        return [self.rules[label][rank] for rank in sorted(self.rules[label])]
+
+    def bands(self, acc, **instead):
+        """The rules that decide on a disk, by their labels; `instead` has others by a label."""
+        return [(label, instead.get(label, self.by_rank(label))) for label in (f"T{acc}", f"R{self.images[acc].deed}")]
+
+    def verdict(self, acc, audience, file):
+        return model_rules.verdict(self.bands(acc), audience, self.day, file)
+
+    def lines(self, acc, audience):
+        """The files of an accession that are listed to an audience: each with its verdict."""
+        files, bands = self.files_of(acc), self.bands(acc)
+        lines = ((file, *model_rules.verdict(bands, audience, self.day, file)) for file in files)
+        return [line for line in lines if line[2] != "deny"]
+
+    def ask_images(self, audience):
+        counts = [(acc, len(self.lines(acc, audience))) for acc in sorted(self.images)]
+        return Due(told(images=[{**self.heading(acc), "files": count} for acc, count in counts if count]))
 
     def ask_listing(self, audience, acc):
-        return Due(told(files=[self.cells(*line) for line in self.lines(acc, audience)], **self.heading(acc)))
+        files = [
+            {**file, **{name: int(file[name]) if file[name] else None for name in ("slot", "size", "user")},
+             "faults": file["faults"].split(), "rule": label, "effect": effect}
+            for file, label, effect in self.lines(acc, audience)
+        ]
+        return Due(told(files=files, **self.heading(acc)))
 
     def ask_catalogue(self, audience):
         lines = ((acc, line) for acc in sorted(self.images) for line in self.lines(acc, audience))
-        return Due(table({**self.cells(*line), **self.heading(acc)} for acc, line in lines))
+        rows = ({**file, **self.heading(acc), "rule": label, "effect": effect} for acc, (file, label, effect) in lines)
+        return Due(table([COLUMNS, *([row[column] for column in COLUMNS] for row in rows)]))
 
     def ask_bytes(self, audience, acc, slot):
-        image = self.image(acc)
-        files = [file for file in self.disks.files(image.kind, image.bytes) if file["slot"] == str(slot)]
-        refuse_if(not files, NO_FILE)
-        label, effect = self.verdict(acc, audience, files[0])
+        file = next((file for file in self.disk(acc).files if file.fields["slot"] == str(slot)), None)
+        refuse_if(file is None, refused(404, "no-file"))
+        label, effect = self.verdict(acc, audience, file.fields)
         refuse_if(effect != "read", denied(label))
-        refuse_if(image.kind != "cpm8" and files[0]["type"] not in SERVED, LISTED_ONLY)
-        refuse_if(files[0]["faults"], faulty(*files[0]["faults"].split()))
-        return Due(content(self.disks.contents(image.kind, image.bytes, str(slot))))
-
-    # What is for the staff
+        is_given = self.images[acc].kind == "cpm8" or file.fields["type"] in model_disks.GIVEN
+        refuse_if(not is_given, refused(422, "listed-only"))
+        refuse_if(file.data is None, refused(422, "faulty", faults=file.fields["faults"].split()))
+        return Due(content(file.data))
 
     def survey(self, _, acc):
-        image = self.image(acc)
-        donor, signed = self.deeds[image.deed]
-        report = self.disks.report(image.kind, image.bytes)
+        report, (donor, signed) = self.disk(acc).report, self.deeds[self.images[acc].deed]
         return Due(told(donor=donor, signed=signed, **self.heading(acc), **report))
 
     def check(self, _, acc):
         image = self.image(acc)
-        differs = digest(image.bytes) != image.digest
-        return Due(DIFFERS if differs else SOUND, lambda: self.checked.update({acc: differs}))
+        outcome = "sound" if digest(image.bytes) == image.digest else "changed"
+        return Due(told(outcome=outcome), functools.partial(self.latest.update, {acc: (self.day, outcome)}))
 
     def put_deed(self, body, num):
-        deed = model_requests.deed_of(body)
-        return Due(DONE, lambda: self.deeds.update({num: deed}))
+        deed = object_of(body, DEED)
+        refuse_if(len(deed["donor"].encode()) > 1000, BAD_BODY)
+        return Due(DONE, functools.partial(self.deeds.update, {num: (deed["donor"], deed["signed"])}))
 
-    def put_rule(self, body, num, rank):
-        rule = model_requests.rule_of(body, rank, ("deny", "list", "read"))
-        refuse_if(num not in self.deeds, NO_DEED)
-        return Due(DONE, lambda: self.rules[f"R{num}"].update({rank: rule}))
+    def rules_of(self, scope, num):
+        refuse_if(scope == "deeds" and num not in self.deeds, NO_DEED)
+        return self.rules[f"R{num}"] if scope == "deeds" else self.image(num) and self.rules[f"T{num}"]
 
-    def drop_rule(self, _, num, rank):
-        refuse_if(num not in self.deeds, NO_DEED)
-        return Due(DONE, lambda: self.rules[f"R{num}"].pop(rank, None))
+    def put_rule(self, body, scope, num, rank):
+        rule = rule_of(body, rank, ("deny", "list", "read") if scope == "deeds" else ("deny", "list"))
+        return Due(DONE, functools.partial(self.rules_of(scope, num).update, {rank: rule}))
 
-    def put_takedown(self, body, acc, rank):
-        rule = model_requests.rule_of(body, rank, ("deny", "list"))
-        self.image(acc)
-        return Due(DONE, lambda: self.rules[f"T{acc}"].update({rank: rule}))
-
-    def drop_takedown(self, _, acc, rank):
-        self.image(acc)
-        return Due(DONE, lambda: self.rules[f"T{acc}"].pop(rank, None))
+    def drop_rule(self, _, scope, num, rank):
+        return Due(DONE, functools.partial(self.rules_of(scope, num).pop, rank, None))
 
     def put_image(self, body, acc, kind, deed, sha256):
         image = Image(kind, deed, sha256.lower(), body)
         refuse_if(deed not in self.deeds, NO_DEED)
-        refuse_if(len(body) != SIZES[kind], WRONG_SIZE)
-        refuse_if(digest(body) != image.digest, DIGEST_DIFFERS)
-        stands = self.images.get(acc, image)
-        refuse_if(stands[:3] != image[:3], CONFLICT)
-        return Due(DONE, lambda: self.images.update({acc: stands}))
-
-    def is_last_staff(self, key):
-        return [one for one, audience in self.badges.items() if audience == "staff"] == [key]
+        refuse_if(len(body) != SIZES[kind], refused(422, "wrong-size"))
+        refuse_if(digest(body) != image.digest, refused(422, "digest-differs"))
+        refuse_if(self.images.get(acc, image)[:3] != image[:3], refused(409, "conflict"))
+        return Due(DONE, functools.partial(self.images.setdefault, acc, image))
 
     def put_key(self, body, key):
-        key, audience = key.lower(), model_requests.audience_of(body)
-        refuse_if(audience != "staff" and self.is_last_staff(key), CONFLICT)
-        return Due(DONE, lambda: self.badges.update({key: audience}))
+        return self.with_keys({**self.badges, key.lower(): object_of(body, KEY)["audience"]})
 
     def drop_key(self, _, key):
-        refuse_if(self.is_last_staff(key.lower()), CONFLICT)
-        return Due(DONE, lambda: self.badges.pop(key.lower(), None))
+        return self.with_keys({one: audience for one, audience in self.badges.items() if one != key.lower()})
 
-
-QUESTIONS = {
-    "images": Desk.ask_images, "listing": Desk.ask_listing, "bytes": Desk.ask_bytes, "catalogue": Desk.ask_catalogue
-}
-FOR_STAFF = {
-    "survey": Desk.survey, "check": Desk.check, "put deed": Desk.put_deed, "put rule": Desk.put_rule,
-    "drop rule": Desk.drop_rule, "put takedown": Desk.put_takedown, "drop takedown": Desk.drop_takedown,
-    "put image": Desk.put_image, "put key": Desk.put_key, "drop key": Desk.drop_key,
-}
+    def with_keys(self, badges):
+        refuse_if("staff" not in badges.values(), refused(409, "conflict"))
+        return Due(DONE, functools.partial(setattr, self, "badges", badges))

@@ -5,7 +5,7 @@ import datetime
 import json
 import re
 
-from support.samples import BAD_BODY, BAD_HEAD, FRAMING, NO_ROUTE, allows
+from support.samples import BAD_BODY, BAD_HEAD, FRAMING, compact, refused
 
 HEAD_LIMIT, BODY_LIMIT = 8192, 262144
 TOKEN = rb"[!#$%&'*+.^_`|~0-9A-Za-z-]+"
@@ -13,45 +13,31 @@ TOKEN = rb"[!#$%&'*+.^_`|~0-9A-Za-z-]+"
 HEAD = re.compile(
     rb"(?:\r?\n)*(%b) ([!-~\x80-\xff]+) HTTP/1\.[01]\r?\n((?:%b:[\t -~\x80-\xff]*\r?\n){0,64})\r?\n" % (TOKEN, TOKEN)
 )
-
-# The bytes of a visit in their parts: the method, the target, the fields, and what follows the head.
+# The bytes of a visit in their parts, with what follows the head.
 Parts = collections.namedtuple("Parts", "method target fields rest")
 # What is asked: a word for it, the parts of the path, the key's bytes or None, and the body.
 Asked = collections.namedtuple("Asked", "what parts key body")
-
 NUMBER, RANK, SLOT = "([1-9][0-9]{0,5})", "([1-9][0-9]{0,3})", "(0|[1-9][0-9]{0,3})"
 KIND, DIGEST = "(cpm8|d64|d64e)", "([0-9A-Fa-f]{64})"
 # Each path, and what its methods ask.
-ROUTES = [
-    (re.compile(path), methods)
-    for path, methods in [
-        ("/images", {"GET": "images"}),
-        (f"/images/{NUMBER}", {"GET": "listing"}),
-        (f"/images/{NUMBER}/files/{SLOT}", {"GET": "bytes"}),
-        (f"/images/{NUMBER}/survey", {"GET": "survey"}),
-        (f"/images/{NUMBER}/check", {"POST": "check"}),
-        (f"/images/{NUMBER}/rules/{RANK}", {"PUT": "put takedown", "DELETE": "drop takedown"}),
-        (f"/accessions/{NUMBER}/{KIND}/{NUMBER}/{DIGEST}", {"PUT": "put image"}),
-        (f"/deeds/{NUMBER}", {"PUT": "put deed"}),
-        (f"/deeds/{NUMBER}/rules/{RANK}", {"PUT": "put rule", "DELETE": "drop rule"}),
-        (f"/badges/{DIGEST}", {"PUT": "put key", "DELETE": "drop key"}),
-        ("/catalogue", {"GET": "catalogue"}),
-    ]
-]
+ROUTES = [(re.compile(path), methods) for path, methods in [
+    ("/images", {"GET": "ask images"}), ("/catalogue", {"GET": "ask catalogue"}),
+    (f"/images/{NUMBER}", {"GET": "ask listing"}), (f"/images/{NUMBER}/files/{SLOT}", {"GET": "ask bytes"}),
+    (f"/images/{NUMBER}/survey", {"GET": "survey"}), (f"/images/{NUMBER}/check", {"POST": "check"}),
+    (f"/accessions/{NUMBER}/{KIND}/{NUMBER}/{DIGEST}", {"PUT": "put image"}),
+    (f"/(deeds|images)/{NUMBER}/rules/{RANK}", {"PUT": "put rule", "DELETE": "drop rule"}),
+    (f"/deeds/{NUMBER}", {"PUT": "put deed"}),
+    (f"/badges/{DIGEST}", {"PUT": "put key", "DELETE": "drop key"}),
+]]
 
 
 class Refused(Exception):
     """The reply that is due in place of an answer."""
 
 
-class NoBody(Refused):
-    """A body that cannot be read."""
-
-    def __init__(self):
-        super().__init__(BAD_BODY)
-
-
-# Heads
+def refuse_if(holds, reply):
+    if holds:
+        raise Refused(reply)
 
 
 def parted(data):
@@ -72,11 +58,9 @@ def values(parts, name):
 
 def length_of(parts):
     """The length of the body that the fields tell, or None where they tell none."""
-    told = values(parts, b"content-length") or [b"0"]
-    if len(told) > 1 or not re.fullmatch(rb"[0-9]+", told[0]) or values(parts, b"transfer-encoding"):
-        return None
-    digits = told[0].lstrip(b"0") or b"0"
-    return int(digits) if len(digits) <= 6 and int(digits) <= BODY_LIMIT else None
+    found = re.fullmatch(b"0*([0-9]{1,6})", b" ".join(values(parts, b"content-length") or [b"0"]))
+    is_length = found and int(found[1]) <= BODY_LIMIT and not values(parts, b"transfer-encoding")
+    return int(found[1]) if is_length else None
 
 
 def is_waited_for(data):
@@ -88,134 +72,54 @@ def is_waited_for(data):
     return length is not None and length > len(parts.rest)
 
 
-def asked_by(data, routes=ROUTES):
+def asked_by(data, routes):
     """What the bytes of a visit ask of some routes. Raises the reply that is due where they ask nothing."""
     parts = parted(data)
-    if parts is None:
-        raise Refused(BAD_HEAD)
+    refuse_if(parts is None, BAD_HEAD)
     length, keys = length_of(parts), values(parts, b"desk-key")
-    if length is None or len(keys) > 1 or length > len(parts.rest):
-        raise Refused(FRAMING)
+    refuse_if(length is None or len(keys) > 1 or length > len(parts.rest), FRAMING)
     matched = ((pattern.fullmatch(parts.target.split("?")[0]), methods) for pattern, methods in routes)
     found, methods = next((route for route in matched if route[0]), (None, None))
-    if not found:
-        raise Refused(NO_ROUTE)
-    if parts.method not in methods:
-        raise Refused(allows(", ".join(methods)))
+    refuse_if(not found, refused(404, "no-route"))
+    refuse_if(parts.method not in methods, refused(405, "method", f"Allow: {', '.join(methods)}"))
     return Asked(methods[parts.method], found.groups(), keys[0] if keys else None, parts.rest[:length])
 
 
-# Bodies
+# Bodies: patterns of their objects, as they are written without blanks and with their keys in order
+
+DAY, AUDIENCE, PRINTED = '"[0-9]{4}-[0-9]{2}-[0-9]{2}"', '"(?:public|room|staff)"', r'(?:[ !#-\[\]-~]|\\["\\])'
+SELECT = '"all":true|"slot":[0-9]{1,4}|"user":(?:[0-9]|1[0-5])|"prefix":"%s{0,64}"|"type":"%s{0,16}"'
+RULE = r'{"audiences":\[%s(?:,%s)*\],"effect":"(?:deny|list|read)"(?:,"from":(?:%s|null))?,"select":{(?:%s)}'
+RULE = RULE % (AUDIENCE, AUDIENCE, DAY, SELECT % (PRINTED, PRINTED)) + '(?:,"until":(?:%s|null))?}' % DAY
+DEED, KEY = r'{"donor":"(?:[^"\\]|\\["\\])+","signed":%s}' % DAY, '{"audience":"(?:room|staff)"}'
 
 
-def need(holds):
-    if not holds:
-        raise NoBody
+def number(text):
+    """A number; one that is not of digits alone gets a point, which no body may have."""
+    if len(text) > 300 or not abs(float(text)) < float("inf"):
+        raise ValueError(text)
+    return int(text) if text.isdigit() else float(text)
 
 
-class Other:
-    """A number that is not written in digits alone."""
-
-
-def whole_number(text):
-    if not text.isdigit():
-        return Other()
-    need(len(text) <= 300)
-    return int(text)
-
-
-def other_number(text):
-    need(abs(float(text)) < float("inf"))
-    return Other()
-
-
-def texts_in(value):
-    """The texts of a value, at any depth but in an object, whose own are read with it."""
-    if isinstance(value, str):
-        yield value
-    elif isinstance(value, list):
-        for one in value:
-            yield from texts_in(one)
-
-
-def members(pairs):
-    """An object; half of a pair of surrogates is no text."""
-    for name, value in pairs:
-        for text in (name, *texts_in(value)):
-            text.encode()
-    return dict(pairs)
-
-
-def object_of(body, needed, optional=()):
-    """The object of a body, with these keys and no others."""
-    reading = {"parse_int": whole_number, "parse_float": other_number, "parse_constant": lambda _: need(False)}
+def object_of(body, pattern):
+    """The object of a body, which has to be as a pattern says, and its days to be some."""
+    reading = dict.fromkeys(("parse_int", "parse_float", "parse_constant"), number)
+    # (half of a pair of surrogates is no text)
+    reading["object_pairs_hook"] = lambda pairs: compact(pairs) and dict(pairs)
     try:
-        value = json.loads(body.decode(), object_pairs_hook=members, **reading)
+        value = json.loads(body.decode(), **reading)
+        text = compact(value).decode()
+        for day in re.findall(r'"(?:from|signed|until)":"([0-9-]{10})"', text):
+            datetime.date.fromisoformat(day)
     except (ValueError, RecursionError) as fault:
-        raise NoBody from fault
-    need(isinstance(value, dict) and set(needed) <= set(value) <= {*needed, *optional})
-    return value
-
-
-def date_of(value):
-    """A date as it is written, of the years 0001 to 9999."""
-    need(isinstance(value, str) and re.fullmatch("[0-9]{4}-[0-9]{2}-[0-9]{2}", value))
-    try:
-        datetime.date.fromisoformat(value)
-    except ValueError as fault:
-        raise NoBody from fault
-    return value
-
-
-def deed_of(body):
-    """The donor and the date of a deed."""
-    value = object_of(body, ["donor", "signed"])
-    donor = value["donor"]
-    need(isinstance(donor, str) and 1 <= len(donor.encode()) <= 1000 and min(donor) >= " ")
-    return donor, date_of(value["signed"])
-
-
-def word_of(value, words):
-    need(isinstance(value, str) and value in words)
-    return value
-
-
-def is_printed(value, limit):
-    return isinstance(value, str) and len(value) <= limit and all(" " <= sign <= "~" for sign in value)
-
-
-def is_number(value, limit):
-    return type(value) is int and value <= limit
-
-
-SELECTORS = {
-    "all": lambda value: value is True,
-    "slot": lambda value: is_number(value, 9999),
-    "prefix": lambda value: is_printed(value, 64),
-    "user": lambda value: is_number(value, 15),
-    "type": lambda value: is_printed(value, 16),
-}
-
-
-def select_of(value):
-    need(isinstance(value, dict) and len(value) == 1)
-    [(how, what)] = value.items()
-    need(how in SELECTORS and SELECTORS[how](what))
+        raise Refused(BAD_BODY) from fault
+    refuse_if(not re.fullmatch(pattern, text), BAD_BODY)
     return value
 
 
 def rule_of(body, rank, effects):
     """A rule as a table; without its rank it is the body's own keys."""
-    value = object_of(body, ["audiences", "effect", "select"], ["from", "until"])
-    audiences = value["audiences"]
-    need(isinstance(audiences, list) and audiences)
-    words = [word_of(word, ("public", "room", "staff")) for word in audiences]
-    need(len(set(words)) == len(words))
-    days = {name: None if value.get(name) is None else date_of(value[name]) for name in ("from", "until")}
-    effect = word_of(value["effect"], effects)
-    return {"rank": rank, "audiences": words, "effect": effect, "select": select_of(value["select"]), **days}
-
-
-def audience_of(body):
-    """Whose a key is."""
-    return word_of(object_of(body, ["audience"])["audience"], ("room", "staff"))
+    value = object_of(body, RULE)
+    is_twice = len(set(value["audiences"])) < len(value["audiences"])
+    refuse_if(is_twice or value["effect"] not in effects, BAD_BODY)
+    return {"rank": rank, "from": None, "until": None, **value}

@@ -1,24 +1,17 @@
-"""Ratios of times, taken in turn so that the load of the machine is the same. Each test reports its ratios; the long
-ones also bound them."""
+"""Ratios of times, taken in turn so that the load of the machine is the same; only long tests bound them."""
+
+import functools
 
 import pytest
 from large_museums import Museum
 
 INPUTS = ("operate", "web", "images", "crates/rd_trials/data")
 
-
 @pytest.fixture(scope="module")
 def museums(program, tmp_path_factory):
     """Museums by the number of their disks."""
-    made, folder = {}, tmp_path_factory.mktemp("museums")
-
-    def museum(disks):
-        if disks not in made:
-            made[disks] = Museum(program, str(folder / f"{disks}.sqlite"), disks)
-        return made[disks]
-
-    return museum
-
+    folder = tmp_path_factory.mktemp("museums")
+    return functools.cache(lambda disks: Museum(program, str(folder / f"{disks}.sqlite"), disks))
 
 @pytest.fixture
 def bounded(request):
