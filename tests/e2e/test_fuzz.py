@@ -50,7 +50,7 @@ def rows_of(store):
 
 
 @pytest.fixture
-def machine(program, serving, store, tmp_path):
+def machine(serving, store, tmp_path):
     """A desk over a copy of the filled store in which a byte of an image is changed, with its model beside it."""
     names, disks = collections.Counter(), model.Disks()
     with contextlib.closing(sqlite3.connect(store)) as connection, connection:
