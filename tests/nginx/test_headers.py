@@ -4,10 +4,9 @@ import re
 import shutil
 
 import pytest
-from support.samples import RECORD, STAFF, bytes_of
+from support.samples import STAFF, bytes_of
 
 FILE, DENIED, LONG = "/images/15/files/0", "/images/13/files/0", "/images/16/files/0"
-BYTES = RECORD.partition(b"\r\n\r\n")[2]
 # What the pages may do. What may have a page in a frame is said by the field alone, and not by the page itself.
 POLICY = (
     "default-src 'none'; script-src 'self'; style-src 'self'; connect-src 'self'; base-uri 'none'; form-action 'none'; "
@@ -17,89 +16,67 @@ ADDED = {
     "Content-Security-Policy": POLICY, "X-Content-Type-Options": "nosniff", "Referrer-Policy": "no-referrer",
     "Cross-Origin-Resource-Policy": "same-origin", "Cross-Origin-Opener-Policy": "same-origin",
 }
-PATHS = {**dict.fromkeys([FILE, DENIED, "/images", "/none"], "no-store"), "/": "no-cache", "/room.js": "no-cache"}
-
-
-@pytest.mark.parametrize("path", PATHS)
-def test_each_reply_has_the_fields_of_nginx(door, path):
-    strict = {"Strict-Transport-Security": "max-age=31536000" if door.name == "outside" else None}
-    wanted = {**ADDED, **strict, "Cache-Control": PATHS[path]}
-    reply = door.get(path)
-    assert {name: reply.one(name) for name in wanted} == wanted
-
-
-# Files at each door, and their types.
-KINDS = {
-    "index.html": "text/html; charset=utf-8", "room.css": "text/css; charset=utf-8",
-    "shared.js": "text/javascript; charset=utf-8", "robots.txt": "text/plain; charset=utf-8",
-    "favicon.ico": "image/vnd.microsoft.icon", "openapi.json": "application/json",
+# What comes at each door, and the types.
+OF_DESK = {FILE: "application/octet-stream"} | dict.fromkeys([DENIED, "/images", "/none"], "application/json")
+OF_PAGE = {
+    "/": "text/html; charset=utf-8", "/room.css": "text/css; charset=utf-8",
+    "/room.js": "text/javascript; charset=utf-8", "/robots.txt": "text/plain; charset=utf-8",
+    "/favicon.ico": "image/vnd.microsoft.icon", "/openapi.json": "application/json",
 }
 
+@pytest.mark.parametrize("path", [*OF_DESK, *OF_PAGE])
+def test_each_reply_has_the_fields_of_nginx(door, path):
+    wanted = ADDED | {
+        "Strict-Transport-Security": "max-age=31536000" if door.name == "outside" else None,
+        "Cache-Control": "no-cache" if path in OF_PAGE else "no-store", "Content-Type": (OF_DESK | OF_PAGE)[path],
+        "Content-Disposition": 'attachment; filename="15-0.bin"' if path == FILE else None,
+    }
+    reply = door.get(path)
+    assert {name: reply.getheader(name) for name in wanted} == wanted
 
-@pytest.mark.parametrize("name", KINDS)
-def test_files_of_the_page_have_their_types(door, name):
-    reply = door.get(f"/{name}")
-    assert (reply.status, reply.body, reply.one("Content-Type")) == (200, bytes_of("web", name), KINDS[name])
-
-
-@pytest.mark.parametrize("name, which", [("index.html", "outside"), ("staff.html", "staff")])
-def test_each_door_has_its_page_which_tells_the_policy(outside, staff, name, which):
+@pytest.mark.parametrize("door, name", [("outside", "index.html"), ("staff", "staff.html")], indirect=["door"])
+def test_each_door_has_its_page_which_tells_the_policy(door, name):
     page = bytes_of("web", name)
-    assert {"outside": outside, "staff": staff}[which].get("/").body == page
+    assert door.get("/").body == page
     told = re.search(rb'<meta http-equiv="Content-Security-Policy" content="([^"]*)">', page)[1].decode()
     assert told == POLICY.replace("frame-ancestors 'none'; ", "")
-
 
 def test_files_of_the_museum_come_first(room, outside):
     own = room.folder / "own"
     own.mkdir()
-    for name, path in (("index.html", "/"), ("room.css", "/room.css"), ("imprint.html", "/imprint.html")):
-        (own / name).write_text(f"the museum's own {name}")
-        assert outside.get(path).body == (own / name).read_bytes()
+    for name in ("index.html", "room.css", "imprint.html"):
+        (own / name).write_text(f"own {name}")
+    bodies = [outside.get(path).body for path in ("/", "/room.css", "/imprint.html")]
     shutil.rmtree(own)
+    assert bodies == [b"own index.html", b"own room.css", b"own imprint.html"]
     assert outside.get("/").body == bytes_of("web", "index.html")
-
-
-def test_download_has_its_numbers_for_a_name(door):
-    replies = [door.get(FILE), door.get(FILE, ("Range", "bytes=0-4")), door.ask("HEAD", f"{FILE}?x")]
-    assert {reply.one("Content-Disposition") for reply in replies} == {'attachment; filename="15-0.bin"'}
-    others = [door.get(path) for path in (DENIED, "/images/15", "/room.js")]
-    assert {reply.one("Content-Disposition") for reply in others} == {None}
-
 
 @pytest.mark.parametrize("path", ["/room.js", "/shared.css", "/openapi.json", LONG])
 def test_text_is_packed_and_the_bytes_of_a_file_are_not(door, path):
     plain, came = door.get(path), door.get(path, ("Accept-Encoding", "gzip"))
-    is_file = path == LONG
-    packed = (None, None) if is_file else ("gzip", "Accept-Encoding")
-    assert (came.one("Content-Encoding"), came.one("Vary")) == packed
-    assert came.unpacked() == plain.body and (len(came.body) < len(plain.body)) != is_file
-
+    packed = (None, None) if path == LONG else ("gzip", "Accept-Encoding")
+    assert (came.getheader("Content-Encoding"), came.getheader("Vary")) == packed
+    assert came.unpacked() == plain.body and (len(came.body) < len(plain.body)) == (path != LONG)
 
 def test_file_of_the_page_is_sent_again_only_where_it_has_changed(room, outside):
-    first = outside.get("/room.css")
-    tag = "If-None-Match", first.one("ETag")
-    for field in (tag, ("If-Modified-Since", first.one("Last-Modified"))):
-        came = outside.get("/room.css", field)
-        assert (came.status, came.body, came.one("Cache-Control")) == (304, b"", "no-cache")
-    path = room.folder / "web" / "room.css"
+    path, first = room.folder / "web" / "room.css", outside.get("/room.css")
+    since, tag = ("If-Modified-Since", first.getheader("Last-Modified")), ("If-None-Match", first.getheader("ETag"))
+    for came in (outside.get("/room.css", since), outside.get("/room.css", tag)):
+        assert (came.status, came.body, came.getheader("Cache-Control")) == (304, b"", "no-cache")
     path.write_bytes(first.body + b"\n")
-    assert outside.get("/room.css", tag).body == first.body + b"\n"
+    came = outside.get("/room.css", tag)
     path.write_bytes(first.body)
-    assert outside.get(FILE).one("ETag") is None and outside.get(FILE, ("If-None-Match", "*")).body == BYTES
-
+    assert came.body == first.body + b"\n"
 
 # Requests of a page of another site: path, method, more fields, the status, and whether the page may read the reply.
 ORIGINS = {
     "the images": ("/images", "GET", [], 200, "*"), "a file": (FILE, "GET", [], 200, "*"),
-    "a denied file": (DENIED, "GET", [], 403, "*"), "no such disk": ("/images/99", "GET", [], 404, "*"),
-    "a key": ("/images", "GET", [("Desk-Key", STAFF)], 200, None),
+    "a denied file": (DENIED, "GET", [], 403, "*"), "the page": ("/", "GET", [], 200, None),
+    "a key": ("/images", "GET", [("Desk-Key", STAFF)], 200, None), "a deed": ("/deeds/7", "GET", [], 405, None),
     "an empty key": ("/images", "GET", [("Desk-Key", "")], 401, "*"),
-    "the page": ("/", "GET", [], 200, None), "a deed": ("/deeds/7", "GET", [], 405, None),
     "a range that is none": (FILE, "GET", [("Range", "bytes=500-")], 416, "*"),
     "before a key": ("/images", "OPTIONS", [("Access-Control-Request-Headers", "desk-key")], 403, "*"),
 }
-
 
 @pytest.mark.parametrize("path, method, fields, status, allowed", ORIGINS.values(), ids=ORIGINS)
 def test_page_of_another_site_reads_what_the_public_reads(outside, staff, path, method, fields, status, allowed):
@@ -107,5 +84,5 @@ def test_page_of_another_site_reads_what_the_public_reads(outside, staff, path, 
     reply = outside.ask(method, path, origin, *fields)
     names = [f"Access-Control-{name}" for name in ("Allow-Origin", "Expose-Headers", "Allow-Headers")]
     exposed = "Content-Disposition, Content-Range, Retry-After" if allowed else None
-    assert (reply.status, [reply.one(name) for name in names]) == (status, [allowed, exposed, None])
-    assert staff.ask(method, path, origin, *fields).one(names[0]) is None
+    assert (reply.status, [reply.getheader(name) for name in names]) == (status, [allowed, exposed, None])
+    assert staff.ask(method, path, origin, *fields).getheader(names[0]) is None
