@@ -3,11 +3,9 @@
 from selenium.webdriver.common.keys import Keys
 from support.browser import STAFF, wait_for
 
-MOST_TABS = 120
-
 def reach(page, name, *keys):
-    """Presses Tab until the control with a name has the focus, and then other keys there."""
-    for _ in range(MOST_TABS):
+    """Presses Tab, 120 times at most, until the control with a name has the focus, and then other keys there."""
+    for _ in range(120):
         page.press(Keys.TAB)
         if page.focused() == name:
             return page.press(*keys) if keys else None

@@ -20,6 +20,7 @@ def look(staff, day, audience="public", closed=False, words=""):
 
 @pytest.mark.parametrize("day", ["2029-12-31", "2030-01-01"])
 def test_each_audience_sees_and_counts_what_the_verdicts_say(museum, staff, day):
+    museum.rules["R9"][10] = museums.rule(10, "list", ["public"], {"slot": 0})
     table = museum.show_verdicts(None, day).reply.decode().splitlines()[-14:]
     lines = list(csv.DictReader(table, stand_in.VERDICT_COLUMNS))
     for audience, words in AUDIENCES.items():
