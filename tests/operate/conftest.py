@@ -3,34 +3,25 @@
 import time
 
 import pytest
-from support.house import House, backed_up, done, fill, takedown
+from support.house import House, takedown
 from support.room import Room, wait_until
 
 INPUTS = ("operate", "web", "images", "docs", "crates.txt", "crates/rd_trials/data")
-DRAWS = True
-
 
 @pytest.fixture
-def room(program):
-    with Room(program) as made:
-        yield made
-
-
-@pytest.fixture(params=[True])
-def house(request, room):
+def house(request, program):
     """A room with its tools; its store has sums, or none where a test says so."""
-    with House(room, request.param) as made:
+    with Room(program) as room:
+        made = House(room, getattr(request, "param", True))
         yield made
-
+        made.stop()
 
 @pytest.fixture
 def monday(house):
-    """A backup of two disks, since which a takedown has closed a file of one. nginx writes its last line after the
-    reply."""
-    fill(house, 13, 14)
-    backup = backed_up(house)
+    """A backup of two disks, since which a takedown has closed a file of one. nginx writes its last line late."""
+    house.fill(13, 14)
+    backup = house.backed_up()
     time.sleep(1.1)
-    done(house, takedown(13, 1, 2))
-    journal = house.room.folder / "journal"
-    wait_until(lambda: journal.read_bytes().count(b'"/images/13/rules/1"') == 2)
+    house.do(takedown(13, 1, 2))
+    wait_until(lambda: house.journal.read_bytes().count(b'"/images/13/rules/1"') == 2)
     return backup
