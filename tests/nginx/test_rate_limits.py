@@ -30,10 +30,10 @@ def test_address_that_asks_too_often_is_told_so(room, outside, door, path, rate,
     with room.desk_down():
         statuses, came, seconds = visit(door, path, 8 * burst)
         others = [(type(door)(room, door.name), path, burst), (outside, FILE, 30), (outside, "/room.css", 100)]
-        beside = [visit(*other)[0] for other in others if other[:2] != (door, path)]
+        beside = {other: visit(*other)[0] for other in others if other[:2] != (door, path)}
     assert set(statuses) == {status, 429} and burst < statuses.count(status) <= burst + 2 + rate * seconds
     assert came.count(b"Retry-After: 2\r\n") == (statuses.count(429) if door.name == "outside" else 0)
-    assert [one.count(429) for one in beside] == [0] * len(beside)
+    assert all(len(found) == other[2] and 429 not in found for other, found in beside.items()), beside
     assert b"limiting" not in (room.folder / "error.log").read_bytes()
 
 def test_staffs_door_has_no_limit_of_rate(staff):
