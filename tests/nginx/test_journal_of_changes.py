@@ -63,11 +63,15 @@ def test_what_is_no_journal_is_refused(room, staff, kept):
 def test_journal_that_cannot_be_read_is_told(room, staff, journal):
     mode = journal.path.stat().st_mode
     journal.path.chmod(0)
-    closed = staff.get("/journal", key=STAFF)
-    journal.path.chmod(mode)
+    try:
+        closed = staff.get("/journal", key=STAFF)
+    finally:
+        journal.path.chmod(mode)
     aside = journal.path.rename(room.folder / "aside")
-    missing = staff.get("/journal", key=STAFF)
-    aside.rename(journal.path)
+    try:
+        missing = staff.get("/journal", key=STAFF)
+    finally:
+        aside.rename(journal.path)
     assert closed.is_refusal(500) and missing.is_refusal(404), (closed, missing)
     with room.desk_down():
         assert staff.get("/journal", key=STAFF).is_refusal(502)
@@ -98,15 +102,16 @@ def test_disk_with_room_takes_commands(room, staff, journal):
 def test_where_nobody_says_whether_there_is_room_commands_go_on(room, staff, listens):
     place = room.folder / "space" / "socket"
     place.parent.mkdir()
-    with socket.socket(socket.AF_UNIX) as silent:
-        silent.bind(str(place))
-        give_to_nginx(place, 0o660)
-        if listens:
-            silent.listen()
-        status = staff.send(A_DEED).status
-    place.unlink()
-    place.parent.rmdir()
-    assert status == 200
+    try:
+        with socket.socket(socket.AF_UNIX) as silent:
+            silent.bind(str(place))
+            give_to_nginx(place, 0o660)
+            if listens:
+                silent.listen()
+            assert staff.send(A_DEED).status == 200
+    finally:
+        place.unlink(missing_ok=True)
+        place.parent.rmdir()
 
 def send(room, numbers, done, is_over):
     """Sends commands without a rest, each of a deed of its own, and keeps the paths of those that were told done."""

@@ -23,6 +23,12 @@ def test_reply_of_the_desk_comes_as_it_is(room, door, path, key):
     assert reply.getheader("WWW-Authenticate") == ("Desk-Key" if reply.status == 401 else None)
     assert (reply.getheader("Allow") is None) == (reply.status != 405)
 
+@pytest.mark.parametrize("key", [STAFF, ROOM, None, NOBODY])
+def test_questions_of_the_staff_are_answered_at_their_door(room, staff, key):
+    for path in ("deeds", "takedowns", "keys", "checks", "verdicts/2030-01-01", "none"):
+        reply = staff.get(f"/staff/{path}", key=key)
+        assert (reply.status, reply.body) == room.ask_desk(get(f"/staff/{path}", key)), path
+
 COMMANDS = [
     put("/deeds/77", DEED), put_rule("/deeds/9/rules/1", "deny", EVERY, "public"), drop("/deeds/9/rules/1"),
     put_image(77, "cpm8", 9, RECORD_DISK), put(badge("x"), {"audience": "staff"}), drop(badge("x")), check(15),
