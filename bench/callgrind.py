@@ -186,7 +186,7 @@ def tell_tree(profile):
         print(f"        {cost:12,} {symbol}")
 
 
-def tell_pair(case, profiles):
+def tell_pair(profiles):
     """Prints the ratios of the last desk to the first: of their own crates, of the whole without and with copies, and
     of all without the reading of images' rows."""
     names = [name for name in profiles if name != visits.C_NAME]
@@ -222,7 +222,7 @@ def measure(bench, case, folder, shows_tree):
             missed.append(f"{case.title}: {name} calls {', '.join(readers)}")
         if shows_tree:
             tell_tree(profiles[name])
-    tell_pair(case, profiles)
+    tell_pair(profiles)
     sys.stdout.flush()
     return missed
 

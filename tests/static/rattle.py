@@ -67,12 +67,12 @@ def pairs_of(path):
 def owner_text(clause):
     """The text of the function, trait, trait of a type or record that a clause belongs to."""
     text, owner = text_of(clause.path), clause.owner or clause.name
-    (trait, _, ty), (kind, _, name) = owner.rpartition(" for "), owner.rpartition("::")
+    (trait, _, type_name), (kind, _, name) = owner.rpartition(" for "), owner.rpartition("::")
     if kind and not trait:
         text = (re.search(rf"(?ms)^(?:impl|pub trait)\b[^\n]*\b{kind}\b.*", text) or [""])[0]
     pattern = rf"(?m)^ *(?:pub )?fn {name}\b(?:.*\n)+?(?= *\{{|.*;$)"
     pattern += rf"|^ *(?:pub )?(?:trait|record) {name}\b(?:.*\n)+?(?=\S|\Z)"
-    pattern = rf"(?ms)^impl\b[^\n]*\b{trait}\b[^\n]* for {ty}\b.*?^\}}" if trait else pattern
+    pattern = rf"(?ms)^impl\b[^\n]*\b{trait}\b[^\n]* for {type_name}\b.*?^\}}" if trait else pattern
     return (re.search(pattern, text) or [""])[0]
 
 @functools.cache

@@ -30,7 +30,7 @@ def refusals():
 
 REFUSALS = refusals()
 STATUSES = {row[0].strip("`"): row[1].split(",")[0] for row in formats.rows("## Refusals")}
-HERE = {path: {key: it for key, it in item.items() if key != "parameters"} for path, item in API["paths"].items()}
+HERE = {path: {key: one for key, one in item.items() if key != "parameters"} for path, item in API["paths"].items()}
 
 def test_paths_and_methods_are_those_of_the_page_and_the_code():
     rows = formats.rows("## A visit over HTTP")
@@ -53,9 +53,10 @@ def test_statuses_are_those_of_the_page(path, method):
 def test_limits_of_numbers_are_those_of_the_page():
     rows = re.findall(r"(?m)^\| ((?:`[A-Z]+`(?:, )?)+) \| a number from ([^|]*) \|$", text_of("docs/FORMATS.md"))
     pairs = [(PARTS[name], words) for names, words in rows for name in re.findall("[A-Z]+", names)]
-    page = {name: [int(it) for it in re.findall(r"\d+", words.replace(",", ""))[:2]] for name, words in pairs}
+    page = {name: [int(number) for number in re.findall(r"\d+", words.replace(",", ""))[:2]] for name, words in pairs}
     schemas = {name: part["schema"] for name, part in API["components"]["parameters"].items()}
-    found = {name: [it["minimum"], it["maximum"]] for name, it in schemas.items() if it["type"] == "integer"}
+    numbers = {name: schema for name, schema in schemas.items() if schema["type"] == "integer"}
+    found = {name: [schema["minimum"], schema["maximum"]] for name, schema in numbers.items()}
     assert found and found == {name: page.get(name) for name in found}
 
 def test_references_lead_somewhere_and_each_is_used():
