@@ -49,50 +49,53 @@ def rows_of(store):
         return list(connection.iterdump())
 
 
+class Story(stateful.RuleBasedStateMachine):
+    """Visits to a desk, with its model beside it."""
+
+    def __init__(self):
+        super().__init__()
+        self.opened, self.done = contextlib.ExitStack(), []
+        self.store, serves = self.begun()
+        self.served = self.opened.enter_context(serves)
+        self.desk = model.Desk(self.disks, self.today)
+        for _, asked, _ in (*samples.FIRST, *samples.MORE):
+            self.desk.due(samples.raw(asked)).change()
+        self.desk.images[12] = self.desk.images[12]._replace(bytes=CHANGED)
+
+    @stateful.rule(visit=mutations.visits())
+    def visit(self, visit):
+        due, came = self.desk.due(visit.data), send(self.served.port, visit)
+        assert came == (due.reply, "an end")
+        self.names[name_of(due.reply)] += 1
+        if due.change:
+            due.change()
+            self.done.append(visit)
+
+    def teardown(self):
+        """The commands alone that were done make the same rows in another desk."""
+        with self.opened:
+            for asked in LAST + [samples.survey(acc) for acc in self.desk.images]:
+                self.visit(mutations.Visit(samples.raw(asked)))
+        store, serves = self.begun()
+        with serves as served:
+            for visit in self.done:
+                send(served.port, visit)
+        assert rows_of(self.store) == rows_of(store)
+
+
 @pytest.fixture
 def machine(serving, store, tmp_path):
-    """A desk over a copy of the filled store in which a byte of an image is changed, with its model beside it."""
-    names, disks = collections.Counter(), model.Disks()
+    """Stories over copies of the filled store in which a byte of an image is changed. All have the same day."""
+    zone, today = clients.noon_zone(), datetime.datetime.now(datetime.timezone.utc).date().isoformat()
     with contextlib.closing(sqlite3.connect(store)) as connection, connection:
         connection.execute("UPDATE image SET bytes = ? WHERE acc = 12", [CHANGED])
 
     def begun():
         copy = shutil.copy(store, tempfile.mkdtemp(dir=tmp_path))
-        return copy, serving(copy, "--zone", clients.noon_zone(), few_files=clients.OPEN_FILES)
+        return copy, serving(copy, "--zone", zone, few_files=clients.OPEN_FILES)
 
-    class Machine(stateful.RuleBasedStateMachine):
-        def __init__(self):
-            super().__init__()
-            self.opened, self.done = contextlib.ExitStack(), []
-            self.store, serves = begun()
-            self.served = self.opened.enter_context(serves)
-            self.desk = model.Desk(disks, datetime.datetime.now(datetime.timezone.utc).date().isoformat())
-            for _, asked, _ in (*samples.FIRST, *samples.MORE):
-                self.desk.due(samples.raw(asked)).change()
-            self.desk.images[12] = self.desk.images[12]._replace(bytes=CHANGED)
-
-        @stateful.rule(visit=mutations.visits())
-        def visit(self, visit):
-            due, came = self.desk.due(visit.data), send(self.served.port, visit)
-            assert came == (due.reply, "an end")
-            names[name_of(due.reply)] += 1
-            if due.change:
-                due.change()
-                self.done.append(visit)
-
-        def teardown(self):
-            """The commands alone that were done make the same rows in another desk."""
-            with self.opened:
-                for asked in LAST + [samples.survey(acc) for acc in self.desk.images]:
-                    self.visit(mutations.Visit(samples.raw(asked)))
-            store, serves = begun()
-            with serves as served:
-                for visit in self.done:
-                    send(served.port, visit)
-            assert rows_of(self.store) == rows_of(store)
-
-    Machine.names = names
-    return Machine
+    shared = {"names": collections.Counter(), "disks": model.Disks(), "begun": staticmethod(begun), "today": today}
+    return type("Machine", (Story,), shared)
 
 
 @pytest.mark.parametrize("stories", [40, pytest.param(2000, marks=pytest.mark.long)])
