@@ -33,7 +33,8 @@ def package(program, tmp_path_factory):
 
 def test_lintian_finds_nothing(package):
     ran = subprocess.run(["lintian", "--pedantic", "-E", "--allow-root", package], capture_output=True, text=True)
-    assert [line for line in ran.stdout.splitlines() if "running with root" not in line] == [], ran.stderr
+    found = [line for line in ran.stdout.splitlines() if "running with root" not in line]
+    assert (ran.returncode, found) == (0, []), ran.stderr
 
 def test_same_sources_give_the_same_bytes(package, program, tmp_path):
     assert made(tmp_path, program).read_bytes() == package.read_bytes()
@@ -67,6 +68,14 @@ def make(clone):
 def test_package_names_the_commit_and_the_kit_of_the_proof(clone):
     commit = subprocess.run(["git", "-C", clone, "rev-parse", "HEAD"], capture_output=True, text=True).stdout.strip()
     assert proof(make(clone)) == f"This program is proved: commit {commit}, a kit."
+
+def test_later_commit_of_the_same_minute_has_the_higher_version(clone):
+    one, git = make(clone), ["git", "-C", clone, "-c", "user.name=someone", "-c", "user.email=someone@museum.example"]
+    moment = subprocess.run([*git, "show", "-s", "--format=%cI"], capture_output=True, text=True).stdout.strip()
+    later = {**os.environ, "GIT_COMMITTER_DATE": moment}
+    subprocess.run([*git, "commit", "-q", "--allow-empty", "-m", "Later"], env=later, check=True)
+    words = ["dpkg", "--compare-versions", field(one, "Version"), "lt", field(make(clone), "Version")]
+    assert subprocess.run(words).returncode == 0
 
 @pytest.mark.parametrize("change, words", [
     (lambda clone: (clone / f"{BUILT}.stamp").unlink(), "no proved program: type ./desk --version"),
