@@ -97,12 +97,15 @@ def test_proofs_are_counted_by_their_last_line(monkeypatch, tmp_path, last, stat
 
 CASE = '<testcase classname="e2e.test_x{}" name="a" time="{}">{}</testcase>'
 CASES = CASE.format(".TestUpload", 1, "") + CASE.format("", 2, "<skipped/>")
+# A file that breaks before it has a test.
+BROKEN = '<testcase classname="" name="e2e.test_x" time="0.0"><error/></testcase>'
 
 @pytest.mark.parametrize("status, table, counts", [
     (0, f"<suite>{CASES}</suite>", [1, 1, 3.0]), (2, f"<suite>{CASES}</suite>", [1, 2, 3.0]), (2, "", [0, 1, 0.0]),
     (-9, "", [0, 1, 0.0]), (0, "", [0, 1, 0.0]), (0, "<suite><case", [0, 1, 0.0]),
+    (1, f"<suite>{BROKEN}</suite>", [0, 1, 0.0]),
 ], ids=str)
-def test_skipped_test_and_run_without_a_whole_table_have_failed(tmp_path, status, table, counts):
+def test_skipped_test_broken_file_and_run_without_a_whole_table_have_failed(tmp_path, status, table, counts):
     (tmp_path / "one.log").write_text("")
     (tmp_path / "one.xml").write_text(table)
     run = types.SimpleNamespace(name="one", files=["tests/e2e/test_x.py"], log=tmp_path / "one.log")
