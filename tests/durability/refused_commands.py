@@ -66,6 +66,7 @@ STORES = {
     "told": ("harmed", "UPDATE checked SET outcome = 1"),
     "first": ("filled", "DROP TABLE marks; UPDATE desk SET version = 1"),
     "keyed": ("filled", STAFF_KEY),
+    "closed": ("filled", "INSERT INTO rule VALUES (0, 12, 1, 3, NULL, NULL, 0, 0, '', 0)"),
     "one-file": ("none", TO_FOLDER % "one"),
     "two-files": ("none", TO_FOLDER % "two"),
 }
@@ -81,7 +82,9 @@ VISITS = {
     ("made", "deeded"): put("/deeds/7", {"donor": "A. Curator", "signed": "2019-05-04"}),
     ("deeded", "ruled"): put_rule("/deeds/7/rules/20", "read", EVERY, *ALL),
     ("ruled", "deeded"): drop("/deeds/7/rules/20"), ("ruled", "program"): put_image(12, "d64", 7, PROGRAM_DISK),
-    ("filled", "keyed"): put(badge("def"), {"audience": "staff"}),
+    ("filled", "keyed"): put(badge("def"), {"audience": "staff"}), ("keyed", "filled"): drop(badge("def")),
+    ("filled", "closed"): put_rule("/images/12/rules/1", "deny", EVERY, "public", "room"),
+    ("closed", "filled"): drop("/images/12/rules/1"),
 }
 OVER_STORES = {
     "init": Command(INIT, b"done\n", 0, ("none", "made")),
