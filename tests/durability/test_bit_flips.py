@@ -116,11 +116,11 @@ def made(program, memory_folder):
 def small(made):
     return made(SMALL, (12,))
 
-@pytest.fixture(scope="module")
-def log(made):
-    """A museum whose desk was killed after it had put a deed once more, which the log alone has."""
-    museum = made([*COMMANDS, CORRECTED], is_killed=True)
-    assert museum.usual == made([*COMMANDS, CORRECTED]).usual != museum.before == made(COMMANDS).usual
+@pytest.fixture(scope="module", params=[CORRECTED, put_image(13, "d64", 7, PROGRAM_DISK)], ids=["deed", "disk"])
+def log(made, request):
+    """A museum whose desk was killed after it had put a deed once more, or a disk, which the log alone has."""
+    museum = made([*COMMANDS, request.param], is_killed=True)
+    assert museum.usual == made([*COMMANDS, request.param]).usual != museum.before == made(COMMANDS).usual
     return museum
 
 @shares(150)
