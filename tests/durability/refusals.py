@@ -204,12 +204,18 @@ class Sweep:
         (before, *_, after), lines, request = self.command.stores, ran.output.count(b"\n"), self.command.request
         if self.has_rows:
             return self.command.stores[lines : lines + 2]
-        if DONE.startswith(ran.reply or b"-") or not request and ran.output == self.ever.output != b"":
+        is_told = ran.reply and DONE.startswith(ran.reply)
+        is_written = not request and self.ever.output and ran.output == self.ever.output
+        if is_told or is_written:
             return [after]
         may_be_done = self.refusal.may_be_done and (self.refusal.kills or ran.reply or not request)
+        found = [before]
         # an export brings a store to version 2 before anything else
-        others = [after] * bool(may_be_done or "export" in self.command.words)
-        return [before, *others, *["torn"] * (self.refusal.may_be_done and before == "none")]
+        if may_be_done or "export" in self.command.words:
+            found.append(after)
+        if self.refusal.may_be_done and before == "none":
+            found.append("torn")
+        return found
 
     def run_again(self, at):
         """Fails where a second run does not do all over what the first one left, or where desk cannot look at it if all
