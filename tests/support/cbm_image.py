@@ -48,18 +48,6 @@ def put_chain(image, blocks, data):
     return len(parts)
 
 
-def put_file(image, free, track, data):
-    """Writes the blocks of a file on a track, ten sectors apart, and gives the first and their number."""
-    blocks, sector = [], 0
-    for _ in range(0, len(data), 254):
-        while (track, sector) not in free:
-            sector = (sector + 1) % SECTORS[track]
-        free.remove((track, sector))
-        blocks.append((track, sector))
-        sector = (sector + 10) % SECTORS[track]
-    return blocks[0], put_chain(image, blocks, data)
-
-
 def put_directory(image, free, label, entries):
     """Writes a directory of entries, each a type, a first block, a name and a size, and the map of the free blocks,
     with the disk's name."""
@@ -68,7 +56,7 @@ def put_directory(image, free, label, entries):
     groups = [b"".join(rows[at : at + 8])[2:].ljust(254, b"\x00") for at in range(0, len(rows) or 1, 8)]
     free = set(free) - set(ENTRY_BLOCKS[: put_chain(image, ENTRY_BLOCKS, b"".join(groups))])
     bits = [sum(1 << sector for sector in range(count) if (track, sector) in free) for track, count in SECTORS.items()]
-    head = b"\x12\x01A\x00" + b"".join(struct.pack("<I", one.bit_count() | one << 8) for one in bits)
+    head = b"\x12\x01A\x00" + b"".join(struct.pack("<I", one.bit_count() | (one << 8)) for one in bits)
     image[MAP - 4 : MAP + 163] = head + label.ljust(16, b"\xa0") + b"\xa0\xa0RR\xa02A"
 
 
@@ -82,10 +70,6 @@ def filled(label, files):
     return bytes(image)
 
 
-def new_free():
-    return {*DATA_BLOCKS, *ENTRY_BLOCKS}
-
-
 def free_blocks(image):
     counted = [one for (one,) in struct.iter_unpack("<I", image[MAP : MAP + 140])]
-    return {(track, sector) for track, sector in ALL_BLOCKS if counted[track - 1] >> 8 + sector & 1}
+    return {(track, sector) for track, sector in ALL_BLOCKS if (counted[track - 1] >> (8 + sector)) & 1}

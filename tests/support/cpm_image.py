@@ -1,4 +1,4 @@
-"""Reads and writes images of CP/M 2.2 eight-inch disks.
+"""Writes images of CP/M 2.2 eight-inch disks, and says where their sectors lie.
 
 It shares no code with the program: it places sectors by the skew table that the manual prints."""
 
