@@ -26,7 +26,9 @@ pid=$(cat desk.pid)
 runs() {{ kill -0 $pid 2>/dev/null && ! grep -q '^State:.[ZX]' /proc/$pid/status; }}
 case $1 in
 is-active) runs ;;
-freeze) echo freeze >>calls; kill -STOP $pid; until grep -q '^State:.T' /proc/$pid/status; do :; done ;;
+freeze)
+    echo freeze >>calls; kill -STOP $pid
+    until ! runs || grep -q '^State:.T' /proc/$pid/status; do sleep 0.01; done ;;
 thaw) kill -CONT $pid ;;
 stop)
     echo stop >>calls; kill -KILL $pid 2>/dev/null
@@ -92,7 +94,11 @@ class House:
     def ended(self, began):
         """How a tool ends: its status, and what it writes."""
         with began:
-            out, errors = began.communicate(timeout=4 * LIMIT)
+            try:
+                out, errors = began.communicate(timeout=4 * LIMIT)
+            except subprocess.TimeoutExpired:
+                os.killpg(began.pid, signal.SIGKILL)
+                raise
         return began.returncode, out, errors
 
     def back_up(self, *words):
