@@ -21,6 +21,7 @@ def monday(house):
     """A backup of two disks, since which a takedown has closed a file of one. nginx writes its last line late."""
     house.fill(13, 14)
     backup = house.backed_up()
+    # the names of backups have whole seconds, and without a mark the journal is read by them
     time.sleep(1.1)
     house.do(takedown(13, 1, 2))
     wait_until(lambda: house.journal.read_bytes().count(b'"/images/13/rules/1"') == 2)

@@ -113,6 +113,7 @@ def test_flipped_bit_of_any_page_stops_the_backup(house):
     """The desk goes on."""
     house.do(COMMAND)
     copy_log(house)
+    assert house.room.store.stat().st_size > 8 * PAGE
     for at in range(PAGE // 2, house.room.store.stat().st_size, 4 * PAGE):
         flip(house, at)
         status, _, errors = house.back_up()
