@@ -10,6 +10,11 @@ const TOKENS = (
   "OR > = < SGN INT ABS USR FRE POS SQR RND LOG EXP COS SIN TAN ATN PEEK LEN STR$ VAL ASC CHR$ LEFT$ RIGHT$ MID$ GO"
 ).split(" ");
 
+// A pattern for the words of a listing, the longest first.
+const escaped = (word) => word.replace(/[$()*+/^<>=-]/g, "\\$&");
+export const BASIC_WORDS = TOKENS.filter((word) => /[A-Z]/.test(word)).sort((one, other) => other.length - one.length)
+  .map(escaped).join("|");
+
 // Codes that show no sign and do something: their names.
 export const CONTROLS = {
   0x05: "white", 0x08: "lock", 0x09: "unlock", 0x0d: "return", 0x0e: "small letters", 0x11: "down", 0x12: "reverse on",

@@ -1,19 +1,23 @@
-// One file of the page for readers: its bytes as a text, as a listing or in digits, and as a download.
-import { basicListing } from "./basic.js";
-import { shownName } from "./names.js";
+// One file: what is in it as a picture, a listing, a text, a screen or bytes, what is known of it, and how to cite it.
+import { askStaff } from "./about.js";
+import { BASIC_WORDS, basicListing } from "./basic.js";
+import { pictureIn } from "./pictures.js";
+import { nameOfDisk, nameOfFile, typeWords } from "./room.lists.js";
+import { button, citation, filesOf, link, neighbours, numberOf, quoting } from "./room.parts.js";
 import { fileName } from "./safe.js";
-import { Refused, ask, askObject, counted, element, listOf, part, textOf } from "./shared.js";
+import { blocksOf, canvasOf, mayRead, textScreen } from "./screen.js";
+import { Refused, ask, askObject, box, counted, digestOf, element, kindWords, meaning, part } from "./shared.js";
 import { cbmText, cpmText, hexText, isInSmall, petsciiText, wordStarText } from "./texts.js";
 
-// A screen on which a line of bytes is short.
-const NARROW = "(max-width: 40rem)";
+// A window in which a line of bytes is short.
+const NARROW = matchMedia("(max-width: 42rem)");
 
-// The bytes on show, as a download, until the view changes; and what shows them anew where the screen gets another
+// The bytes on show, as a download, until the view changes; and what shows them anew where the window gets another
 // width.
 let download = null;
 let showAnew = () => {};
 
-matchMedia(NARROW).addEventListener("change", () => showAnew());
+NARROW.addEventListener("change", () => showAnew());
 
 function forgetDownload() {
   if (download !== null) URL.revokeObjectURL(download);
@@ -21,106 +25,158 @@ function forgetDownload() {
   showAnew = () => {};
 }
 
-// The listing says how to read the bytes, and comes first. A file that comes though the listing lacks it was opened in
-// between.
-export async function showFile(accession, slot) {
-  const listing = await askObject(`/images/${accession}`);
-  const reply = await ask(`/images/${accession}/files/${slot}`);
-  const bytes = new Uint8Array(await reply.arrayBuffer());
-  const file = listOf(listing.files).find((one) => one.slot === Number(slot));
-  if (file === undefined) throw new Refused("changed", {});
-  const [printed, type] = [textOf(file.name), textOf(file.type)];
-  const shown = shownName(listing.kind, printed);
-  const name = fileName(listing.kind, shown, type);
-  const views = viewsOf(listing.kind, bytes);
-  const parts = [choices(views, name), element("p", null, { id: "shown-as" }), box()];
-  const other = element("p", `The desk prints its name as ${printed}.`, { className: "printed-name" });
-  if (shown !== printed) parts.unshift(other);
-  const fill = () => {
-    download = URL.createObjectURL(new Blob([bytes], { type: "application/octet-stream" }));
-    part("download").href = download;
-    showBytes(views, views.find((view) => view.text() !== null));
-  };
-  const summary = `${counted(bytes.length, "byte")}, by rule ${textOf(file.rule)}.`;
-  const place = `disk ${accession}, slot ${slot}`;
-  const title = shown ? `${shown}, ${place}` : `Slot ${slot}, disk ${accession}`;
-  return { heading: shown || `Slot ${slot}`, title, summary, parts, fill, leave: forgetDownload };
-}
-
-// The ways to show bytes: an id and the words of each one's button, what to say of it, and its text, which is null
-// where the bytes are none such.
+// The ways to show bytes: an id and a word of each one's button, what to say of it, and its text or its picture.
 function viewsOf(kind, bytes) {
   const hex = {
     id: "as-hex",
-    button: "As bytes",
+    word: "Bytes",
     says: "Shown as bytes: the place, hexadecimal digits, and ASCII.",
-    text: () => hexText(bytes, matchMedia(NARROW).matches ? 8 : 16),
-    isHex: true,
+    text: () => hexText(bytes, NARROW.matches ? 8 : 16),
   };
-  return kind === "cpm8" ? [cpmView(bytes), hex] : [...cbmViews(bytes), hex];
+  return [...(kind === "cpm8" ? cpmViews(bytes) : cbmViews(bytes)), hex];
 }
 
-function cpmView(bytes) {
-  const [plain, wordStar] = [cpmText(bytes), wordStarText(bytes)];
+function cpmViews(bytes) {
+  const plain = cpmText(bytes);
+  const text = plain ?? wordStarText(bytes);
   const says = plain === null ? "Shown as text of WordStar, without its marks for print." : "Shown as text.";
-  return { id: "as-text", button: "As text", says, text: () => plain ?? wordStar };
+  return text === null ? [] : [{ id: "as-text", word: "Text", says, text: () => text }];
 }
 
 // Those of the 1541 are in either set of letters: a listing at first in that with which the machine starts.
 function cbmViews(bytes) {
-  const listing = basicListing(bytes, false);
+  const [listing, image, screen] = [basicListing(bytes, false), pictureIn(bytes), textScreen(bytes)];
   const letters = { isSmall: listing === null && isInSmall(bytes) };
-  const rest = listing?.rest ? ` ${counted(listing.rest, "byte")} after it are not shown.` : "";
-  const basic = {
-    id: "as-basic",
-    button: "As BASIC",
-    says: `Shown as a listing of BASIC.${rest}`,
-    text: () => basicListing(bytes, letters.isSmall).text,
-    letters,
-  };
-  const isPlain = cbmText(bytes) !== null;
-  const says = isPlain ? "Shown as text." : "Shown as text, without its codes for colours and the cursor.";
-  const text = () => (isPlain ? cbmText : petsciiText)(bytes, letters.isSmall);
-  const asText = { id: "as-text", button: "As text", says, text, letters };
-  return listing === null ? [asText] : [basic, asText];
-}
-
-function box() {
-  const made = element("pre", null, { id: "bytes", className: "bytes", tabIndex: 0 });
-  made.setAttribute("role", "region");
-  made.setAttribute("aria-label", "The bytes of the file");
-  return made;
-}
-
-function choices(views, name) {
-  const made = element("p", null, { className: "choices" });
-  for (const view of views) {
-    const button = element("button", view.button, { id: view.id, type: "button", disabled: view.text() === null });
-    button.addEventListener("click", () => showBytes(views, view));
-    made.append(button);
+  const views = [];
+  if (listing) {
+    const rest = listing.rest ? ` ${counted(listing.rest, "byte")} after it are not shown.` : "";
+    const text = () => basicListing(bytes, letters.isSmall).text;
+    views.push({ id: "as-basic", word: "Listing", says: `Shown as a listing of BASIC.${rest}`, text, letters });
   }
-  if (views.some((view) => view.letters && view.text() !== null)) made.append(lettersButton(views));
-  made.append(element("a", "Download the bytes", { id: "download", download: name }));
+  const isPlain = cbmText(bytes) !== null;
+  const text = () => (isPlain ? cbmText : petsciiText)(bytes, letters.isSmall);
+  if (text() !== null) {
+    const says = isPlain ? "Shown as text." : "Shown as text, without its codes for colours and the cursor.";
+    const onScreen = "Shown as it came on the screen of a C64.";
+    if (screen && !listing) views.push({ id: "as-screen", word: "Screen", says: onScreen, make: () => screen });
+    views.push({ id: "as-text", word: "Text", says, text, letters });
+  }
+  const says = image && `Shown as ${image.words}.`;
+  const view = image && { id: "as-picture", word: "Picture", says, make: image.make };
+  return image ? (image.isSure ? [view, ...views] : [...views, view]) : views;
+}
+
+// A listing in which words, texts in quotes, remarks and numbers of lines can be told apart.
+const SIGNS = new RegExp(`^\\d+|"[^"\\n]*"?|\\{[^}]*\\}|\\brem.*|${BASIC_WORDS}`, "gim");
+
+function coloured(text) {
+  const kindOf = (found) => {
+    if (/^\d/.test(found)) return "line-number";
+    return found.startsWith('"') ? "quoted" : /^rem/i.test(found) ? "remark" : found.startsWith("{") ? "code" : "word";
+  };
+  const parts = [];
+  let at = 0;
+  for (const { 0: found, index } of text.matchAll(SIGNS)) {
+    parts.push(text.slice(at, index), element("span", found, { className: kindOf(found) }));
+    at = index + found.length;
+  }
+  return [...parts, text.slice(at)];
+}
+
+function stage() {
+  const made = element("pre", null, { id: "bytes", className: "bytes", tabIndex: 0, role: "region" });
+  made.ariaLabel = "What is in the file";
   return made;
 }
 
-// Shows what stands in letters of the 1541 in its other set.
-function lettersButton(views) {
-  const made = element("button", "In small letters", { id: "letters", type: "button" });
-  made.addEventListener("click", () => {
-    const { letters } = views[0];
-    letters.isSmall = !letters.isSmall;
-    const now = views.find((view) => part(view.id).getAttribute("aria-pressed") === "true");
-    showBytes(views, now.letters ? now : views.find((view) => view.letters && view.text() !== null));
-  });
-  return made;
+function choices(views) {
+  const made = views.map((view) => button(view.word, () => showBytes(views, view), { id: view.id }));
+  const swap = () => {
+    const shown = views.find(({ id }) => part(id).ariaPressed === "true");
+    shown.letters.isSmall = !shown.letters.isSmall;
+    showBytes(views, shown);
+  };
+  if (views.some((view) => view.letters)) made.push(button("Small letters", swap, { id: "letters" }));
+  return box("div", "cluster", ...made);
 }
 
 function showBytes(views, chosen) {
   showAnew = () => showBytes(views, chosen);
-  for (const { id } of views) part(id).setAttribute("aria-pressed", String(id === chosen.id));
-  part("letters")?.setAttribute("aria-pressed", String(views[0].letters.isSmall));
+  for (const { id } of views) part(id).ariaPressed = String(id === chosen.id);
+  const letters = part("letters");
+  const isSmall = chosen.letters?.isSmall === true;
+  if (letters) Object.assign(letters, { hidden: !chosen.letters, ariaPressed: String(isSmall) });
   part("shown-as").textContent = chosen.says;
-  part("bytes").textContent = chosen.text();
-  part("bytes").classList.toggle("hex", chosen.isHex === true);
+  const [text, image] = [part("bytes"), part("picture")];
+  [text.hidden, image.hidden] = [chosen.make !== undefined, chosen.make === undefined];
+  text.className = `bytes ${chosen.id}`;
+  if (chosen.make) {
+    const fields = { role: "img", ariaLabel: `${chosen.says} ${part("heading").textContent}` };
+    image.replaceChildren(Object.assign(canvasOf(chosen.make()), fields));
+  } else {
+    text.replaceChildren(...(chosen.id === "as-basic" ? coloured(chosen.text()) : [chosen.text()]));
+  }
+}
+
+// What is known of a file, in pairs.
+function factsOf({ kind, accession, file, bytes, digest, files }) {
+  const place = files.findIndex((one) => one.slot === file.slot) + 1;
+  const disk = box("span", "", link(nameOfDisk(accession), accession), numberOf(accession));
+  const inUser = file.user ? `, of user ${file.user}` : "";
+  const blocks = kind === "cpm8" ? counted(bytes.length / 128, "record") : counted(blocksOf(bytes.length), "block");
+  const words = (kind !== "cpm8" && pictureIn(bytes)?.words) || typeWords(kind, file);
+  const pairs = {
+    Disk: disk,
+    Place: `file ${place} of ${files.length} on its list, at slot ${file.slot} of the directory${inUser}`,
+    "Printed name": nameOfFile(kind, file) === file.name ? null : element("span", file.name, { className: "name" }),
+    Type: `${file.type}${words && `, ${words}`}, of ${kindWords(kind)}`,
+    Size: `${counted(bytes.length, "byte")}, ${blocks}`,
+  };
+  if (file.type === "PRG") {
+    const address = (bytes[0] ?? 0) + 256 * (bytes[1] ?? 0);
+    pairs["Load address"] = `$${address.toString(16).toUpperCase().padStart(4, "0")} (${address})`;
+  }
+  pairs["SHA-256"] = digest && element("span", digest, { className: "digest" });
+  pairs["Open by"] = `${meaning(file.rule)} (${file.rule})`;
+  const said = Object.entries(pairs).filter(([, text]) => text);
+  return box("dl", "facts", ...said.flatMap(([term, text]) => [element("dt", term), box("dd", "", text)]));
+}
+
+// The listing says how to read the bytes, and comes first. A file that comes though the listing lacks it was opened in
+// between.
+export async function showFile(number, slot) {
+  const accession = Number(number);
+  const listing = await askObject(`/images/${accession}`);
+  const bytes = new Uint8Array(await (await ask(`/images/${accession}/files/${slot}`)).arrayBuffer());
+  const [{ kind }, files] = [listing, filesOf(listing)];
+  const file = files.find((one) => one.slot === Number(slot));
+  if (file === undefined) throw new Refused("changed", {});
+  const digest = await digestOf(bytes).catch(() => "");
+  const heading = nameOfFile(kind, file);
+  const views = viewsOf(kind, bytes);
+  const name = fileName(kind, heading, file.type);
+  const save = element("a", "Download", { id: "download", className: "button primary", download: name });
+  const quotes = quoting(() => {
+    const sum = digest && `, SHA-256 ${digest}`;
+    const size = counted(bytes.length, "byte");
+    return citation(accession, `, file \u201c${heading}\u201d (slot ${slot}, ${file.type}, ${size}${sum})`);
+  });
+  const question = askStaff("Ask the staff about this file", `Disk ${accession}, slot ${slot}: ${heading}`);
+  const facts = factsOf({ kind, accession, file, bytes, digest, files });
+  const aside = box("aside", "card", facts, box("div", "cluster", save, ...quotes.buttons), quotes.says, question);
+  aside.ariaLabel = "About the file";
+  const image = element("div", null, { id: "picture", className: `monitor ${kind === "cpm8" ? "cpm8" : "d64"}` });
+  const says = element("p", null, { id: "shown-as", className: "quiet" });
+  const main = box("div", "", choices(views), says, image, stage());
+  const fill = () => {
+    download = URL.createObjectURL(new Blob([bytes], { type: "application/octet-stream" }));
+    save.href = download;
+    showBytes(views, views[0]);
+  };
+  const readable = files.filter(mayRead);
+  const wayTo = (one) => ({ words: nameOfFile(kind, one), place: `${accession}/${one.slot}` });
+  const others = neighbours("file", readable, readable.indexOf(file), wayTo);
+  const title = `${heading}, ${nameOfDisk(accession)}`;
+  const parts = [box("div", "split", main, aside), others];
+  return { heading, isName: true, title, parts, fill, leave: forgetDownload };
 }

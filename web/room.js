@@ -1,128 +1,146 @@
 // The page for readers: one view at a time, by the address. It sends the desk GET and nothing else.
-import { asker, link } from "./room.cells.js";
-import { showDisks, showFiles } from "./room.disks.js";
-import { listenForForms, slotForm, ways } from "./room.forms.js";
-import { arrive, keep } from "./room.history.js";
-import { Refused, element, listenForKey, loaded, part, refusal, useNow } from "./shared.js";
+import { askStaff, house, readAbout, room } from "./about.js";
+import { showDisk } from "./room.disk.js";
+import { choicesIn, showHome } from "./room.home.js";
+import { allDisks, nameOfDisk } from "./room.lists.js";
+import { button, link } from "./room.parts.js";
+import { Refused, box, keyInUse, listenForKey, loaded, part, refusal, useNow } from "./shared.js";
 import { readTitles } from "./titles.js";
 
 // How often the view has changed: the page drops a reply to an earlier view.
 let turn = 0;
+// The path of the view that is shown, what draws its choices anew, and what is to be done when the reader leaves it.
+let shown = { path: null, change: null, leave: () => {} };
+// Of each entry of the browser's history how far it was scrolled, and by which link the reader left it.
+const scrolled = new Map();
+let entry = null;
 
-const titles = readTitles(["titles.csv"]);
+const own = Promise.all([readTitles(["titles.csv"]), readAbout()]);
+history.scrollRestoration = "manual";
 
-// Where the reader is
-
-function places({ accession, slot, words }) {
-  const steps = [link("Disks", "")];
-  if (words) steps.push(element("span", "files by name"));
-  if (accession) steps.push(link(`Disk ${accession}`, accession));
-  if (slot) steps.push(element("span", `slot ${slot}`));
-  part("places").replaceChildren(...steps.flatMap((step, at) => (at ? [" / ", step] : [step])));
-}
-
+// Where the reader is. An address of an earlier version of this page that finds something leads to the same search.
 function place() {
-  const [, accession, slot] = /^#\/([1-9][0-9]{0,5})(?:\/(0|[1-9][0-9]{0,3}))?$/.exec(location.hash) || [];
-  const [, words] = /^#\/find\/(.+)$/.exec(location.hash) || [];
-  return { accession, slot, words: words && decoded(words) };
+  const old = /^#\/find\/(.+)$/.exec(location.hash);
+  if (old) history.replaceState(history.state, "", `#/?q=${old[1].replaceAll("+", "%2B")}`);
+  const [path, query = ""] = location.hash.replace(/^#\/?/, "").split("?");
+  const [, accession, slot] = /^([1-9][0-9]{0,5})(?:\/(0|[1-9][0-9]{0,3}))?$/.exec(path) ?? [];
+  return { path, query, accession, slot };
 }
 
-// What stands in an address that somebody may have typed.
-function decoded(words) {
-  try {
-    return decodeURIComponent(words);
-  } catch {
-    return words;
-  }
+function showPlaces({ path, accession, slot }) {
+  const steps = path === "" ? [] : [link("All disks", "")];
+  if (slot) steps.push(link(nameOfDisk(Number(accession)), accession));
+  part("places").replaceChildren(...steps.flatMap((step, at) => (at ? [" / ", step] : [step])));
+  part("places").hidden = steps.length === 0;
 }
-
-// Views
 
 // What not every reader needs is loaded when it is asked for.
-async function asked({ accession, slot, words }, progress) {
-  if (words !== undefined) return (await loaded(import("./room.find.js"))).showFound(words, progress);
+async function asked({ path, query, accession, slot }, progress) {
   if (slot !== undefined) return (await loaded(import("./room.file.js"))).showFile(accession, slot);
-  if (accession !== undefined) return showFiles(accession);
-  if (!["", "#", "#/"].includes(location.hash)) throw new Refused(404, { error: "no-route" });
-  return showDisks();
+  if (accession !== undefined) return showDisk(accession);
+  if (path !== "") throw new Refused(404, { error: "no-route" });
+  return showHome(choicesIn(query), progress);
 }
 
-// What is to be done when the reader leaves the view.
-let leave = () => {};
+// A refusal, with the ways on: without a key, to the staff, to the disk, or to all disks.
+function refusedView({ accession, slot }, fault) {
+  if (fault.said?.error === "unknown-key") {
+    const without = button("Go on without a key", () => useKey(""));
+    const again = button("Type it again", () => {
+      part("key-box").open = true;
+      part("key").focus();
+    });
+    return { heading: "The desk does not know this key", parts: [refusal(fault), box("p", "cluster", without, again)] };
+  }
+  const disk = accession && nameOfDisk(Number(accession));
+  const of = `Disk ${accession}${slot ? `, slot ${slot}` : ""}: ${disk}`;
+  const ways = box("p", "cluster", accession ? askStaff("Ask the staff about it", of) : null);
+  if (slot) ways.append(link("The other files of this disk", accession));
+  else ways.append(link("All disks", ""));
+  const heading = slot ? `${disk}, slot ${slot}` : (disk ?? "There is no such place here");
+  return { heading, parts: [refusal(fault), ways] };
+}
 
-function display({ heading, title = heading, summary, parts, fill, leave: leaveThis = () => {} }) {
-  leave();
-  leave = leaveThis;
-  document.title = `${title} \u2013 the reading room`;
+// A title for the window; that of the home says what was looked for.
+function entitle(title) {
+  document.title = title === house() ? title : `${title} \u2013 ${house()}`;
+}
+
+const homeTitle = ({ q }) => (q ? `\u201c${q}\u201d` : room());
+
+function display({ heading, title = heading, isName, parts, fill, change = null, leave = () => {} }, { path, query }) {
+  shown.leave();
+  shown = { path, change, leave };
+  entitle(change ? homeTitle(choicesIn(query)) : title);
   part("heading").textContent = heading;
-  part("status").textContent = summary;
+  part("heading").classList.toggle("name", isName === true);
+  document.body.classList.toggle("home", change !== null);
+  if (!change) part("status").textContent = "";
   part("view").replaceChildren(...parts);
   fill?.();
-  part("view").setAttribute("aria-busy", "false");
 }
 
-function refusedView({ accession, slot, words }, fault) {
-  const view = { summary: "Refused." };
-  if (words !== undefined) return { ...view, heading: "Files by name", parts: [refusal(fault), ways(words)] };
-  if (slot !== undefined) {
-    return { ...view, heading: `Disk ${accession}, slot ${slot}`, parts: [refusal(fault), slotForm(accession)] };
-  }
-  const others = fault.said?.error === "no-route" ? "No such place" : "Disks";
-  return { ...view, heading: accession === undefined ? others : `Disk ${accession}`, parts: [refusal(fault), ways()] };
+// How the link that has the focus is found where the view is drawn anew.
+function focusedLink() {
+  const at = document.activeElement;
+  const label = at?.closest("nav")?.ariaLabel;
+  const link = at?.matches("#view a") && `a[href="${CSS.escape(at.getAttribute("href"))}"]`;
+  return link ? `${label ? `nav[aria-label="${label}"] ` : ""}${link}` : null;
 }
 
-// How many frames the page waits for the row by which the reader left a list.
-const MOST_FRAMES = 30;
-
-const frame = () => new Promise((go) => requestAnimationFrame(go));
-
-// Shows a view as the reader left it, at the same place and with the focus on the link by which they left.
-async function showAgain({ view, scroll, left }) {
-  const mine = turn;
-  display(view);
-  let way = null;
-  for (let count = 0; mine === turn && way === null && count < MOST_FRAMES; count += 1) {
-    window.scrollTo(0, scroll);
-    await frame();
-    way = left === null ? part("heading") : part("view").querySelector(`a[href="${CSS.escape(left)}"]`);
-  }
-  if (mine === turn) (way ?? part("heading")).focus({ preventScroll: true });
+// Notes how far the reader has scrolled and by which link they leave, and gives both where they come back.
+function arrive() {
+  if (entry !== null) scrolled.set(entry, { y: window.scrollY, left: focusedLink() });
+  entry = history.state?.entry ?? `${Date.now()}-${Math.random()}`;
+  history.replaceState({ entry }, "");
+  return scrolled.get(entry) ?? { y: 0, left: null };
 }
 
-async function show(focuses) {
+async function show(isMoved) {
   const here = place();
   const mine = ++turn;
-  const before = arrive();
-  places(here);
-  if (before !== null) {
-    showAgain(before);
-    return;
-  }
+  const focused = focusedLink();
+  const at = arrive();
   const progress = (words) => {
-    if (mine === turn) part("status").textContent = words;
+    if (shown.path === here.path || mine === turn) part("status").textContent = words;
   };
-  progress("Asking the desk.");
-  part("view").setAttribute("aria-busy", "true");
-  const asking = titles.then(() => here).then((there) => asked(there, progress));
-  const came = await asking.then(
-    (view) => ({ view, isKept: true }),
-    (fault) => ({ view: refusedView(here, fault), isKept: false }),
-  );
-  if (mine !== turn) return;
-  display(came.view);
-  if (came.isKept) keep(came.view);
-  window.scrollTo(0, 0);
-  if (focuses) part("heading").focus({ preventScroll: true });
+  const failed = (fault) => {
+    progress("");
+    part("view").append(refusal(fault));
+  };
+  part("view").ariaBusy = "true";
+  if (isMoved && shown.change && shown.path === here.path) {
+    entitle(homeTitle(choicesIn(here.query)));
+    part("view").querySelector(":scope > .refused")?.remove();
+    await shown.change(choicesIn(here.query)).catch(failed);
+    // a choice that was pressed keeps the focus where it is drawn anew
+    const isLost = mine === turn && focused !== null && document.activeElement === document.body;
+    if (isLost) part("view").querySelector(focused)?.focus();
+  } else {
+    const came = await own.then(() => asked(here, progress)).catch((fault) => refusedView(here, fault));
+    if (mine !== turn) return;
+    showPlaces(here);
+    display(came, here);
+    if (isMoved && at.left === null) part("heading").focus({ preventScroll: true });
+    await came.ready?.catch(failed);
+    if (mine !== turn) return;
+    if (at.left !== null) (part("view").querySelector(at.left) ?? part("heading")).focus({ preventScroll: true });
+    window.scrollTo(0, at.y);
+  }
+  if (mine === turn) part("view").ariaBusy = "false";
 }
 
 function useKey(given) {
   useNow(given);
   part("forget").hidden = given === "";
-  part("caller").textContent = asker();
+  part("caller").textContent = keyInUse() === "" ? "I have a key" : "You read with a key";
+  part("key-box").open = false;
+  shown.path = null;
   show(false);
 }
 
-listenForForms(() => show(true));
+// The list of disks comes beside the museum's own files.
+allDisks().catch(() => {});
 listenForKey(useKey);
 window.addEventListener("hashchange", () => show(true));
 show(false);

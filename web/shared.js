@@ -11,7 +11,7 @@ const REFUSALS = {
   "staff-only": ["Only the staff may do this.", "Use a key of the staff."],
   "bad-body": ["A value is beyond its limits.", "Check each one. A donor has at most 1,000 bytes; an umlaut is two."],
   "no-accession": ["There is no disk with this number.", "Check the number."],
-  "no-file": ["There is no file at that slot.", "Take a slot from the list of the disk."],
+  "no-file": ["The disk has no file at this slot.", "Open one from the list of the disk."],
   "no-deed": ["There is no such deed.", "Check its number, or put the deed first."],
   denied: ["You may not read this file.", "Ask the staff, who know why."],
   "listed-only": ["The desk only lists files of this kind.", "Ask the staff, who have the whole disk."],
@@ -109,6 +109,13 @@ export function element(name, text, fields = {}) {
   const made = document.createElement(name);
   if (text !== null) made.textContent = text;
   return Object.assign(made, fields);
+}
+
+// An element with a class and what stands in it; null and "" leave nothing.
+export function box(name, className, ...inside) {
+  const made = element(name, null, className ? { className } : {});
+  made.append(...inside.filter((one) => one !== null && one !== ""));
+  return made;
 }
 
 export function cell(label, content, kind = "") {
@@ -218,9 +225,17 @@ export function meaning(label) {
   return own(DESK_RULES, label) || "a rule";
 }
 
+export const faultWords = (word) => own(FAULTS, word) || word;
+
 export function explained(word) {
   const plain = own(FAULTS, word);
   return plain === "" ? word : `${word} (${plain})`;
+}
+
+export async function digestOf(bytes) {
+  if (crypto.subtle === undefined) throw new Refused("digest", {});
+  const digest = await crypto.subtle.digest("SHA-256", bytes);
+  return Array.from(new Uint8Array(digest), (byte) => byte.toString(16).padStart(2, "0")).join("");
 }
 
 // The form for the key, and the link to what stands below it

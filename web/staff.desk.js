@@ -178,11 +178,3 @@ export function sure({ words, more = [], go, keep }) {
     dialog.addEventListener("close", () => answer(dialog.returnValue === "go"), { once: true });
   });
 }
-
-// SHA-256
-
-export async function digestOf(bytes) {
-  if (crypto.subtle === undefined) throw new Refused("digest", {});
-  const digest = await crypto.subtle.digest("SHA-256", bytes);
-  return Array.from(new Uint8Array(digest), (byte) => byte.toString(16).padStart(2, "0")).join("");
-}

@@ -1,6 +1,7 @@
 // Dumps of disks: chosen, described by their lengths and SHA-256, numbered by hand or by a sheet, and put.
-import { KINDS, Refused, cell, counted, element, explainRefusal, kindWords, part, row, table } from "./shared.js";
-import { change, digestOf, formOf, send, work } from "./staff.desk.js";
+import { KINDS, Refused, cell, counted, digestOf, element, explainRefusal, kindWords } from "./shared.js";
+import { part, row, table } from "./shared.js";
+import { change, formOf, send, work } from "./staff.desk.js";
 import { isDone, sendMany } from "./staff.many.js";
 import { matchRows, rowProblem, rowsIn } from "./staff.sheet.js";
 import { LIMITS } from "./staff.words.js";

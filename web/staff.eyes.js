@@ -5,9 +5,9 @@ import { searchText, shownName } from "./names.js";
 import { cell, counted, element, kindWords, meaning, part, row } from "./shared.js";
 import { formOf, work } from "./staff.desk.js";
 import { limitFields, options } from "./staff.ruleform.js";
-import { COLUMNS, EFFECT_AT, keeper, readVerdicts } from "./staff.verdicts.js";
+import { COLUMNS, EFFECT_AT, readVerdicts } from "./staff.verdicts.js";
 import { AUDIENCES, EFFECTS, today } from "./staff.words.js";
-import { inParts, save } from "./stream.js";
+import { inParts, keeper, save } from "./stream.js";
 import { hasTitles, isTitled, titleOf, withTitle } from "./titles.js";
 
 // The verdicts of the day that was read last; behind each the text to look in.
@@ -16,8 +16,8 @@ const SEARCHED = 15;
 
 async function read(day, tools) {
   const files = [];
-  const keep = keeper();
-  const take = (record) => files.push([...keep(record), searchText(record[COLUMNS.kind], record[COLUMNS.name])]);
+  const once = keeper();
+  const take = (record) => files.push([...record.map(once), searchText(record[COLUMNS.kind], record[COLUMNS.name])]);
   await readVerdicts(day, take, tools);
   seen = { day, files };
 }
@@ -27,7 +27,8 @@ async function read(day, tools) {
 function finder(words, audience) {
   if (words === "") return () => true;
   const [rule, ruleAt] = [words.toUpperCase(), EFFECT_AT[audience] + 1];
-  const isNamed = (file) => file[SEARCHED].includes(words) || file[COLUMNS.accession] === words || file[ruleAt] === rule;
+  const isNumbered = (file) => file[COLUMNS.accession] === words || file[ruleAt] === rule;
+  const isNamed = (file) => file[SEARCHED].includes(words) || isNumbered(file);
   if (!hasTitles()) return isNamed;
   return (file) => isNamed(file) || isTitled(Number(file[COLUMNS.accession]), words);
 }

@@ -9,15 +9,3 @@ export const EFFECT_AT = { public: 9, room: 11, staff: 13 };
 export function readVerdicts(day, take, { progress, signal }) {
   return readTable(`/staff/verdicts/${day}`, { take, signal, progress: (count) => progress(`Reading ${day}`, count) });
 }
-
-// Keeps each text once, so that 200,000 records take little memory.
-export function keeper() {
-  const kept = new Map();
-  return (record) =>
-    record.map((text) => {
-      const known = kept.get(text);
-      if (known !== undefined) return known;
-      kept.set(text, text);
-      return text;
-    });
-}

@@ -60,6 +60,12 @@ export async function readTable(path, { method = "GET", body, take, progress = (
   if (count < 0 || records.rest !== "") throw new Refused(0, {});
 }
 
+// Keeps each text once, since most texts of a long table come again and again.
+export function keeper() {
+  const texts = new Map();
+  return (text) => texts.get(text) ?? (texts.set(text, text), text);
+}
+
 // Has the browser save a file.
 export function save(name, parts, type) {
   const address = URL.createObjectURL(new Blob(parts, { type }));

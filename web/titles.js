@@ -8,18 +8,18 @@ const titles = new Map();
 
 // Reads tables, of which a later one goes before an earlier one. A table that is not there, or is none, has no titles.
 export async function readTitles(paths) {
-  const texts = await Promise.all(paths.map(fetchText));
+  const texts = await Promise.all(paths.map(textOfOwn));
   for (const text of texts) {
     const [heads, ...records] = recordsOf(text) ?? [];
     if (heads?.join() !== COLUMNS) continue;
     for (const [accession, title = "", note = ""] of records) {
-      const search = `${title}\n${note}`.toLowerCase();
-      if (/^[1-9][0-9]{0,5}$/.test(accession)) titles.set(Number(accession), { title, note, search });
+      if (/^[1-9][0-9]{0,5}$/.test(accession)) titles.set(Number(accession), { title, note });
     }
   }
 }
 
-async function fetchText(path) {
+// The text of a file that the museum may have put beside the pages.
+export async function textOfOwn(path) {
   const options = { cache: "no-store", credentials: "omit", redirect: "error" };
   const reply = await fetch(path, options).catch(() => null);
   return reply?.ok ? reply.text().catch(() => "") : "";
@@ -32,10 +32,8 @@ export const titleOf = (accession) => titles.get(accession)?.title ?? "";
 export const noteOf = (accession) => titles.get(accession)?.note ?? "";
 
 // Whether the title or the note of a disk has some words, which are in small letters.
-export const isTitled = (accession, words) => titles.get(accession)?.search.includes(words) === true;
-
-// The disks whose title or note has some words.
-export const titled = (words) => [...titles.keys()].filter((accession) => isTitled(accession, words));
+export const isTitled = (accession, words) =>
+  `${titleOf(accession)}\n${noteOf(accession)}`.toLowerCase().includes(words);
 
 // Something that stands for a disk, with its title below where it has one.
 export function withTitle(shown, accession) {

@@ -39,16 +39,16 @@ def test_each_door_has_its_page_which_tells_the_policy(door, name):
     page = bytes_of("web", name)
     assert door.get("/").body == page
     told = re.search(rb'<meta http-equiv="Content-Security-Policy" content="([^"]*)">', page)[1].decode()
-    assert told == POLICY.replace("frame-ancestors 'none'; ", "")
+    assert " ".join(told.split()) == POLICY.replace("frame-ancestors 'none'; ", "")
 
 def test_files_of_the_museum_come_first(room, outside):
     own = room.folder / "own"
     own.mkdir()
-    for name in ("index.html", "room.css", "imprint.html"):
+    for name in ("index.html", "room.css", "imprint.html", "about.csv"):
         (own / name).write_text(f"own {name}")
-    bodies = [outside.get(path).body for path in ("/", "/room.css", "/imprint.html")]
+    bodies = [outside.get(path).body for path in ("/", "/room.css", "/imprint.html", "/about.csv")]
     shutil.rmtree(own)
-    assert bodies == [b"own index.html", b"own room.css", b"own imprint.html"]
+    assert bodies == [b"own index.html", b"own room.css", b"own imprint.html", b"own about.csv"]
     assert outside.get("/").body == bytes_of("web", "index.html")
 
 @pytest.mark.parametrize("path", ["/room.js", "/shared.css", "/openapi.json", LONG])

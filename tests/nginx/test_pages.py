@@ -36,13 +36,13 @@ def effects(room, number):
 @pytest.mark.parametrize("key, disks", [(PUBLIC, OPEN), (STAFF, OPEN | {"Disk 12"})])
 def test_reader_sees_the_disks_of_their_audience(reader, key, disks):
     reader.give(key)
-    assert {row[0] for row in reader.go("")["rows"]} >= disks
+    assert {*reader.go("")["disks"]} >= disks
 
 def test_reader_finds_reads_and_downloads_a_file(reader):
-    assert reader.find("hello")["rows"]
+    assert reader.find("hello")["matches"]
     assert reader.go("15/0")["heading"] == "HELLO.TXT"
     assert reader.text("pre").strip() == "HELLO FROM CP/M"
-    reader.named("link", "Download the bytes").click()
+    reader.named("link", "Download").click()
     assert reader.saved("HELLO.TXT") == cpm_image.text("HELLO FROM CP/M\n")
 
 def test_reader_saves_a_zip(reader):
@@ -60,8 +60,8 @@ def test_takedown_closes_a_file_and_says_so(room, reader):
 
 def test_desk_that_is_down_is_said(room, reader):
     with room.desk_down():
-        assert reader.go("")["refusal"] == ["The desk is closed at the moment. Try again later."]
-    assert reader.go("")["rows"]
+        assert reader.load()["refusal"] == ["The desk is closed at the moment. Try again later."]
+    assert reader.load()["disks"]
 
 def test_staff_puts_a_deed_a_rule_and_a_disk(room, staffs, tmp_path):
     staffs.go("deeds")

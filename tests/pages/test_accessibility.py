@@ -55,9 +55,10 @@ return due.length;
 MOST_TABS = 400
 # What has to have a name, by the roles that the browser tells a screen reader.
 NAMED = {*"link button textbox searchbox spinbutton combobox checkbox Date DisclosureTriangle".split(),
-         *"table dialog navigation group heading progressbar".split()}
+         *"table dialog navigation group heading progressbar figure image".split()}
 # Views: whose, where, and the button that leads further there.
-VIEWS = [("reader", place, None) for place in ("", "2001", "2001/0", "2001/8", "1004", "find/letter", "99", "nowhere")]
+READERS = "", "2001", "2001/0", "2001/1", "1001", "1004", "?q=letter&as=screens", "99", "nowhere"
+VIEWS = [("reader", place, None) for place in READERS]
 VIEWS += [("staff", place, None) for place in ("deeds", "rules", "takedowns", "keys", "journal", "disks")]
 VIEWS += [("staff", *more) for more in [
     ("eyes", "Look"), ("year", "Look at the next year"), ("checks", "Survey disk 1002"),

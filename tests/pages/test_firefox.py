@@ -21,7 +21,7 @@ COMMANDS = {
     Command.NEW_SESSION: "NewSession", Command.GET: "Navigate", Command.FIND_ELEMENTS: "FindElements",
     Command.CLICK_ELEMENT: "ElementClick", Command.SEND_KEYS_TO_ELEMENT: "ElementSendKeys",
     Command.GET_ELEMENT_PROPERTY: "GetElementProperty", Command.W3C_EXECUTE_SCRIPT: "ExecuteScript",
-    Command.W3C_EXECUTE_SCRIPT_ASYNC: "ExecuteAsyncScript",
+    Command.W3C_EXECUTE_SCRIPT_ASYNC: "ExecuteAsyncScript", Command.REFRESH: "Refresh",
 }
 # It saves files without a word, and asks nobody else for anything.
 OFF = ["browser.download.always_ask_before_handling_new_types", "datareporting.policy.dataSubmissionEnabled",
@@ -72,13 +72,16 @@ def driver(tmp_path_factory):
 
 def test_reader_finds_reads_and_saves_a_file(museum, reader):
     museums.harmful_disk(museum, 1066, 9)
-    assert reader.go("1066")["rows"][2][1].startswith("<IMG") and reader.harmed() == [None, 0]
-    assert reader.find("welcome")["rows"][0][:2] == ["Disk 1001", "0"]
+    assert reader.load()["disks"][-1] == "Disk 1066"
+    assert reader.go("1066")["rows"][2][0].startswith("<IMG") and reader.harmed() == [None, 0]
+    assert reader.script(CONTRAST) == []
+    assert reader.script("return document.querySelector('figure canvas').width") > 1000
+    assert reader.find("welcome")["matches"] == ["WELCOME.TXT"]
     assert reader.script(CONTRAST) == []
     reader.go("1001/0")
-    reader.push("As bytes")
+    reader.push("Bytes")
     assert reader.text("pre").startswith("000000  ")
-    reader.named("link", "Download the bytes").click()
+    reader.named("link", "Download").click()
     assert len(reader.saved("WELCOME.TXT")) == 896
     assert reader.script(CONTRAST) == []
     assert reader.driver.execute_async_script(REFUSED) == ["TypeError", "TypeError", "connect-src"]

@@ -12,17 +12,17 @@ def reach(page, name, *keys):
     raise AssertionError(f"no Tab leads to {name}")
 
 def test_reader_finds_reads_and_downloads_a_file(reader):
-    reach(reader, "Files by a part of the name", "guide", Keys.ENTER)
-    assert reader.read(lambda state: state["heading"] == "“guide”" and state["rows"])["rows"][0][0] == "Disk 1002"
+    reach(reader, "Search titles, files and numbers", "guide", Keys.ENTER)
+    assert reader.read(lambda state: "q=guide" in state["here"] and state["matches"])["disks"] == ["Disk 1002"]
     reach(reader, "GUIDE", Keys.ENTER)
     reader.read(lambda state: state["heading"] == "GUIDE")
     assert reader.focused() == "GUIDE"
-    reach(reader, "As bytes", Keys.ENTER)
-    assert reader.named("region", "The bytes of the file").text.startswith("000000  ")
-    reach(reader, "Download the bytes", Keys.ENTER)
+    reach(reader, "Bytes", Keys.ENTER)
+    assert reader.named("region", "What is in the file").text.startswith("000000  ")
+    reach(reader, "Download", Keys.ENTER)
     assert reader.saved("GUIDE.seq")
     reader.driver.back()
-    reader.read(lambda state: state["heading"] == "“guide”")
+    reader.read(lambda state: state["matches"])
     wait_for("the link by which the reader left with the focus", lambda: reader.focused() == "GUIDE")
 
 def agree(page):

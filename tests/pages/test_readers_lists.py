@@ -1,81 +1,149 @@
-"""The page for readers over many disks: the list scrolls to its end, Back leads to the same row of it, and files are
-found by their names."""
+"""The home of the page for readers over many disks: one search for titles, files and numbers, its facets and counts,
+pages of the list, and Back to the same place."""
 
 import csv
+import re
+import threading
 import urllib.parse
 
 import pytest
 from staff_helpers import CANNOT_REACH
 from support import museums
-from support.browser import TODAY, wait_for
+from support.browser import LIMIT, TODAY, wait_for
 from support.samples import reply
 
-# A script: the link of the list that is below the head of the screen, where there is one.
-IN_SIGHT = """return Array.from(document.querySelectorAll("#view tbody :is(td:first-child, td.name) a"))
-  .find((one) => one.href.endsWith(arguments[0]) && one.getBoundingClientRect().top > 300) ?? null"""
+# A script: the link to a disk or a file that is below the head of the window, where there is one.
+IN_SIGHT = """return Array.from(document.querySelectorAll(`#view ${arguments[0]}`))
+  .find((one) => one.getBoundingClientRect().top > 100) ?? null"""
+
+KINDS = {"d64": "Commodore 1541", "cpm8": "CP/M, 8 inches"}
 
 @pytest.fixture(scope="module")
 def museum():
     """A thousand disks of twenty files each; the public sees nothing of each hundredth."""
     return museums.many(1000, 20, deeds=100, day=TODAY)
 
-def test_long_list_is_drawn_as_far_as_it_is_seen_and_scrolls_to_its_end(reader):
-    shown = reader.read(lambda state: state["rows"])
-    assert shown["status"] == "You may see files of 990 disks."
-    assert shown["rows"][0] == ["Disk 1", "Commodore 1541", "2", "19"]
-    assert len(shown["rows"]) <= 400
-    reader.script("window.scrollTo(0, document.documentElement.scrollHeight)")
-    assert len(reader.read(lambda state: state["rows"] and state["rows"][-1][0] == "Disk 999")["rows"]) <= 600
-    assert reader.script("return window.scrollY") > 10_000
+@pytest.fixture(scope="module")
+def lines(museum):
+    """The lines of the catalogue that the public sees, each with what its file is found by."""
+    text = museum.ask_catalogue("public").reply.partition(b"\r\n\r\n")[2].decode()
+    rows = list(csv.DictReader(text.splitlines()))
+    for row in rows:
+        shown = bytes(byte & 127 for byte in urllib.parse.unquote_to_bytes(row["name"])).decode()
+        end = "" if row["kind"] == "cpm8" else f".{row['type']}"
+        row["text"] = f"{shown}{end}\n{row['name']}".lower()
+        row["disk"] = f"disk {row['accession']}\n{KINDS[row['kind']]}".lower()
+    return rows
 
-@pytest.mark.parametrize("place, slot", [("", ""), ("find/letter%201", "/1")])
-def test_back_leads_to_the_same_row(reader, place, slot):
+def in_name(word, line):
+    return all(piece in line["text"] for piece in word.split("*"))
+
+def in_disk(word, line):
+    """A number counts only as a whole there."""
+    return re.search(rf"(?<!\d){re.escape(word)}(?!\d)" if word.isdigit() else re.escape(word), line["disk"])
+
+def said(disks, files):
+    return f"Found: {disks:,} disk{'s'[: disks != 1]} and {files:,} file{'s'[: files != 1]}."
+
+def test_home_counts_disks_and_files_and_shows_them_in_pages(reader, lines):
+    disks = list(dict.fromkeys(f"Disk {line['accession']}" for line in lines))
+    shown = reader.read(lambda state: state["disks"])
+    assert shown["status"] == f"{len(disks)} disks with {len(lines):,} files, open to everybody."
+    assert shown["disks"] == disks[:48]
+    reader.named("link", "Next page").click()
+    assert reader.read(lambda state: state["here"] == "#/?page=2")["disks"] == disks[48:96]
+    assert reader.go("?page=99")["disks"] == disks[48 * (len(disks) // 48) :]
+    assert reader.go("?kind=cpm8")["disks"] == [disk for disk in disks if int(disk[5:]) % 2 == 0][:48]
+
+@pytest.mark.parametrize("place, links", [("?page=3", ".disk-title"), ("?q=letter+1", ".matches a")])
+def test_back_leads_to_the_same_place(reader, place, links):
     heading = reader.go(place)["heading"]
-    reader.script("window.scrollTo(0, 8000)")
-    link = wait_for("a row in sight", lambda: reader.script(IN_SIGHT, slot))
+    reader.script("window.scrollTo(0, 900)")
+    link = wait_for("a link in sight", lambda: reader.script(IN_SIGHT, links))
     name, before = link.text, reader.script("return window.scrollY")
     link.click()
     reader.read(lambda state: state["heading"] == name)
     assert reader.script("return window.scrollY") == 0
     reader.door.visits.clear()
     reader.driver.back()
-    reader.read(lambda state: state["heading"] == heading and state["rows"])
+    reader.read(lambda state: state["heading"] == heading and state["disks"])
     wait_for("the link by which the reader left with the focus", lambda: reader.focused() == name)
     assert abs(reader.script("return window.scrollY") - before) <= 2
     assert reader.door.visits == []
     reader.driver.forward()
     assert reader.read(lambda state: state["heading"] == name)
 
-def test_files_are_found_by_a_part_of_the_name_in_a_list_that_is_fetched_once(reader, museum):
-    """A name whose letters have their highest bit set is found, and stands, as plain and as the desk prints it."""
-    due = []
-    for line in csv.DictReader(museum.ask_catalogue("public").reply.partition(b"\r\n\r\n")[2].decode().splitlines()):
-        plain = bytes(byte & 127 for byte in urllib.parse.unquote_to_bytes(line["name"])).decode()
-        shown = plain if plain == line["name"] else f"{plain}{line['name']}"
-        due.append([f"{plain}\n{line['name']}".lower(), [f"Disk {line['accession']}", line["slot"], shown]])
+def test_words_find_files_and_disks_in_any_order_in_a_list_that_is_fetched_once(reader, lines):
     reader.door.visits.clear()
-    for words in ("LETTER 1", "letter 1", "NOTES10.TXT", "%CC%C5", "dia"):
-        rows = [row for names, row in due if words.lower() in names]
-        reader.type("Files by a part of the name", words)
-        reader.push("Find")
-        shown = reader.read(lambda state: state["rows"] and words in state["heading"])
-        assert shown["status"] == f"You may see {len(rows):,} files with this in the name."
-        assert [row[:3] for row in shown["rows"][:50]] == rows[:50]
-    shown = reader.find("nowhere")
-    assert shown["status"] == "There is no file with “nowhere” in its name that you may see. You ask as the public."
-    assert (shown["rows"], [path for _, path, _ in reader.door.visits]) == ([], ["/catalogue"])
-    reader.push("Fetch it again")
-    assert [path for _, path, _ in reader.door.visits] == ["/catalogue"] * 2
+    for words in ("LETTER 1", "1 letter", "notes10.txt", "*.SEQ 17", "%CC%C5", "note*.txt", "dia", "997"):
+        each = words.lower().split()
+        due = [line for line in lines if any(in_name(word, line) for word in each)
+               and all(in_name(word, line) or in_disk(word, line) for word in each)]
+        whole = [line for line in lines if all(in_disk(word, line) for word in each)]
+        disks = sorted({int(line["accession"]) for line in due + whole})
+        shown = reader.find(words)
+        assert shown["status"] == said(len(disks), len(due)), words
+        assert shown["disks"] == [f"Disk {number}" for number in disks[:48]], words
+    reader.type("Search titles, files and numbers", "nowhere")
+    shown = reader.wait(lambda state: state["status"].startswith("Nothing"))
+    assert (shown["here"], shown["disks"]) == ("#/?q=nowhere", [])
+    assert [path for _, path, _ in reader.door.visits] == ["/catalogue"]
+
+def test_facets_narrow_what_was_found_and_count_it(reader, lines):
+    shown = reader.find("letter")
+    found = [line for line in lines if "letter" in line["text"]]
+    for kind, words in KINDS.items():
+        count = len({line["accession"] for line in found if line["kind"] == kind})
+        assert f"{words} {count}" in shown["chips"]
+    texts = [line for line in found if line["type"] == "TXT"]
+    assert f"Texts {len(texts)}" in shown["chips"]
+    reader.named("link", f"Texts {len(texts)}").click()
+    shown = reader.read(lambda state: "type=TXT" in state["here"])
+    assert shown["status"] == said(len({line["accession"] for line in texts}), len(texts))
+    assert reader.focused() == f"Texts {len(texts)}"
+    assert "Disk 1" not in shown["disks"]
+    reader.named("link", "Screens").click()
+    reader.read(lambda state: "as=screens" in state["here"])
+    assert len(reader.texts("#results canvas")) == 48
+
+def test_progress_is_said_while_the_list_comes(reader, museum):
+    whole, is_said = museum.ask_catalogue("public").reply, threading.Event()
+
+    def in_parts():
+        for at in range(0, 5000, 1000):
+            yield whole[at : at + 1000]
+            yield 0.6
+        is_said.wait(LIMIT)
+        yield whole[5000:]
+
+    reader.door.before = lambda method, path: in_parts() if path == "/catalogue" else None
+    reader.script("location.hash = '#/?q=letter'")
+    reader.wait(lambda state: state["status"].startswith("Reading the list of all files: "), "the progress")
+    is_said.set()
+    assert reader.read(lambda state: state["disks"])["status"].startswith("Found: ")
 
 def test_list_that_ends_too_early_and_a_part_of_the_page_that_does_not_come_are_said(reader):
     reader.cdp("Network.enable")
     reader.cdp("Network.setBlockedURLs", urls=["*.js"])
     try:
-        assert reader.find("letter")["refusal"] == [CANNOT_REACH]
+        assert reader.go("1/1")["refusal"] == [CANNOT_REACH]
     finally:
         reader.cdp("Network.setBlockedURLs", urls=[])
     head = reply(200, bytes(1_000_000), "text/csv").partition(b"\r\n\r\n")[0]
     reader.door.before = lambda method, path: head + b"\r\n\r\naccession,deed" if path == "/catalogue" else None
     assert reader.find("letter")["refusal"] == [CANNOT_REACH]
     reader.door.before = lambda method, path: None
-    assert reader.push("Find")["status"].startswith("You may see")
+    assert reader.find("letter 1")["refusal"] == []
+
+def test_long_catalogue_is_read(reader):
+    line = b'1,1,d64,0,,"a ""b"", c",PRG,258,loop crossed,R1.1,read\n'
+    reader.door.before = lambda method, path: reply(200, b"heads\n" + 100_000 * line, "text/csv")
+    shown = reader.find('"B", C')
+    assert (shown["status"], shown["disks"]) == (said(1, 100_000), ["Disk 1"])
+    assert reader.texts(".matches li")[5] == "and 99,995 more files"
+
+def test_name_stands_as_the_machine_showed_it(reader):
+    """The printed form is beside the file where that is another."""
+    assert [reader.go(disk)["rows"][1][0] for disk in "13"] == ["NOTES 1", "SPRITES 1"]
+    assert reader.go("3/1")["title"] == "SPRITES 1, Disk 3 – The reading room"
+    assert "%D3%D0%D2%C9%D4%C5%D3 1" in reader.texts("dd")

@@ -1,5 +1,5 @@
-"""Reading, on the page for readers: texts of CP/M, WordStar and the 1541, listings of BASIC, bytes in digits, the names
-of downloads, and the zip of a disk."""
+"""Reading, on the page for readers: texts of CP/M, WordStar and the 1541, listings of BASIC, pictures, screens,
+bytes in digits, what is known of a file, the names of downloads, and the zip of a disk."""
 
 import csv
 import io
@@ -108,8 +108,7 @@ SHOWN = {
     "1001/0": ("WELCOME.TXT", "Shown as text.", WELCOME.partition(b"\x1a")[0].decode().replace("\r\n", "\n"),
                "WELCOME.TXT", WELCOME),
     "2001/0": ("HELLO", "Shown as a listing of BASIC.", '10 PRINT "HELLO"\n20 GOTO 10\n', "HELLO.prg", BASIC),
-    "2001/1": ("LETTER", "Shown as text, without its codes for colours and the cursor.", "┌─┐\n│ │\nHello",
-               "LETTER.seq", GRAPHIC),
+    "2001/1": ("LETTER", "Shown as it came on the screen of a C64.", "", "LETTER.seq", GRAPHIC),
     "2002/0": ("LETTER.TXT", "Shown as text of WordStar, without its marks for print.", "The last\nwords.\n",
                "LETTER.TXT", STAR),
     "2001/8": ("DATA", "Shown as bytes: the place, hexadecimal digits, and ASCII.", hexed(DATA), "DATA.prg", DATA),
@@ -120,24 +119,103 @@ def test_file_comes_in_the_way_that_suits_it_and_is_saved_by_a_safe_name(reader,
     heading, says, text, name, data = SHOWN[place]
     assert (reader.go(place)["heading"], reader.text("pre")) == (heading, text)
     assert says in reader.texts("#view p")
-    reader.named("link", "Download the bytes").click()
+    reader.named("link", "Download").click()
     assert reader.saved(name) == data
 
 def test_file_can_be_seen_in_the_other_ways(reader):
     small = '10 print "hello"\n20 goto 10\n'
     reader.go("2001/0")
-    for button, text in (("In small letters", small), ("As bytes", hexed(BASIC)), ("As BASIC", small)):
+    for button, text in (("Small letters", small), ("Bytes", hexed(BASIC)), ("Listing", small)):
         reader.push(button)
         assert reader.text("pre") == text
+    assert reader.texts("pre .word") == ["print", "goto"]
     reader.go("2001/1")
-    assert "The desk prints its name as %CC%C5%D4%D4%C5%D2." in reader.texts("#view p")
-    reader.push("In small letters")
-    assert reader.text("pre") == "┌─┐\n│ │\n│ELLO"
+    for button, text in (("Text", "┌─┐\n│ │\nHello"), ("Small letters", "┌─┐\n│ │\n│ELLO")):
+        reader.push(button)
+        assert reader.text("pre") == text
+    assert "Shown as text, without its codes for colours and the cursor." in reader.texts("#view p")
     reader.go("2001/8")
-    assert reader.texts("button:disabled") == ["As text"]
     with reader.phone():
         wait_for("lines of eight bytes", lambda: reader.text("pre") == hexed(DATA, 8))
         assert reader.script("const [at] = document.querySelectorAll('pre'); return at.scrollWidth <= at.clientWidth")
+
+def koala(data, x, y, colours=9000, ground=10000):
+    """The colour of a dot of a Koala picture, by its bytes behind the load address, as its makers describe them."""
+    cell = y // 8 * 40 + x // 8
+    bits = data[8 * cell + y % 8] >> 6 - x % 8 // 2 * 2 & 3
+    return [data[ground], data[8000 + cell] >> 4, data[8000 + cell], data[colours + cell]][bits] & 15
+
+def advanced(data, x, y):
+    return koala(data, x, y, 9016, 9001)
+
+def art(data, x, y, cells=8000, dots=0):
+    """The same of a picture of two colours to a cell."""
+    cell = y // 8 * 40 + x // 8
+    return data[cells + cell] >> (data[dots + 8 * cell + y % 8] >> 7 - x % 8 & 1) * 4 & 15
+
+def doodle(data, x, y):
+    return art(data, x, y, 0, 1024)
+
+def letters(data, x, y):
+    """The same of a set of signs: 32 in a row, each white on blue, with four black dots between them."""
+    (across, left), (down, top) = divmod(x - 4, 12), divmod(y - 4, 12)
+    if not (0 <= left < 8 and 0 <= top < 8 and 0 <= across < 32 and down >= 0):
+        return 0
+    return 1 if data[8 * (32 * down + across) + top] >> 7 - left & 1 else 6
+
+DRAWN = {"a Koala picture": (0x6000, 10001, koala), "an Advanced Art Studio picture": (0x2000, 10016, advanced),
+         "an Art Studio picture": (0x2000, 9009, art), "a Doodle picture": (0x5C00, 9216, doodle),
+         "a set of signs": (0x3800, 1024, letters)}
+DECODE = """return import("/pictures.js").then(({ pictureIn }) => {
+  const { words, make } = pictureIn(Uint8Array.from(arguments[0]));
+  const { width, inks } = make();
+  return [words, width, Array.from(inks, (ink) => ink.toString(16)).join("")];
+});"""
+SCREEN = """return import("/screen.js").then(({ textScreen }) =>
+  Array.from(textScreen(Uint8Array.from(arguments[0])).inks, (ink) => ink.toString(16)).join(""));"""
+
+@pytest.mark.parametrize("words", DRAWN)
+def test_picture_has_the_dots_that_a_second_decoder_finds(reader, words):
+    start, size, dot = DRAWN[words]
+    data = bytes((n * n // 7 + n // 11) % 256 for n in range(size))
+    said, width, inks = reader.script(DECODE, [*struct.pack("<H", start), *data])
+    due = "".join(f"{dot(data, n % width, n // width):x}" for n in range(len(inks)))
+    assert said == words and inks == due
+
+def test_screen_has_the_colours_and_places_of_its_text(reader):
+    """Two red blocks in the second row of a screen with a border of sixteen dots, and a yellow one below the second."""
+    inks = reader.script(SCREEN, list(b"\x93\r\x12\x1c  \x9d\x11\x9e \x92"))
+    dots = {(n % 352 - 16, n // 352 - 16): ink for n, ink in enumerate(inks)}
+    at = {ink: {place for place, other in dots.items() if other == ink} for ink in "27"}
+    assert at["2"] == {(x, y) for x in range(16) for y in range(8, 16)}
+    assert at["7"] == {(x, y) for x in range(8, 16) for y in range(16, 24)}
+    assert {ink for (x, y), ink in dots.items() if not (0 <= x < 320 and 0 <= y < 200)} == {"e"}
+
+def test_file_says_what_is_known_of_it_and_how_to_cite_it(reader):
+    reader.go("2001/0")
+    assert dict(zip(reader.texts("dt"), reader.texts("dd"))) == {
+        "Disk": "Disk 2001", "Place": "file 1 of 9 on its list, at slot 0 of the directory",
+        "Type": "PRG, program, of Commodore 1541", "Size": f"{len(BASIC)} bytes, 1 block",
+        "Load address": "$0801 (2049)", "SHA-256": digest(BASIC), "Open by": "rule 20 of deed 9 (R9.20)",
+    }
+    of = f"file “HELLO” (slot 0, PRG, {len(BASIC)} bytes, SHA-256 {digest(BASIC)})"
+    address = f"{reader.door.address}#/2001/0"
+    cited = f"The reading room: “Disk 2001”, {of}. {address} (read on 15 June 2026)."
+    for name, text in (("Copy link", address), ("Cite", cited)):
+        reader.push(name)
+        wait_for(text, lambda: reader.text(".copied").partition(": ")[2] == text)
+    reader.named("link", "LETTER →").click()
+    assert reader.read(lambda state: state["heading"] == "LETTER")["here"] == "#/2001/1"
+
+def test_disk_is_short_on_a_phone_and_its_screen_is_a_figure_of_the_table(museum, reader):
+    museums.put_files(museum, 2003, "d64", 9, [(f"FILE {n}", "PRG", b"\1\x08") for n in range(11)])
+    reader.load()
+    reader.go("2003")
+    shown = "const at = document.querySelector('figure canvas'); return [at.role, at.ariaDetailsElements[0].tagName]"
+    assert reader.script(shown) == ["img", "TABLE"]
+    assert reader.texts(".neighbours > *") == ["← Disk 2002", "6 of 6 disks", ""]
+    with reader.phone():
+        assert reader.script("return document.querySelector('table').offsetHeight") <= 1100
 
 def zip_says(reader, words):
     wait_for(f"{words!r} beside the button of the zip", lambda: words in "".join(reader.texts("[role=status]")))

@@ -1,11 +1,22 @@
-"""Titles and notes of disks, from the tables beside the pages: shown, and looked for, on both pages."""
+"""The museum's own tables beside the pages: titles and notes of disks on both pages, and whose room it is."""
 
 import pytest
+from support import museums
 from support.museums import HARMFUL
 
 PUBLIC = "\r\n".join(["\ufeffaccession,title,note", f"1002,{HARMFUL[2]},", "1004,A disk that is closed,hush",
-                     '1001,Letters of a ferryman,"Written on the river, 1983 to 1986"', "0,no disk,", ""])
+                     '1001,Letters of a Férryman,"Written on the river, 1983 to 1986"', "0,no disk,", ""])
 FOR_STAFF = "accession,title,note\n1001,Letters (the ferry company asks for care),see the file\n1005,=1+1,\n"
+ABOUT = """name,value
+museum,"Museum of the River, Lower Valley"
+welcome,Read what is on our disks.
+mail,room@museum.example
+phone,+49 89 555
+imprint,imprint.html
+privacy,javascript:alert(1)
+hours,one,two
+logo,x.png
+"""
 
 @pytest.fixture(autouse=True)
 def tables(tmp_path):
@@ -13,16 +24,20 @@ def tables(tmp_path):
     (tmp_path / "staff.titles.csv").write_text(FOR_STAFF)
 
 def test_titles_and_notes_for_readers_are_shown_and_found(reader):
-    rows = reader.read(lambda state: state["rows"])["rows"]
-    assert [row[1] for row in rows] == ["Letters of a ferryman", HARMFUL[2], ""]
+    shown = reader.read(lambda state: state["disks"])
+    assert shown["disks"] == [HARMFUL[2], "Letters of a Férryman", "Disk 1003"]
     assert reader.harmed() == [None, 0]
-    reader.go("1001")
-    texts = ["Letters of a ferryman", "Written on the river, 1983 to 1986", "CP/M, 8 inches. Deed 9."]
-    assert reader.texts("#view > p") == texts
-    wanted = {"FERRY": ["Disk 1001", "Letters of a ferryman", "CP/M, 8 inches", "9", "2"], "river": ["Disk 1001"],
-              "hush": [], "welcome": ["Disk 1001Letters of a ferryman"]}
-    for words, first in wanted.items():
-        assert (reader.find(words)["rows"] or [[]])[0][: len(first)] == first, words
+    shown = reader.go("1001")
+    assert shown["heading"] == "Letters of a Férryman"
+    assert shown["title"] == "Letters of a Férryman, disk 1001 – The reading room"
+    facts = "Disk 1001 · CP/M, 8 inches · 2 files for you to see"
+    assert reader.texts("#view > p") == [facts, "Written on the river, 1983 to 1986"]
+    ferry = ["Letters of a Férryman"]
+    wanted = {"FERRY": ferry, "letters river 1984": [], "1986 letters river": ferry, "hush": [], "welcome": ferry,
+              "1001": ferry, "ferryman welcome": ferry, "damaged": []}
+    for words, disks in wanted.items():
+        assert reader.find(words)["disks"] == disks, words
+    assert [reader.find("welcome river")["matches"], reader.texts("mark")] == [["WELCOME.TXT"], ["river", "WELCOME"]]
 
 def test_titles_for_the_staff_go_before_those_for_all(staff):
     mine = "1001Letters (the ferry company asks for care)"
@@ -39,5 +54,22 @@ def test_titles_for_the_staff_go_before_those_for_all(staff):
 def test_table_that_is_none_gives_no_titles(tmp_path, reader):
     for text in ("number,title\n1001,x\n", 'accession,title,note\n1001,"x\n'):
         (tmp_path / "titles.csv").write_text(text)
-        reader.load()
-        assert reader.read(lambda state: state["rows"])["rows"][0] == ["Disk 1001", "CP/M, 8 inches", "9", "2"]
+        assert reader.load()["disks"] == ["Disk 1001", "Disk 1002", "Disk 1003"]
+
+def test_room_is_the_museums_in_head_foot_title_and_refusals(museum, tmp_path, reader):
+    (tmp_path / "about.csv").write_text(ABOUT)
+    shown = reader.load()
+    assert shown["heading"] == "Read what is on our disks."
+    assert shown["title"] == "The reading room – Museum of the River, Lower Valley"
+    assert reader.texts(".brand > *") == ["Museum of the River, Lower Valley", "The reading room"]
+    links = "return Array.from(document.querySelectorAll(arguments[0]), (one) => decodeURIComponent(one.href))"
+    foot = reader.script(links, "#foot a")
+    assert foot == ["mailto:room@museum.example", f"{reader.door.address}imprint.html"]
+    assert reader.texts("#foot p")[0] == "Museum of the River, Lower Valley" and "one" not in reader.text("#foot")
+    museum.rules["T1001"] = {1: museums.rule(1, "deny", ["public"], {"slot": 0})}
+    for place, subject in (("1001", "Disk 1001"), ("1001/0", "Disk 1001, slot 0")):
+        reader.go(place)
+        [mail] = reader.script(links, "#view a[href^=mailto]")
+        assert mail.startswith(f"mailto:room@museum.example?subject={subject}: Letters of a Férryman&body=")
+        assert mail.endswith(f"#/{place}")
+    assert "or call +49 89 555" in reader.text("#view")

@@ -36,6 +36,7 @@ return {
   here: location.hash, caller: texts(document, "#caller")[0], refusal: texts(document, ".refused p"),
   result: texts(open, ".result p, .result dd, .result li"), hint: texts(open, ".hint")[0] ?? "",
   stands: texts(open, ".stands > p"), rows: rows(":is(.stands, #view) tbody tr:not(.space)"),
+  disks: texts(open, ".disk-title"), matches: texts(open, ".matches a"), chips: texts(open, ".chip"),
   list: rows(".list tbody tr"), links: Array.from(open.querySelectorAll("tbody a"), (one) => one.getAttribute("href")),
   sure: sure?.open ? texts(sure, "h2, #sure-more p, #sure-more h3, #sure-more li") : null,
 };
@@ -193,13 +194,14 @@ class ReadersPage(Page):
     """The page for readers."""
 
     def find(self, words):
-        return self.go(f"find/{urllib.parse.quote(words, safe='')}")
+        return self.go(f"?q={urllib.parse.quote_plus(words)}")
 
     def give(self, key):
         """Gives a key, where it is one."""
         if key is None:
             return self.read()
-        self.type("Desk key", key)
+        self.one("#caller").click()
+        self.type("Your key, from the museum's staff", key)
         return self.push("Use it")
 
 

@@ -24,11 +24,11 @@ def measured(driver, disks):
         door.before = lambda method, path: lists.get(path)
         for _ in range(TIMES):
             page = ReadersPage(driver, door)
-            page.read(lambda state: state["rows"] and f" {disks - disks // 100:,} disks." in state["status"])
+            page.read(lambda state: state["disks"] and f"{disks - disks // 100:,} disks with " in state["status"])
             ready.append(page.script("return performance.now()"))
             page.script(WATCH)
             page.find("letter 1")
-            page.read(lambda state: state["rows"])
+            page.read(lambda state: state["matches"])
             works.append(page.script("return window.longest"))
         page.cdp("HeapProfiler.collectGarbage")
         page.cdp("Performance.enable")

@@ -1,0 +1,54 @@
+// Whose room it is: the museum's own table beside the pages, `name,value`, in the head, the foot and the mails.
+import { recordsOf } from "./csv.js";
+import { box, element, part } from "./shared.js";
+import { textOfOwn } from "./titles.js";
+
+const NAMES = ["museum", "room", "welcome", "mail", "phone", "address", "hours", "imprint", "privacy"];
+const LONGEST = 500;
+const MAIL = /^[^\s@?&]+@[^\s@?&]+$/;
+
+const about = {};
+
+export const room = () => about.room ?? "The reading room";
+export const house = () => about.museum ?? room();
+export const welcome = () => about.welcome ?? "Read what is on the old floppy disks of the museum.";
+
+// A page of the web or of this site; nothing else becomes a link.
+function pageOf(address) {
+  if (!URL.canParse(address, location.href)) return null;
+  const { protocol, href } = new URL(address, location.href);
+  return ["http:", "https:"].includes(protocol) ? href : null;
+}
+
+// A link that begins a mail to the staff about a disk or a file; where the museum gives no address, words.
+export function askStaff(words, of) {
+  const phone = about.phone ? ` or call ${about.phone}` : "";
+  if (about.mail === undefined) return element("span", `To ask about it, turn to the museum's staff${phone}.`);
+  const [subject, body] = [of, `\n\n${location.href}`].map(encodeURIComponent);
+  const link = element("a", words, { href: `mailto:${about.mail}?subject=${subject}&body=${body}` });
+  return box("span", "", link, phone);
+}
+
+// Rows that are no name and value, values that are too long, and links to anything but pages are left out.
+function take([name, value, ...more]) {
+  const isWanted = NAMES.includes(name) && value && value.length <= LONGEST && more.length === 0;
+  const isLink = ["imprint", "privacy"].includes(name);
+  const kept = isLink ? isWanted && pageOf(value) : value;
+  if (isWanted && kept && (name !== "mail" || MAIL.test(value))) about[name] = kept;
+}
+
+function foot() {
+  const mail = about.mail && element("a", about.mail, { href: `mailto:${about.mail}` });
+  const lines = [about.museum, about.address, about.hours].map((text) => text && element("p", text));
+  const pages = [["Imprint", about.imprint], ["Privacy", about.privacy]].filter(([, href]) => href);
+  const links = pages.map(([words, href]) => element("a", words, { href }));
+  const rows = [[mail, about.phone].filter(Boolean), links].filter((row) => row.length);
+  return [...lines.filter(Boolean), ...rows.map((row) => box("p", "cluster", ...row))];
+}
+
+export async function readAbout() {
+  (recordsOf(await textOfOwn("about.csv")) ?? []).forEach(take);
+  part("museum").textContent = about.museum ?? "";
+  part("room").textContent = room();
+  part("foot").prepend(...foot());
+}

@@ -1,0 +1,79 @@
+// One disk: its title, what may be read of it, and its directory as its own machine shows it.
+import { askStaff } from "./about.js";
+import { allDisks, familyOf, nameOfDisk, nameOfFile, typeWords } from "./room.lists.js";
+import { button, citation, filesOf, link, neighbours, numberOf, permission, quoting, rulesOf } from "./room.parts.js";
+import { directoryScreen, mayRead } from "./screen.js";
+import { askObject, box, cell, counted, element, kindWords, loaded, refusal, row, table } from "./shared.js";
+import { noteOf } from "./titles.js";
+
+function fileRow(kind, accession, file, hasUsers) {
+  const name = nameOfFile(kind, file);
+  const { word, colour, why } = permission(file);
+  const shown = mayRead(file) ? link(name, `${accession}/${file.slot}`) : element("span", name);
+  const may = box("span", "", element("span", word, { className: `badge ${colour}` }));
+  if (why) may.append(element("small", why));
+  const type = box("span", "", file.type, element("small", typeWords(kind, file)));
+  return row([
+    cell("Name", shown, "name"),
+    cell("Type", type, "type"),
+    cell("Bytes", file.size === null ? "" : file.size.toLocaleString("en"), "number"),
+    ...(hasUsers ? [cell("User", `user ${file.user}`)] : []),
+    cell("You may", may, "may"),
+  ]);
+}
+
+// A button that makes the zip, with how far it is and a button that stops it.
+function zipWay({ accession, kind, files, quotes }) {
+  const readable = files.filter(mayRead);
+  const stop = element("button", "Stop", { id: "stop-zip", type: "button", hidden: true });
+  const says = element("div", null, { id: "zip-says", role: "status" });
+  const save = async () => {
+    const module = await loaded(import("./room.zip.js")).catch((fault) => says.replaceChildren(refusal(fault)));
+    module?.saveZip({ accession, kind, readable, start, stop, says });
+  };
+  const words = `Download ${counted(readable.length, "file")} as a zip`;
+  const start = button(words, save, { id: "zip", className: "primary" });
+  return [box("div", "cluster", ...(readable.length ? [start, stop] : []), ...quotes.buttons), says, quotes.says];
+}
+
+// The directory on the screen of the machine: a picture, of which the table is the text.
+function machine(disk) {
+  const isCpm = disk.kind === "cpm8";
+  const screen = directoryScreen(disk);
+  const words = `The directory as ${isCpm ? "CP/M shows it on a terminal" : "a C64 lists it"}`;
+  Object.assign(screen, { role: "img", ariaLabel: `${words}: the same files as in the table` });
+  screen.setAttribute("aria-details", "files");
+  const dim = disk.files.every(mayRead) ? "" : " What you may not read is dim.";
+  const caption = element("figcaption", `${words}, with the files of the table.${dim}`);
+  const figure = box("figure", "", box("div", `monitor ${familyOf(disk.kind)}`, screen), caption);
+  return Object.assign(figure, { ariaLabel: words });
+}
+
+async function otherDisks(accession) {
+  const disks = await allDisks().catch(() => []);
+  const at = disks.findIndex((disk) => disk.accession === accession);
+  const wayTo = (disk) => ({ words: nameOfDisk(disk.accession), place: disk.accession });
+  return at < 0 ? null : neighbours("disk", disks, at, wayTo);
+}
+
+export async function showDisk(number) {
+  const accession = Number(number);
+  const listing = await askObject(`/images/${accession}`);
+  const [{ kind, deed }, files] = [listing, filesOf(listing)];
+  const title = nameOfDisk(accession);
+  const facts = `Disk ${accession} \u00b7 ${kindWords(kind)} \u00b7 ${counted(files.length, "file")} for you to see`;
+  const hasUsers = files.some((file) => file.user);
+  const columns = ["Name", "Type", "Bytes", ...(hasUsers ? ["User"] : []), "You may"];
+  const list = table("Files", columns, files.map((file) => fileRow(kind, accession, file, hasUsers)));
+  Object.assign(list, { id: "files", className: "files" });
+  const none = element("p", "There is no file on it that you may see.", { className: "callout" });
+  const words = `${rulesOf(files)}Deed ${deed} is the paper by which the disk came to the museum. `;
+  const why = box("p", "quiet", words, askStaff("Ask the staff about this disk", `Disk ${accession}: ${title}`));
+  const quotes = quoting(() => citation(accession));
+  const text = box("div", "", ...zipWay({ accession, kind, files, quotes }), files.length ? list : none, why);
+  const aside = files.length ? machine({ kind, accession, files }) : "";
+  const head = [element("p", facts, { className: "quiet" })];
+  if (noteOf(accession)) head.push(element("p", noteOf(accession), { className: "note" }));
+  const parts = [...head, box("div", "split", text, aside), await otherDisks(accession)].filter(Boolean);
+  return { heading: title, title: `${title}${numberOf(accession)}`, parts };
+}

@@ -1,0 +1,198 @@
+// The home of the page for readers: one search over titles, files and numbers, facets with their counts, an order, and
+// the disks as a list or as the screens of their machines. All that is chosen stands in the address.
+import { welcome } from "./about.js";
+import { allDisks, allFiles, familyOf, found, kept, known, nameOfDisk, nameOfFile } from "./room.lists.js";
+import { plain, wordsOf } from "./room.lists.js";
+import { filesOf, link, ways } from "./room.parts.js";
+import { directoryScreen } from "./screen.js";
+import { askObject, box, counted, element, keyInUse, kindWords } from "./shared.js";
+import { noteOf } from "./titles.js";
+
+const PAGE = 48;
+const MOST_MATCHES = 5;
+const MOST_TYPES = 9;
+// Up to so many disks the list of all files is read at once, and else when somebody looks for something.
+const SMALL = 500;
+// How long the page waits for the next letter, in milliseconds.
+const PAUSE = 250;
+const HAS_ROOM = matchMedia("(min-width: 60rem)");
+const SORTS = { title: "Title", number: "Number", files: "Most files" };
+const LOOKS = { list: "List", screens: "Screens" };
+const KINDS = { "": "All", d64: kindWords("d64"), cpm8: kindWords("cpm8") };
+const TYPES = { picture: "Pictures", PRG: "Programs", SEQ: "Texts and data", TXT: "Texts", COM: "Commands" };
+const USUAL = { sort: "title", as: "list", page: "1" };
+
+export const choicesIn = (query) => Object.fromEntries(new URLSearchParams(query));
+
+function placeOf(choices) {
+  const said = Object.entries(choices).filter(([name, value]) => value && value !== USUAL[name]);
+  return said.length ? `?${new URLSearchParams(said)}` : "";
+}
+
+// A text in which the words that were looked for are marked.
+function marked(text, words) {
+  const made = box("span", "");
+  const low = plain(text);
+  const pieces = words.flat().filter((piece) => low.length === text.length && low.includes(piece));
+  for (let at = 0; at < text.length; ) {
+    const next = pieces.map((piece) => [low.indexOf(piece, at), piece.length]).filter(([place]) => place >= 0);
+    const [place, length] = next.sort(([one], [other]) => one - other)[0] ?? [text.length, 0];
+    made.append(text.slice(at, place), length ? element("mark", text.slice(place, place + length)) : "");
+    at = place + length;
+  }
+  return made;
+}
+
+// Choices of one name side by side, each a link, and how many disks or files each has.
+function chips(label, name, words, choices, counts = null) {
+  const made = ways(label, "chips", element("span", label, { className: "quiet" }));
+  for (const [value, text] of Object.entries(words)) {
+    const chip = link(text, placeOf({ ...choices, page: "", [name]: value }), { className: "chip" });
+    if (counts) chip.append(element("small", ` ${(counts.get(value) ?? 0).toLocaleString("en")}`));
+    if ((choices[name] ?? USUAL[name] ?? "") === value) chip.ariaCurrent = "true";
+    made.append(chip);
+  }
+  return made;
+}
+
+// The kinds of disks, the order, and the types of files of which there are most.
+function bar({ kinds, types, all }, choices) {
+  const sum = [...kinds.values()].reduce((before, one) => before + one, 0);
+  const most = [...types].sort(([, one], [, other]) => other - one).slice(0, MOST_TYPES).map(([type]) => type);
+  const shown = most.includes(choices.type) || !choices.type ? most : [...most, choices.type];
+  const typeWords = Object.fromEntries(shown.map((type) => [type, TYPES[type] ?? type]));
+  const looks = box("div", "looks", chips("Sort by", "sort", SORTS, choices), chips("Show as", "as", LOOKS, choices));
+  const made = box("div", "bar", chips("Disks", "kind", KINDS, choices, kinds.set("", sum)), looks);
+  if (shown.length) made.append(chips("Files", "type", { "": "All", ...typeWords }, choices, types.set("", all)));
+  return made;
+}
+
+function diskCard({ disk, matches }, files, { as }, words) {
+  const { accession, kind } = disk;
+  const title = link("", accession, { className: "disk-title" });
+  title.append(marked(nameOfDisk(accession), words));
+  const facts = `Disk ${accession} \u00b7 ${kindWords(kind)} \u00b7 ${counted(disk.files, "file")}`;
+  const note = noteOf(accession) ? box("p", "", marked(noteOf(accession), words)) : null;
+  const named = matches.slice(0, MOST_MATCHES).map((file) => {
+    const way = link("", `${accession}/${file.slot}`, { className: "name" });
+    way.append(marked(nameOfFile(kind, file), words));
+    return box("li", "", way, element("small", ` ${file.type}`));
+  });
+  const more = matches.length - MOST_MATCHES;
+  if (more > 0) named.push(element("li", `and ${counted(more, "more file")}`));
+  const body = box("div", "", title, element("p", facts, { className: "quiet" }), note);
+  if (named.length) body.append(box("ul", "matches", ...named));
+  const isDrawn = as === "screens" && files;
+  const sleeve = box("span", `sleeve hue-${accession % 5}`);
+  const front = isDrawn ? directoryScreen({ ...disk, files: files.get(accession) ?? [] }, true) : sleeve;
+  front.ariaHidden = "true";
+  return box("li", `disk ${familyOf(kind)}`, front, body);
+}
+
+function pages(hits, choices) {
+  const last = Math.max(1, Math.ceil(hits.length / PAGE));
+  const now = Math.min(last, Math.max(1, Math.trunc(Number(choices.page)) || 1));
+  const way = (page, words) => link(words, placeOf({ ...choices, page: String(page) }), { className: "button" });
+  const back = now > 1 ? way(now - 1, "Previous page") : null;
+  const where = element("span", `Page ${now} of ${last.toLocaleString("en")}`);
+  const made = ways("Pages", "cluster pages", back, where, now < last ? way(now + 1, "Next page") : null);
+  return { shown: hits.slice((now - 1) * PAGE, now * PAGE), nav: last > 1 ? made : null };
+}
+
+// Where titles begin with each letter, in a list of many pages.
+function letters(hits, choices) {
+  const first = new Map();
+  hits.forEach(({ key }, at) => {
+    const letter = /^[a-z]/.exec(key)?.[0].toUpperCase();
+    if (letter && !first.has(letter)) first.set(letter, String(Math.floor(at / PAGE) + 1));
+  });
+  const links = [...first].map(([letter, page]) => link(letter, placeOf({ ...choices, page })));
+  const isLong = (choices.sort ?? "title") === "title" && hits.length > 3 * PAGE && links.length > 1;
+  return isLong ? ways("By the first letter", "letters", ...links) : null;
+}
+
+function summary(hits, counts, { q, type, kind }, isRead) {
+  const disks = counted(hits.length, "disk");
+  const files = counted(counts.files, "file");
+  const whom = keyInUse() === "" ? "everybody" : "you";
+  if (!q && !type) return `${disks} ${kind ? "of this kind " : ""}with ${files}, open to ${whom}.`;
+  if (!isRead) return "Reading the list of all files.";
+  if (!hits.length) return "Nothing that you may see has these words. Try fewer, or another type of file.";
+  return `Found: ${disks} and ${files}.`;
+}
+
+// The box to search in: what is typed there changes the address.
+function searchBox(q) {
+  const field = element("input", null, { id: "q", type: "search", value: q ?? "", maxLength: 64, spellcheck: false });
+  Object.assign(field, { autocapitalize: "none", autocomplete: "off", placeholder: "letter 1984, *.PRG" });
+  const label = element("label", "Search titles, files and numbers", { htmlFor: "q" });
+  const button = element("button", "Search", { type: "submit", className: "primary" });
+  const form = box("form", "search", label, field, button);
+  form.role = "search";
+  let waiting = 0;
+  const go = () => {
+    clearTimeout(waiting);
+    const { page, ...now } = choicesIn(location.hash.split("?")[1]);
+    const wanted = `#/${placeOf({ ...now, q: field.value.trim() })}`;
+    if (wanted !== (location.hash || "#/")) location.replace(wanted);
+  };
+  field.addEventListener("input", () => {
+    clearTimeout(waiting);
+    waiting = setTimeout(go, PAUSE);
+  });
+  form.addEventListener("submit", (event) => {
+    event.preventDefault();
+    go();
+  });
+  return form;
+}
+
+// A disk for each day, on the screen of its machine; none where the window has no room for it.
+async function showDay(disks, place) {
+  const some = disks.filter(({ files }) => files > 3);
+  if (some.length === 0 || !HAS_ROOM.matches) return;
+  const { accession } = some[Math.floor(Date.now() / 86400000) % some.length];
+  const listing = await kept("today", () => askObject(`/images/${accession}`));
+  const screen = directoryScreen({ ...listing, files: filesOf(listing) }, true, 4);
+  screen.ariaHidden = "true";
+  const caption = box("figcaption", "", "On the screen today: ", link(nameOfDisk(accession), accession));
+  const figure = box("figure", "", box("div", `monitor ${familyOf(listing.kind)}`, screen), caption);
+  place.append(Object.assign(figure, { ariaLabel: "On the screen today" }));
+}
+
+// The view of the home. It stays where only the choices change: `change` draws what they say.
+export async function showHome(choices, progress) {
+  const disks = await allDisks();
+  const items = known(disks);
+  const [form, day, results] = [searchBox(choices.q), box("div", "today"), box("div", "")];
+  results.id = "results";
+  let [files, drawn] = [null, 0];
+  async function draw(now, mine) {
+    const { hits, counts } = await found(items, files, now);
+    if (mine !== drawn) return;
+    const words = wordsOf(now.q);
+    const { shown, nav } = pages(hits, now);
+    const cards = shown.map((hit) => diskCard(hit, files, now, words));
+    const list = cards.length ? box("ul", `disks as-${now.as === "screens" ? "screens" : "list"}`, ...cards) : "";
+    const title = element("h2", now.q || now.type || now.kind ? "What was found" : "All disks");
+    const chance = hits[Math.floor(Math.random() * hits.length)];
+    const head = box("div", "head", title, chance ? link("Open one by chance", chance.disk.accession) : null);
+    results.replaceChildren(...[head, bar(counts, now), letters(hits, now), list, nav].filter(Boolean));
+    progress(summary(hits, counts, now, files));
+  }
+  async function change(now) {
+    const mine = (drawn += 1);
+    if (form.elements.q !== document.activeElement) form.elements.q.value = now.q ?? "";
+    const needsFiles = disks.length <= SMALL || now.q || now.type || now.as === "screens";
+    if (!files && needsFiles) {
+      await draw(now, mine);
+      files = await allFiles((words) => mine === drawn && progress(words));
+    }
+    await draw(now, mine);
+  }
+  const none = "There is no disk of which you may see a file.";
+  const parts = disks.length ? [form, day, results] : [element("p", none)];
+  const isFirst = disks.length ? change(choices) : null;
+  isFirst?.then(() => showDay(disks, day)).catch(() => day.remove());
+  return { heading: welcome(), parts, change, ready: isFirst };
+}

@@ -1,0 +1,162 @@
+// What the desk lists for the key in use, the disks and the files of each, and what is found in these lists.
+import { shownName } from "./names.js";
+import { SIZES } from "./pictures.js";
+import { askObject, counted, forgetWithKey, kindWords, listOf } from "./shared.js";
+import { inParts, keeper, readTable } from "./stream.js";
+import { noteOf, titleOf } from "./titles.js";
+
+// How often the page says how far it is, and for how long it keeps a list, in milliseconds.
+const PACE = 500;
+const KEPT = 300000;
+// What the types of files mean, in plain words.
+const TYPES = {
+  PRG: "program", SEQ: "text or data", USR: "user file", REL: "records", DEL: "dividing line", OTHER: "unknown",
+  ASM: "assembler source", BAS: "BASIC", COM: "command", DAT: "data", DOC: "text", FOR: "Fortran", HEX: "hex file",
+  LIB: "library", MAC: "assembler source", OVR: "overlay", PAS: "Pascal", PRN: "printout", SUB: "batch", TXT: "text",
+};
+
+let lists = {};
+
+forgetWithKey(() => {
+  lists = {};
+});
+
+// What was read, or the promise of it, unless it is too old or did not come.
+export function kept(name, read) {
+  if (!lists[name] || performance.now() - lists[name].at > KEPT) {
+    const made = { at: performance.now(), list: read() };
+    lists[name] = made;
+    made.list.catch(() => {
+      if (lists[name] === made) delete lists[name];
+    });
+  }
+  return lists[name].list;
+}
+
+export const nameOfDisk = (accession) => titleOf(accession) || `Disk ${accession}`;
+export const nameOfFile = (kind, file) => shownName(kind, file.name) || `File at slot ${file.slot}`;
+
+export const isPicture = (kind, { type, size }) => kind !== "cpm8" && type === "PRG" && SIZES.has(size);
+export const typeWords = (kind, file) => (isPicture(kind, file) ? "likely a picture" : (TYPES[file.type] ?? ""));
+
+export const allDisks = () => kept("disks", async () => listOf((await askObject("/images")).images));
+
+// Small letters without accents, which are alike where somebody looks for something.
+export const plain = (text) =>
+  /^[ -~\n]*$/.test(text) ? text.toLowerCase() : text.toLowerCase().normalize("NFD").replace(/\p{M}/gu, "");
+
+// What a file is found by: its name as it was shown and as it is printed, its type, and what it is.
+function fileText(kind, file) {
+  const shown = shownName(kind, file.name);
+  const end = kind === "cpm8" ? "" : `.${file.type}`;
+  const printed = shown === file.name ? "" : `\n${file.name}`;
+  return plain(`${shown}${end}${printed}\n${typeWords(kind, file)}`);
+}
+
+// All files, by their disks. Of a text only one copy is kept.
+async function readFiles(progress) {
+  const [disks, once] = [new Map(), keeper()];
+  const number = (text) => (text === "" ? null : Number(text));
+  let spoken = performance.now();
+  await readTable("/catalogue", {
+    take: ([accession, , kind, slot, user, name, type, size, faults, , effect]) => {
+      const file = { slot: Number(slot), user: number(user), name: once(name), type: once(type), size: number(size) };
+      Object.assign(file, { faults: faults ? faults.split(" ") : null, effect: once(effect) });
+      file.text = once(fileText(kind, file));
+      const disk = Number(accession);
+      if (disks.has(disk)) disks.get(disk).push(file);
+      else disks.set(disk, [file]);
+    },
+    progress: (count) => {
+      if (performance.now() - spoken < PACE) return;
+      spoken = performance.now();
+      progress(`Reading the list of all files: ${counted(count, "file")}.`);
+    },
+  });
+  return disks;
+}
+
+export const allFiles = (progress) => kept("files", () => readFiles(progress));
+
+// Words to look for, each as its pieces between stars.
+export const wordsOf = (text = "") => plain(text).split(/\s+/).map((word) => word.split("*").filter(Boolean))
+  .filter((pieces) => pieces.length);
+
+// Whether a text has the pieces of a word one after the other.
+function has(text, pieces) {
+  let at = 0;
+  return pieces.every((piece) => {
+    const found = text.indexOf(piece, at);
+    at = found + piece.length;
+    return found >= 0;
+  });
+}
+
+// Whether a disk's text has a word; a number counts only as a whole, so that 1 does not find each 1541.
+function inDisk(text, pieces) {
+  const [number] = pieces;
+  return /^\d+$/.test(number) ? new RegExp(`(?<!\\d)${number}(?!\\d)`).test(text) : has(text, pieces);
+}
+
+// The disks, each with the key by which titles are in order: articles and accents do not count, and numbers count as
+// such. Those without a title come last.
+export function known(disks) {
+  const keyOf = (title) =>
+    plain(title).replace(/^(the|an?) /, "").replace(/\d+/g, (digits) => digits.padStart(6, "0")) || "\uffff";
+  return disks.map((disk) => ({ disk, key: keyOf(titleOf(disk.accession)), text: "" }));
+}
+
+// What a disk is found by, which is kept from the first search on.
+function diskText(item) {
+  const { accession, kind } = item.disk;
+  item.text ||= plain(`disk ${accession}\n${titleOf(accession)}\n${noteOf(accession)}\n${kindWords(kind)}`);
+  return item.text;
+}
+
+const byNumber = (one, other) => one.disk.accession - other.disk.accession;
+const ORDERS = {
+  title: (one, other) => (one.key < other.key ? -1 : one.key > other.key ? 1 : byNumber(one, other)),
+  number: byNumber,
+  files: (one, other) => other.disk.files - one.disk.files || byNumber(one, other),
+};
+
+export const familyOf = (kind) => (kind === "cpm8" ? "cpm8" : "d64");
+
+function isOf(kind, file, type) {
+  return file.type === type || (type === "picture" && isPicture(kind, file));
+}
+
+function count(counts, name) {
+  counts.set(name, (counts.get(name) ?? 0) + 1);
+}
+
+// The disks that have all words, and the files that have those that their disk lacks, and one at least. The counts are
+// those of the other kinds and types with the same words.
+export async function found(items, files, { q, type, kind, sort }) {
+  const words = wordsOf(q);
+  const counts = { kinds: new Map(), types: new Map(), all: 0, files: 0 };
+  const hits = [];
+  const look = (item) => {
+    const { disk, key } = item;
+    const missing = words.filter((pieces) => !inDisk(diskText(item), pieces));
+    const [needed, isOne] = missing.length ? [missing, null] : [[], words.length ? words : null];
+    const isNamed = (file) =>
+      needed.every((pieces) => has(file.text, pieces)) && (!isOne || isOne.some((pieces) => has(file.text, pieces)));
+    const all = files?.get(disk.accession) ?? [];
+    const named = words.length ? all.filter(isNamed) : all;
+    const isOfKind = !kind || familyOf(disk.kind) === kind;
+    if (isOfKind) counts.all += named.length;
+    for (const file of isOfKind ? named : []) {
+      count(counts.types, file.type);
+      if (isPicture(disk.kind, file)) count(counts.types, "picture");
+    }
+    const wanted = type ? named.filter((file) => isOf(disk.kind, file, type)) : named;
+    if (type || missing.length ? wanted.length === 0 : false) return;
+    count(counts.kinds, familyOf(disk.kind));
+    if (!isOfKind) return;
+    counts.files += words.length || type ? wanted.length : disk.files;
+    hits.push({ disk, key, matches: words.length || type ? wanted : [] });
+  };
+  await inParts(items, (some) => some.forEach(look));
+  return { hits: hits.sort(ORDERS[sort] ?? ORDERS.title), counts };
+}
