@@ -121,6 +121,7 @@ ALARM = [
 CHANGED = [
     ("sed -i 's|^ZONE=.*|ZONE=CET-1CEST,M3.5.0,M10.5.0/3|' /etc/desk/places; systemctl restart desk; echo $?", "0"),
     (f"umask 022; echo imprint >/etc/desk/web/imprint.html; {VISIT}/imprint.html", "imprint"),
+    (f"umask 022; echo name,value >/etc/desk/web/about.csv; {VISIT}/about.csv", "name,value"),
     ("sed -i 's/rate=20r/rate=25r/' /etc/nginx/conf.d/desk.conf; systemctl reload nginx; echo $?", "0"),
 ]
 REMOVED = [
@@ -154,6 +155,7 @@ BEFORE = [
 ]
 STANDS = [
     TAKEDOWN, (f"{VISIT}/images/13/files/0", '{"error":"denied","rule":"R7.10"}'), (f"{VISIT}/imprint.html", "imprint"),
+    (f"{VISIT}/about.csv", "name,value"),
     (f"grep -c rate=25r /etc/nginx/conf.d/desk.conf; grep -c {SITE} /etc/desk/site-name", "1\n1"),
 ]
 
