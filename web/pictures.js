@@ -1,6 +1,12 @@
 // Pictures as programs of the C64 keep them, told by load address and length: Koala, Doodle, Art Studio, plain bitmaps;
-// and sets of signs.
-import { picture } from "./screen.js";
+// and sets of signs. A picture is its width, its height and the ink of each dot, a number from 0 on.
+export function picture(width, height, ground = 0) {
+  const inks = new Uint8Array(width * height).fill(ground);
+  const fill = (left, top, wide, high, ink) => {
+    for (let y = top; y < top + high; y += 1) inks.fill(ink, y * width + left, y * width + left + wide);
+  };
+  return { width, height, inks, fill };
+}
 
 // Where each part begins behind the load address: the bits of the dots, the colours of each cell, and the ground's.
 const FORMATS = [

@@ -1,8 +1,8 @@
 // One disk: its title, what may be read of it, and its directory as its own machine shows it.
 import { askStaff } from "./about.js";
-import { allDisks, familyOf, nameOfDisk, nameOfFile, typeWords } from "./room.lists.js";
+import { allDisks, familyOf, mayRead, nameOfDisk, nameOfFile, typeWords } from "./room.lists.js";
 import { button, citation, filesOf, link, neighbours, numberOf, permission, quoting, rulesOf } from "./room.parts.js";
-import { directoryScreen, mayRead } from "./screen.js";
+import { directoryScreen } from "./screen.js";
 import { askObject, box, cell, counted, element, kindWords, loaded, refusal, row, table } from "./shared.js";
 import { noteOf } from "./titles.js";
 

@@ -2,10 +2,10 @@
 import { askStaff } from "./about.js";
 import { BASIC_WORDS, basicListing } from "./basic.js";
 import { pictureIn } from "./pictures.js";
-import { nameOfDisk, nameOfFile, typeWords } from "./room.lists.js";
+import { mayRead, nameOfDisk, nameOfFile, typeWords } from "./room.lists.js";
 import { button, citation, filesOf, link, neighbours, numberOf, quoting } from "./room.parts.js";
 import { fileName } from "./safe.js";
-import { blocksOf, canvasOf, mayRead, textScreen } from "./screen.js";
+import { blocksOf, canvasOf, textScreen } from "./screen.js";
 import { Refused, ask, askObject, box, counted, digestOf, element, kindWords, meaning, part } from "./shared.js";
 import { cbmText, cpmText, hexText, isInSmall, petsciiText, wordStarText } from "./texts.js";
 

@@ -4,8 +4,7 @@ import { welcome } from "./about.js";
 import { allDisks, allFiles, familyOf, found, kept, known, nameOfDisk, nameOfFile } from "./room.lists.js";
 import { plain, wordsOf } from "./room.lists.js";
 import { filesOf, link, ways } from "./room.parts.js";
-import { directoryScreen } from "./screen.js";
-import { askObject, box, counted, element, keyInUse, kindWords } from "./shared.js";
+import { askObject, box, counted, element, keyInUse, kindWords, loaded } from "./shared.js";
 import { noteOf } from "./titles.js";
 
 const PAGE = 48;
@@ -21,6 +20,9 @@ const LOOKS = { list: "List", screens: "Screens" };
 const KINDS = { "": "All", d64: kindWords("d64"), cpm8: kindWords("cpm8") };
 const TYPES = { picture: "Pictures", PRG: "Programs", SEQ: "Texts and data", TXT: "Texts", COM: "Commands" };
 const USUAL = { sort: "title", as: "list", page: "1" };
+
+// What draws screens, which the first list does without.
+const machines = () => loaded(import("./screen.js"));
 
 export const choicesIn = (query) => Object.fromEntries(new URLSearchParams(query));
 
@@ -67,7 +69,7 @@ function bar({ kinds, types, all }, choices) {
   return made;
 }
 
-function diskCard({ disk, matches }, files, { as }, words) {
+function diskCard({ disk, matches }, files, machine, words) {
   const { accession, kind } = disk;
   const title = link("", accession, { className: "disk-title" });
   title.append(marked(nameOfDisk(accession), words));
@@ -82,9 +84,8 @@ function diskCard({ disk, matches }, files, { as }, words) {
   if (more > 0) named.push(element("li", `and ${counted(more, "more file")}`));
   const body = box("div", "", title, element("p", facts, { className: "quiet" }), note);
   if (named.length) body.append(box("ul", "matches", ...named));
-  const isDrawn = as === "screens" && files;
   const sleeve = box("span", `sleeve hue-${accession % 5}`);
-  const front = isDrawn ? directoryScreen({ ...disk, files: files.get(accession) ?? [] }, true) : sleeve;
+  const front = machine?.directoryScreen({ ...disk, files: files.get(accession) ?? [] }, true) ?? sleeve;
   front.ariaHidden = "true";
   return box("li", `disk ${familyOf(kind)}`, front, body);
 }
@@ -102,11 +103,10 @@ function pages(hits, choices) {
 // Where titles begin with each letter, in a list of many pages.
 function letters(hits, choices) {
   const first = new Map();
-  hits.forEach(({ key }, at) => {
-    const letter = /^[a-z]/.exec(key)?.[0].toUpperCase();
-    if (letter && !first.has(letter)) first.set(letter, String(Math.floor(at / PAGE) + 1));
+  hits.forEach(({ letter }, at) => {
+    if (!first.has(letter) && /[a-z]/.test(letter)) first.set(letter, String(Math.floor(at / PAGE) + 1));
   });
-  const links = [...first].map(([letter, page]) => link(letter, placeOf({ ...choices, page })));
+  const links = [...first].map(([letter, page]) => link(letter.toUpperCase(), placeOf({ ...choices, page })));
   const isLong = (choices.sort ?? "title") === "title" && hits.length > 3 * PAGE && links.length > 1;
   return isLong ? ways("By the first letter", "letters", ...links) : null;
 }
@@ -153,7 +153,8 @@ async function showDay(disks, place) {
   if (some.length === 0 || !HAS_ROOM.matches) return;
   const { accession } = some[Math.floor(Date.now() / 86400000) % some.length];
   const listing = await kept("today", () => askObject(`/images/${accession}`));
-  const screen = directoryScreen({ ...listing, files: filesOf(listing) }, true, 4);
+  const { directoryScreen } = await machines();
+  const screen = directoryScreen({ ...listing, files: filesOf(listing) }, true, 3);
   screen.ariaHidden = "true";
   const caption = box("figcaption", "", "On the screen today: ", link(nameOfDisk(accession), accession));
   const figure = box("figure", "", box("div", `monitor ${familyOf(listing.kind)}`, screen), caption);
@@ -169,10 +170,11 @@ export async function showHome(choices, progress) {
   let [files, drawn] = [null, 0];
   async function draw(now, mine) {
     const { hits, counts } = await found(items, files, now);
+    const machine = files && now.as === "screens" ? await machines() : null;
     if (mine !== drawn) return;
     const words = wordsOf(now.q);
     const { shown, nav } = pages(hits, now);
-    const cards = shown.map((hit) => diskCard(hit, files, now, words));
+    const cards = shown.map((hit) => diskCard(hit, files, machine, words));
     const list = cards.length ? box("ul", `disks as-${now.as === "screens" ? "screens" : "list"}`, ...cards) : "";
     const title = element("h2", now.q || now.type || now.kind ? "What was found" : "All disks");
     const chance = hits[Math.floor(Math.random() * hits.length)];

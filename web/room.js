@@ -1,6 +1,5 @@
 // The page for readers: one view at a time, by the address. It sends the desk GET and nothing else.
 import { askStaff, house, readAbout, room } from "./about.js";
-import { showDisk } from "./room.disk.js";
 import { choicesIn, showHome } from "./room.home.js";
 import { allDisks, nameOfDisk } from "./room.lists.js";
 import { button, link } from "./room.parts.js";
@@ -37,7 +36,7 @@ function showPlaces({ path, accession, slot }) {
 // What not every reader needs is loaded when it is asked for.
 async function asked({ path, query, accession, slot }, progress) {
   if (slot !== undefined) return (await loaded(import("./room.file.js"))).showFile(accession, slot);
-  if (accession !== undefined) return showDisk(accession);
+  if (accession !== undefined) return (await loaded(import("./room.disk.js"))).showDisk(accession);
   if (path !== "") throw new Refused(404, { error: "no-route" });
   return showHome(choicesIn(query), progress);
 }

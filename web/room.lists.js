@@ -36,6 +36,7 @@ export function kept(name, read) {
 export const nameOfDisk = (accession) => titleOf(accession) || `Disk ${accession}`;
 export const nameOfFile = (kind, file) => shownName(kind, file.name) || `File at slot ${file.slot}`;
 
+export const mayRead = (file) => file.effect === "read" && file.size !== null;
 export const isPicture = (kind, { type, size }) => kind !== "cpm8" && type === "PRG" && SIZES.has(size);
 export const typeWords = (kind, file) => (isPicture(kind, file) ? "likely a picture" : (TYPES[file.type] ?? ""));
 
@@ -98,12 +99,14 @@ function inDisk(text, pieces) {
   return /^\d+$/.test(number) ? new RegExp(`(?<!\\d)${number}(?!\\d)`).test(text) : has(text, pieces);
 }
 
-// The disks, each with the key by which titles are in order: articles and accents do not count, and numbers count as
-// such. Those without a title come last.
+// The disks in the order of their titles, each with its first letter: articles and accents do not count, and numbers
+// count as such. Those without a title come last, by their numbers.
 export function known(disks) {
   const keyOf = (title) =>
     plain(title).replace(/^(the|an?) /, "").replace(/\d+/g, (digits) => digits.padStart(6, "0")) || "\uffff";
-  return disks.map((disk) => ({ disk, key: keyOf(titleOf(disk.accession)), text: "" }));
+  const keyed = disks.map((disk) => ({ disk, key: keyOf(titleOf(disk.accession)) }));
+  keyed.sort((one, other) => (one.key < other.key ? -1 : one.key > other.key ? 1 : byNumber(one, other)));
+  return keyed.map(({ disk, key }) => ({ disk, letter: key[0], text: "" }));
 }
 
 // What a disk is found by, which is kept from the first search on.
@@ -114,11 +117,8 @@ function diskText(item) {
 }
 
 const byNumber = (one, other) => one.disk.accession - other.disk.accession;
-const ORDERS = {
-  title: (one, other) => (one.key < other.key ? -1 : one.key > other.key ? 1 : byNumber(one, other)),
-  number: byNumber,
-  files: (one, other) => other.disk.files - one.disk.files || byNumber(one, other),
-};
+const ORDERS = { number: byNumber, files: (one, other) => other.disk.files - one.disk.files };
+const NONE = [];
 
 export const familyOf = (kind) => (kind === "cpm8" ? "cpm8" : "d64");
 
@@ -137,12 +137,12 @@ export async function found(items, files, { q, type, kind, sort }) {
   const counts = { kinds: new Map(), types: new Map(), all: 0, files: 0 };
   const hits = [];
   const look = (item) => {
-    const { disk, key } = item;
+    const { disk, letter } = item;
     const missing = words.filter((pieces) => !inDisk(diskText(item), pieces));
     const [needed, isOne] = missing.length ? [missing, null] : [[], words.length ? words : null];
     const isNamed = (file) =>
       needed.every((pieces) => has(file.text, pieces)) && (!isOne || isOne.some((pieces) => has(file.text, pieces)));
-    const all = files?.get(disk.accession) ?? [];
+    const all = files?.get(disk.accession) ?? NONE;
     const named = words.length ? all.filter(isNamed) : all;
     const isOfKind = !kind || familyOf(disk.kind) === kind;
     if (isOfKind) counts.all += named.length;
@@ -155,8 +155,8 @@ export async function found(items, files, { q, type, kind, sort }) {
     count(counts.kinds, familyOf(disk.kind));
     if (!isOfKind) return;
     counts.files += words.length || type ? wanted.length : disk.files;
-    hits.push({ disk, key, matches: words.length || type ? wanted : [] });
+    hits.push({ disk, letter, matches: words.length || type ? wanted : NONE });
   };
   await inParts(items, (some) => some.forEach(look));
-  return { hits: hits.sort(ORDERS[sort] ?? ORDERS.title), counts };
+  return { hits: Object.hasOwn(ORDERS, sort ?? "") ? hits.sort(ORDERS[sort]) : hits, counts };
 }

@@ -1,7 +1,6 @@
 // What the views of the page for readers share: what a reader may do with a file, and ways to quote, ask and go on.
 import { house } from "./about.js";
-import { nameOfDisk } from "./room.lists.js";
-import { mayRead } from "./screen.js";
+import { mayRead, nameOfDisk } from "./room.lists.js";
 import { box, counted, element, faultWords, listOf, meaning, textOf } from "./shared.js";
 import { titleOf } from "./titles.js";
 

@@ -1,6 +1,8 @@
 // Screens of the machines that the disks are of, dot by dot: a directory as a C64 lists it or as CP/M does, and texts
-// with their colours. A picture is its width, its height and the ink of each dot, by its place among the inks.
+// with their colours.
 import { codesOf, hasShifted, shownName } from "./names.js";
+import { picture } from "./pictures.js";
+import { mayRead } from "./room.lists.js";
 import { element, listOf } from "./shared.js";
 import { SIGNS, asciiPlace, petsciiPlace } from "./signs.js";
 
@@ -13,14 +15,6 @@ const INKS = (
 const [BLUE, GREY, LIGHT_BLUE, GLASS, BRIGHT, DIM] = [6, 12, 14, 16, 17, 19];
 // A pixel of a canvas holds blue, green and red in this order, from its high bits on.
 const PIXELS = Uint32Array.from(INKS, (rgb) => Number.parseInt(`ff${rgb.replace(/(..)(..)(..)/, "$3$2$1")}`, 16));
-
-export function picture(width, height, ground = 0) {
-  const inks = new Uint8Array(width * height).fill(ground);
-  const fill = (left, top, wide, high, ink) => {
-    for (let y = top; y < top + high; y += 1) inks.fill(ink, y * width + left, y * width + left + wide);
-  };
-  return { width, height, inks, fill };
-}
 
 // A canvas with a picture, of which each dot is enlarged so often; one of a television is a little higher than wide.
 export function canvasOf({ width, height, inks, isTall }, times = 4) {
@@ -55,7 +49,6 @@ function written(lines, { columns, rows, margin, border, ground, tall = 1 }) {
   return { ...made, isTall: tall > 1 };
 }
 
-export const mayRead = (file) => file.effect === "read" && file.size !== null;
 export const blocksOf = (size) => Math.ceil(size / 254);
 
 // In quotes, a code that does something shows as a reversed sign.
