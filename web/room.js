@@ -44,6 +44,7 @@ async function asked({ path, query, accession, slot }, progress) {
 // A refusal, with the ways on: without a key, to the staff, to the disk, or to all disks.
 function refusedView({ accession, slot }, fault) {
   if (fault.said?.error === "unknown-key") {
+    part("caller").textContent = "This key is unknown";
     const without = button("Go on without a key", () => useKey(""));
     const again = button("Type it again", () => {
       part("key-box").open = true;

@@ -139,9 +139,8 @@ export async function found(items, files, { q, type, kind, sort }) {
   const look = (item) => {
     const { disk, letter } = item;
     const missing = words.filter((pieces) => !inDisk(diskText(item), pieces));
-    const [needed, isOne] = missing.length ? [missing, null] : [[], words.length ? words : null];
-    const isNamed = (file) =>
-      needed.every((pieces) => has(file.text, pieces)) && (!isOne || isOne.some((pieces) => has(file.text, pieces)));
+    const isIn = (file) => (pieces) => has(file.text, pieces);
+    const isNamed = (file) => (missing.length ? missing.every(isIn(file)) : words.some(isIn(file)));
     const all = files?.get(disk.accession) ?? NONE;
     const named = words.length ? all.filter(isNamed) : all;
     const isOfKind = !kind || familyOf(disk.kind) === kind;
@@ -151,7 +150,7 @@ export async function found(items, files, { q, type, kind, sort }) {
       if (isPicture(disk.kind, file)) count(counts.types, "picture");
     }
     const wanted = type ? named.filter((file) => isOf(disk.kind, file, type)) : named;
-    if (type || missing.length ? wanted.length === 0 : false) return;
+    if ((type || missing.length) && wanted.length === 0) return;
     count(counts.kinds, familyOf(disk.kind));
     if (!isOfKind) return;
     counts.files += words.length || type ? wanted.length : disk.files;

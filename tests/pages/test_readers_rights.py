@@ -100,7 +100,7 @@ def test_key_that_is_unknown_lets_go_on_without_one(reader):
     assert reader.give(STAFF)["disks"] == ["Disk 1001", "Disk 1004"]
     shown = reader.give(NOBODY)
     assert shown["refusal"][1:] == ["Refusal: unknown-key", "Rule: K0, the key is unknown"]
-    assert shown["heading"] == "The desk does not know this key"
+    assert (shown["heading"], shown["caller"]) == ("The desk does not know this key", "This key is unknown")
     reader.push("Type it again")
     assert reader.focused() == "Your key, from the museum's staff"
     shown = reader.push("Go on without a key")
