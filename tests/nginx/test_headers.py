@@ -41,13 +41,16 @@ def test_each_door_has_its_page_which_tells_the_policy(door, name):
     told = re.search(rb'<meta http-equiv="Content-Security-Policy" content="([^"]*)">', page)[1].decode()
     assert " ".join(told.split()) == POLICY.replace("frame-ancestors 'none'; ", "")
 
-def test_files_of_the_museum_come_first(room, outside):
+def test_files_of_the_museum_come_first_and_the_staffs_titles_stay_inside(room, outside, staff, request):
     own = room.folder / "own"
     own.mkdir()
-    for name in ("index.html", "room.css", "imprint.html", "about.csv"):
+    request.addfinalizer(lambda: shutil.rmtree(own, ignore_errors=True))
+    for name in ("index.html", "room.css", "imprint.html", "about.csv", "staff.titles.csv"):
         (own / name).write_text(f"own {name}")
     bodies = [outside.get(path).body for path in ("/", "/room.css", "/imprint.html", "/about.csv")]
+    statuses = [door.get("/staff.titles.csv").status for door in (outside, staff)]
     shutil.rmtree(own)
+    assert statuses == [404, 200]
     assert bodies == [b"own index.html", b"own room.css", b"own imprint.html", b"own about.csv"]
     assert outside.get("/").body == bytes_of("web", "index.html")
 
@@ -64,8 +67,10 @@ def test_file_of_the_page_is_sent_again_only_where_it_has_changed(room, outside)
     for came in (outside.get("/room.css", since), outside.get("/room.css", tag)):
         assert (came.status, came.body, came.getheader("Cache-Control")) == (304, b"", "no-cache")
     path.write_bytes(first.body + b"\n")
-    came = outside.get("/room.css", tag)
-    path.write_bytes(first.body)
+    try:
+        came = outside.get("/room.css", tag)
+    finally:
+        path.write_bytes(first.body)
     assert came.body == first.body + b"\n"
 
 # Requests of a page of another site: path, method, more fields, the status, and whether the page may read the reply.

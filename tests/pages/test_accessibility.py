@@ -117,7 +117,7 @@ def test_tab_comes_to_each_control_in_order_and_shows_where_it_is(view):
         view.press(*[Keys.TAB] * 20)
         came, pressed = view.script("return window.came"), pressed + 20
     first = came.index(0) if 0 in came else 0
-    assert came[first:] + came[:first] == list(range(count))
+    assert count and came[first:] + came[:first] == list(range(count))
 
 # A script: what comes of markup and of a script as a text, and of a question to another host.
 REFUSED = """

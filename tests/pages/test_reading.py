@@ -84,7 +84,7 @@ STAR, GRAPHIC = b"Th\xe5 last\x8d\nword\xf3.\r\n\x1a" + bytes(100), b"\x93\xb0\x
 DATA = bytes(range(256)) * 200
 WELCOME = model_disks.read("cpm8", bytes_of("images", "welcome.img")).files[0].data
 FILES = [("HELLO", "PRG", BASIC), ("%CC%C5%D4%D4%C5%D2", "SEQ", GRAPHIC), ("TOUR", "REL", None),
-         *((name, "USR", b"TEXT\r") for name in HARMFUL), ("DATA", "PRG", DATA)]
+         *((name, "USR", b"<IMG SRC=X ONERROR=1>\r") for name in HARMFUL), ("DATA", "PRG", DATA)]
 GIVEN = [(name, data) for name, _, data in FILES if data is not None]
 # What a file is called where it is saved.
 SAVED_AS = ["HELLO.prg", "LETTER.seq", "____X.usr", "_CON.usr", "_IMG SRC_X ONERROR_WINDOW.HARMED_1_.usr", "_1_1.usr",
@@ -121,6 +121,10 @@ def test_file_comes_in_the_way_that_suits_it_and_is_saved_by_a_safe_name(reader,
     assert says in reader.texts("#view p")
     reader.named("link", "Download").click()
     assert reader.saved(name) == data
+
+def test_markup_in_a_file_is_text(reader):
+    reader.go("2001/3")
+    assert (reader.text("pre").strip(), reader.harmed()) == ("<IMG SRC=X ONERROR=1>", [None, 0])
 
 def test_file_can_be_seen_in_the_other_ways(reader):
     small = '10 print "hello"\n20 goto 10\n'
