@@ -150,7 +150,7 @@ def test_damaged_backup_leaves_the_room_open(house, monday, name, change, words)
     house.see_takedown()
 
 def test_backup_or_second_restore_beside_a_restore_is_refused(house, monday):
-    house.after_stop.write_text("until [ -e go ]; do sleep 0.05; done")
+    house.after_stop.write_text("for _ in $(seq 1200); do [ ! -e go ] || break; sleep 0.05; done")
     first = house.begin("desk-restore", monday)
     wait_until(lambda: house.calls() == ["stop"])
     for tool, *words in (["desk-restore", monday], ["desk-backup"]):
