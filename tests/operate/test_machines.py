@@ -77,7 +77,7 @@ INSTALLED = [
      "desk:desk 700\nroot:root 700\nroot:www-data 750\nroot:root 600\nroot:root 600"),
 ]
 FILLED = [
-    (f"sed -i 's/server_name _;/server_name {SITE};/' /etc/desk/site-name; systemctl reload nginx; sleep 1; {HEALTHY}",
+    (f"sed -i 's/server_name _;/server_name {SITE};/' /etc/desk/site-name; systemctl reload nginx; {HEALTHY}",
      DONE),
     (f"""{STAFF} -H 'Desk-Staff: anna' -X PUT {DOOR}/deeds/7 -d '{{"donor":"A","signed":"2019-05-04"}}'""", DONE),
     put_rule("/deeds/7/rules/20", "public room staff", {"all": True}, "read"),
@@ -93,7 +93,9 @@ DAY = [
      "0\n2\nmuseum.sqlite\nmuseum.sqlite-wal\n0"),
     (f"logrotate -f /etc/logrotate.d/desk; echo $?; {IS_SHUT}; stat -c '%U:%G %a' /var/log/desk/journal",
      "0\nroot:www-data 640"),
-    put_rule("/images/13/rules/2", "room", {"slot": 1}, "deny"), ("sleep 1; wc -l </var/log/desk/journal", "2"),
+    put_rule("/images/13/rules/2", "room", {"slot": 1}, "deny"),
+    ("for _ in $(seq 100); do [ $(wc -l </var/log/desk/journal) -lt 2 ] || break; sleep 0.1; done; "
+     "wc -l </var/log/desk/journal", "2"),
     (f"desk-restore {NEWEST} >/root/restored; echo $?; grep -c '^only' /root/restored", "0\n0"), TAKEDOWN,
     (f"stat -c '%U:%G %a' {STORE}; {SUMS}; ls /var/lib/desk | grep -vc '^museum.sqlite\\|^set-aside'",
      "desk:desk 600\n8\n0"),
@@ -114,7 +116,8 @@ OUT = [
 ALARM = [
     ("printf '#!/bin/sh\\n{ echo $*; cat; } >/root/mail\\n' >/usr/sbin/sendmail; chmod +x /usr/sbin/sendmail; "
      "echo ALARM=anna@museum.example >>/etc/desk/places; systemctl stop desk; systemctl start desk-look 2>/dev/null; "
-     "sleep 2; sed -n '1,2p; s/.*\\(the desk does not answer\\).*/\\1/p' /root/mail",
+     "for _ in $(seq 100); do grep -qs 'does not answer' /root/mail && break; sleep 0.1; done; "
+     "sed -n '1,2p; s/.*\\(the desk does not answer\\).*/\\1/p' /root/mail",
      "-t\nTo: anna@museum.example\nthe desk does not answer"),
     ("rm /root/mail; systemctl start desk-look; echo $?; ls /root/mail 2>/dev/null; systemctl start desk", "0"),
 ]
