@@ -2,6 +2,7 @@
 
 import contextlib
 import datetime
+import json
 import os
 import pathlib
 import re
@@ -47,6 +48,13 @@ class Writer:
                 return
         raise TimeoutError(self.begun)
 
+def marked(house, backup):
+    """How many commands the journal has as done up to the line of a backup's mark."""
+    lines = house.journal.read_bytes().splitlines(True)
+    mark = json.loads((backup / "journal-mark").read_bytes())["sha256"]
+    count = 1 + [*map(digest, lines)].index(mark) if mark else 0
+    return sum(b'"status":"200"' in line for line in lines[:count])
+
 def held(folder):
     """What a backup holds, and the number of the last command in it, as sqlite3 reads it."""
     with contextlib.closing(sqlite3.connect(folder / "museum.sqlite")) as store:
@@ -69,6 +77,7 @@ def test_backup_under_commands_holds_what_was_done_at_a_moment(house, is_around,
             assert sorted(os.listdir(backup)) == FILES
             holds, last = held(shutil.copytree(backup, tmp_path / str(number)))
             assert least <= last <= writer.begun
+            assert marked(house, backup) <= last, "a restore would leave out commands that the backup lacks"
             assert holds == dict(command(number)[:2] for number in range(1, last + 1))
             assert set(part["/health"]) == {200}
     assert ("freeze" in house.calls()) == is_around

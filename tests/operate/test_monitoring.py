@@ -22,17 +22,18 @@ def run(tool, *words, before=(), **settings):
 
 @pytest.fixture(scope="module")
 def room(program):
-    """A machine that is well: with a desk, nginx, desk-space, a certificate of 30 days and a backup of now. Beside it
-    lie a certificate of 5 days, an old backup, and a store of more bytes than any disk has free."""
+    """A machine that is just well: with a desk, nginx, desk-space, a certificate of 15 days, a backup of 47 hours ago.
+    Beside it lie a certificate of 13 days, a backup of 49 hours ago, a store of more bytes than any disk has free."""
     with Room(program) as made:
         made.run("init", "--sums", "--store", str(made.store), "--key", STAFF)
         made.start_desk()
         made.start_nginx()
-        for days in (5, 30):
+        for days in (13, 15):
             words = f"openssl req -x509 -newkey rsa:2048 -nodes -keyout /dev/null -subj /CN=x -days {days} -out".split()
             subprocess.run([*words, made.folder / f"{days}.crt"], check=True, capture_output=True)
-        (made.folder / "backups" / time.strftime("%Y-%m-%dT%H%M%SZ", time.gmtime())).mkdir(parents=True)
-        (made.folder / "old" / "2001-01-01T031000Z").mkdir(parents=True)
+        for folder, hours in (("backups", 47), ("old", 49)):
+            moment = time.strftime("%Y-%m-%dT%H%M%SZ", time.gmtime(time.time() - 3600 * hours))
+            (made.folder / folder / moment).mkdir(parents=True)
         with open(made.folder / "large.sqlite", "wb") as file:
             file.truncate(1 << 43)
         with made.asked_for_space():
@@ -40,14 +41,14 @@ def room(program):
 
 def look(room, *words, before=(), **values):
     """Looks at the room, by places of which some have other values."""
-    places = room.write_places(room.folder / "looked-at", **{"CERTIFICATE": room.folder / "30.crt", **values})
+    places = room.write_places(room.folder / "looked-at", **{"CERTIFICATE": room.folder / "15.crt", **values})
     return run("desk-look", *words, places, before=before)
 
 @pytest.mark.parametrize("name, value, words", [
     ("CERTIFICATE", "{}/none", r"the certificate cannot be read: .*/none\n"),
-    ("CERTIFICATE", "{}/5.crt", r"the certificate ends on .* GMT\n"),
+    ("CERTIFICATE", "{}/13.crt", r"the certificate ends on .* GMT\n"),
     ("BACKUPS", "{}/none", r"there is no backup in .*/none\n"),
-    ("BACKUPS", "{}/old", r"the latest backup is that of 2001-01-01T031000Z\n"),
+    ("BACKUPS", "{}/old", r"the latest backup is that of [0-9TZ-]+\n"),
     ("JOURNAL", "{}/none", r"there is no journal: .*/none\n"),
     ("SPACE", "{}/none", r"desk-space gives no reply: .*\n"),
     ("STORE", "{}/large.sqlite", r"(.* has [0-9]+ MiB free; it needs [0-9]+\n){2}"),

@@ -3,6 +3,7 @@
 import hashlib
 import os
 import pathlib
+import re
 import shutil
 import subprocess
 
@@ -38,6 +39,21 @@ def test_lintian_finds_nothing(package):
 
 def test_same_sources_give_the_same_bytes(package, program, tmp_path):
     assert made(tmp_path, program).read_bytes() == package.read_bytes()
+
+def test_package_has_each_file_starts_each_timer_and_reports_its_failure(package, tmp_path):
+    """Only a machine that boots shows what they do there. The store that it makes has sums."""
+    subprocess.run(["dpkg-deb", "-R", package, tmp_path], check=True)
+    held = {path.read_bytes() for path in tmp_path.rglob("*") if path.is_file()}
+    due = [*MAKE.parent.glob("package/*"), *MAKE.parent.glob("desk-*"), *MAKE.parent.glob("../web/*")]
+    due += [MAKE.with_name(name) for name in ("check-all", "museum.py")]
+    # (make-deb writes these two anew)
+    assert {path.name for path in due if path.read_bytes() not in held} == {"control", "desk.1"}
+    script = (tmp_path / "DEBIAN" / "postinst").read_text()
+    begun, units = re.search('(?m)^units="(.*)"$', script)[1].split(), [*tmp_path.glob("lib/systemd/system/*.timer")]
+    assert "/usr/bin/desk init --sums " in script and len(units) == 3
+    for unit in units:
+        assert unit.name in begun
+        assert "\nOnFailure=desk-alarm@%n.service\n" in unit.with_suffix(".service").read_text(), unit.name
 
 def test_trial_says_that_nothing_is_proved(package):
     assert proof(package) == "This is a trial: nothing is proved of this program."
