@@ -42,7 +42,8 @@ class Memory:
         return struct.unpack("3l", self.counts.read_bytes())
 
 class Disk:
-    """Fails each call on the store's files from one on. A command that says so may have done its work."""
+    """Fails each call on the store's files from one on, or those of its name alone, as a full disk fails writes and no
+    syncs. A command that says so may have done its work."""
 
     line, may_be_done, kills = NO_STORE, True, False
     names = ("pread64", "pwrite64", "ftruncate", "fsync", "fdatasync", "statx")
@@ -56,8 +57,8 @@ class Disk:
 
     def injected(self, at):
         """strace counts the calls of each name by themselves."""
-        before = self.made[: at - 1]
-        faults = [f"-einject={name}:error=EIO:when={before.count(name) + 1}+" for name in self.names if at]
+        before, names = self.made[: at - 1], self.made[at - 1 : at] if at % 2 else self.names
+        faults = [f"-einject={name}:error=EIO:when={before.count(name) + 1}+" for name in names if at]
         return ["--seccomp-bpf", *faults]
 
     def counted(self):
