@@ -5,13 +5,14 @@ import csv
 import io
 import re
 import struct
+import threading
 import time
 import zipfile
 
 import pytest
 from staff_helpers import CANNOT_REACH
 from support import model_disks, museums
-from support.browser import wait_for
+from support.browser import LIMIT, wait_for
 from support.museums import HARMFUL
 from support.samples import digest
 from support.server import bytes_of
@@ -261,9 +262,15 @@ def test_zip_asks_in_a_pace_again_after_429_and_leaves_out_what_was_closed_meanw
     assert rows[3] == ["3", "", HARMFUL[0], HARMFUL[0], "USR", "", words, ""]
     assert made.namelist()[:3] == ["files/HELLO.prg", "files/LETTER.seq", "files/_CON.usr"]
 
-def test_zip_of_a_lost_connection_is_not_saved(reader):
-    reader.door.before = lambda method, path: b"" if path.endswith("/files/1") else None
+@pytest.mark.parametrize("stops, words", [(False, CANNOT_REACH), (True, "Stopped.")], ids=["lost", "stopped"])
+def test_zip_that_is_stopped_or_whose_connection_is_lost_is_not_saved(reader, stops, words):
+    is_stopped = threading.Event()
+    lost_or_late = lambda: is_stopped.wait(LIMIT) and None if stops else b""
+    reader.door.before = lambda method, path: lost_or_late() if path.endswith("/files/1") else None
     reader.go("2001")
     reader.named("button", "as a zip").click()
-    zip_says(reader, CANNOT_REACH)
+    if stops:
+        reader.named("button", "Stop").click()
+    is_stopped.set()
+    zip_says(reader, words)
     assert not list(reader.driver.downloads.iterdir())
