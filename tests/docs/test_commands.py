@@ -90,3 +90,9 @@ def test_each_block_of_a_page_begins_with_a_command(page):
     blocks = re.findall(r"^```.*?\n(.*?)^```", pathlib.Path(ROOT, page).read_text(), re.M | re.S)
     others = [block.split()[0] for block in blocks if not block.startswith(("$ ", "# "))]
     assert others == (["readers"] if page == "docs/OPERATING.md" else [])
+
+def test_tools_and_units_that_commands_of_the_package_name_are_there():
+    """These commands are typed on a museum's machine alone."""
+    words = "\n".join(one[2] for page in LEAST for one in doc_pages.commands(page) if one[1] == "package")
+    named = set(re.findall(r"(?<![\w/])desk-[a-z-]+", words))
+    assert named and named <= {path.stem for path in pathlib.Path(ROOT, "operate").rglob("desk-*")}

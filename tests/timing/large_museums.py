@@ -82,7 +82,8 @@ class Museum:
         """A desk that serves the museum, with the variable of the C library that the service sets."""
         service = bytes_of("operate", "desk.service").decode()
         trim = re.findall(r"^Environment=(MALLOC_TRIM_THRESHOLD_)=(\d+)$", service, re.M)
+        assert trim, "desk.service does not say when memory goes back to the system"
         with Serving(self.program, self.store, environment=trim) as server:
             # (a large store takes longer to open than other tests wait; the limit of the test bounds this)
-            assert trim and server.process.stdout.readline().decode() == server.wanted_line()
+            assert server.process.stdout.readline().decode() == server.wanted_line()
             yield server
