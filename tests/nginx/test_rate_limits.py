@@ -106,4 +106,4 @@ def test_slow_visitors_stop_nobody_and_are_ended(room, outside):
                         connection.sendall(SLOW[name][1])
     assert longest < SOON
     for name, (*_, seconds) in SLOW.items():
-        assert len(lasted[name]) == 10 and seconds - 1 <= min(lasted[name]) <= max(lasted[name]) <= seconds + LATE
+        assert len(lasted[name]) == 10 and seconds - 1 <= min(lasted[name]) <= max(lasted[name]) <= seconds + LATE, name
