@@ -22,7 +22,7 @@ pub use Rattle.rd_messages.specs.RequestBodies
 pub use Rattle.rd_messages.specs.ShownRules
 pub use Rattle.rd_messages.specs.MemoryDoors
 pub use Rattle.rd_messages.specs.Streams
-pub use Rattle.rd_messages.specs.Lingering
+pub use Rattle.rd_messages.specs.Waits
 pub use Rattle.rd_messages.specs.ReplyText
 pub use Rattle.rd_messages.specs.Sent
 -- ---- inside: what only private functions and proofs cite

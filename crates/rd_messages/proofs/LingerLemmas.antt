@@ -1,9 +1,9 @@
 -- The waits of a connection that lingers, one after the other.
-use Rattle.std.proofs.Common.{◌≡◌, ◌∙◌, ◌+◌, ◌*◌, ◌++◌, ◌∷◌, ℕ, List, [], All, None, Option, Some, IfSome, ap, append-nil, append_assoc, drop, map, refl, subst, sym}
+use Rattle.std.proofs.Common.{◌≡◌, ◌∙◌, ◌+◌, ◌*◌, ◌++◌, ◌∷◌, ℕ, List, [], None, Option, Some, IfSome, ap, append-nil, append_assoc, drop, map, refl, subst, sym}
 use Rattle.std.proofs.lemmas.List.{map-append}
 use Rattle.std.proofs.lemmas.Option.{same_Some}
 use Rattle.std.proofs.lemmas.List.Elements.{All-append, All-cons, All-nil}
-use Rattle.rd_messages.specs.Lingering.{Ends, EndsAt, GoesOn, WaitUntil, next_of}
+use Rattle.rd_messages.specs.Waits.{Ends, EndsAt, GoesOn, WaitUntil, next_of}
 
 module _ (end : ℕ) where
   abbrev none_yet : (times before : List ℕ) → WaitUntil end times before (Some before)

@@ -1,11 +1,13 @@
 -- Targets, and what they name.
 use Rattle.std.specs.Prelude.{◌≡◌, ℕ, true, List, Some, None, [], ◌∷◌, ◌++◌, codes, pos, refl, replicate}
-use Rattle.std.proofs.Common.{ap, rules, sym}
+use Rattle.std.proofs.Common.{◌∙◌, ap, rules, sym}
 use Rattle.jiff_core.specs.declared.civil.date.Date.{Date}
 use Rattle.jiff_core.proofs.DateLemmas.{days_from_civil-max}
+use Rattle.jiff_fmt.proofs.StandardFacts.{leap-day}
 use Rattle.hex.proofs.OnLiterals.{hex_on_literals}
 use Rattle.matchit.proofs.OnLiterals.{matchit_on_literals}
 use Rattle.rd_geometry.specs.declared.kind.Kind.TheVariants.{D64}
+use Rattle.rd_policy.proofs.DateLemmas.{parse_date-IsDateOf}
 use Rattle.rd_policy.specs.declared.rule.Band.TheVariants as band
 use Rattle.rd_messages.specs.PathDays.{day_found, day_of_date}
 use Rattle.rd_messages.specs.Patterns.{all_insert, matched, pattern_rows, patterns}
@@ -78,9 +80,13 @@ pub verdicts_routed : route_of (codes "/staff/verdicts/9999-12-31") ≡ Some (ro
 unfolding matched pattern_rows matchit_on_literals
 verdicts_routed = ap (λ found. found >>= (λ day. Some (route.Verdicts day))) last_day
 
--- the day of a path is written as a date
-pub other_day_refused : (text : List ℕ) → day_of_date text ≡ None → route_with pattern.Verdicts text [] [] [] ≡ None
-other_day_refused text none = ap (λ found. found >>= (λ day. Some (route.Verdicts day))) none
+-- a path names no day that the calendar lacks
+pub no_day : day_of_date (codes "2023-02-29") ≡ None
+no_day = sym (day_found (codes "2023-02-29") None (λ day is. cc (sym leap-day ∙ parse_date-IsDateOf day (codes "2023-02-29") is)))
+
+pub other_day_refused : route_of (codes "/staff/verdicts/2023-02-29") ≡ None
+unfolding matched pattern_rows matchit_on_literals
+other_day_refused = ap (λ found. found >>= (λ day. Some (route.Verdicts day))) no_day
 
 -- the parts of a rehearsal: a date, a deed or an accession, and a rank
 pub deed_rehearsal_matched : matched (codes "/staff/rehearsals/d/deeds/7/rules/1") ≡ Some (pattern.DeedRehearsal, codes "d" ∷ codes "7" ∷ codes "1" ∷ [])

@@ -20,7 +20,7 @@ pub mod RequestBodies
 pub mod ShownRules
 pub mod MemoryDoors
 pub mod Streams
-pub mod Lingering
+pub mod Waits
 pub mod ReplyText
 pub mod Sent
 -- ---- inside: what only private functions and proofs cite

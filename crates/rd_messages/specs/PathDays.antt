@@ -50,7 +50,7 @@ dated_by text =
 abbrev pub day_of_date : List ℕ → Option ℤ
 day_of_date text = (dated_by text).0
 
--- the day that was found of a text is that of its date
+-- what was found of a text is what day_of_date gives
 pub day_found : (text : List ℕ) (found : Option ℤ) → Dates text found → found ≡ day_of_date text
 day_found text found is = same found (day_of_date text) is (dated_by text).1
   where

@@ -1,24 +1,27 @@
 //! How long a visitor may take.
 
 ghost use Rattle.std.specs.Duration.{as_nanos};
-ghost use Rattle.std.specs.Prelude.{◌≡◌, ◌↔◌, ◌≤◌, ◌<◌, ◌+◌, ◌-◌, ◌*◌, IfSome, IsSome, List, None, Option, Some, [], drop, min, ℕ};
-ghost use Rattle.rd_messages.specs.Lingering.{next_of};
+ghost use Rattle.std.specs.Prelude.{◌≡◌, ◌≤◌, IfSome, IsSome, List, None, Option, Some, [], drop, min, ℕ};
+ghost use Rattle.rd_messages.specs.Waits.{IsTimeLeft, MayWrite, next_of};
 
 use std::time::Duration;
 
-/// A clock. It may show contracts the milliseconds that it will give, one after the other; that of a machine does not.
+/// A clock. It may show contracts the milliseconds that it will give, one after the other; the clock of a machine does
+/// not.
 pub trait Clock {
     /// The milliseconds to come, if the clock shows them.
-    ghost coming: { Self → Option (List ℕ) } = { λ _. None };
+    ghost times: { Self → Option (List ℕ) } = { λ _. None };
 
-    /// The seconds since 1970-01-01T00:00:00 UTC; `None` if the clock fails.
-    fn now(&mut self) -> Option<i64>;
+    /// The seconds since 1970-01-01T00:00:00 UTC; `None` if the clock fails. It takes none of the milliseconds to come.
+    fn now(&mut self) -> Option<i64>
+        ensures { times self.new ≡ times self.old };
 
-    /// The milliseconds since a fixed moment; `None` if the clock fails. One that shows them fails where none is left.
+    /// The milliseconds since a fixed moment; `None` if the clock fails. A clock that shows them fails where none is
+    /// left.
     fn milliseconds(&mut self) -> Option<u64>
-        ensures next { IfSome (next_of (coming self.old)) (λ at. result ≡ Some at) }
-        ensures ends { coming self.old ≡ Some [] → result ≡ None }
-        ensures rest { IfSome (coming self.old) (λ times. coming self.new ≡ Some (drop 1 times)) };
+        ensures next { IfSome (next_of (times self.old)) (λ at. result ≡ Some at) }
+        ensures ends { times self.old ≡ Some [] → result ≡ None }
+        ensures rest { IfSome (times self.old) (λ shown. times self.new ≡ Some (drop 1 shown)) };
 }
 
 /// How long a visitor may take. What takes longer counts as a read or a write that failed.
@@ -51,12 +54,9 @@ impl TimeLimits {
 /// has gone back.
 pub(crate) fn time_left<C: Clock>(clock: &mut C, began: u64, whole: Duration) -> Option<Duration>
     ensures within { IfSome result (λ left. as_nanos left ≤ as_nanos whole) }
-    ensures left { IfSome (next_of (C.coming clock.old)) (λ at. IfSome result (λ left.
-        as_nanos left + at * 1_000_000 ≡ as_nanos whole + began * 1_000_000)) }
-    ensures lasts { IfSome (next_of (C.coming clock.old)) (λ at.
-        IsSome result ↔ ((began ≤ at) × (at * 1_000_000 < as_nanos whole + began * 1_000_000))) }
-    ensures ends { C.coming clock.old ≡ Some [] → result ≡ None }
-    ensures rest { IfSome (C.coming clock.old) (λ times. C.coming clock.new ≡ Some (drop 1 times)) }
+    ensures left { IfSome (next_of (C.times clock.old)) (λ at. IsTimeLeft whole began at result) }
+    ensures ends { C.times clock.old ≡ Some [] → result ≡ None }
+    ensures rest { IfSome (C.times clock.old) (λ times. C.times clock.new ≡ Some (drop 1 times)) }
 {
     let passed = Duration::from_millis(clock.milliseconds()?.checked_sub(began)?);
     let left = whole.checked_sub(passed)?;
@@ -105,10 +105,9 @@ impl<C: Clock> Pace<C> {
     /// back.
     pub(crate) fn for_read(&mut self) -> Option<Duration>
         ensures request { IfSome result (λ time. as_nanos time ≤ as_nanos self.old.limits.request) }
-        ensures left { IfSome (next_of (C.coming self.old.clock)) (λ at. IfSome result (λ time.
-            as_nanos time + at * 1_000_000 ≡ as_nanos self.old.limits.request + self.old.admitted * 1_000_000)) }
-        ensures lasts { IfSome (next_of (C.coming self.old.clock)) (λ at. IsSome result ↔ ((self.old.admitted ≤ at)
-            × (at * 1_000_000 < as_nanos self.old.limits.request + self.old.admitted * 1_000_000))) }
+        ensures left { IfSome (next_of (C.times self.old.clock)) (λ at.
+            IsTimeLeft self.old.limits.request self.old.admitted at result) }
+        ensures ends { C.times self.old.clock ≡ Some [] → result ≡ None }
         ensures limits { self.new.limits ≡ self.old.limits }
         ensures admitted { self.new.admitted ≡ self.old.admitted }
         ensures replying { self.new.replying ≡ self.old.replying }
@@ -119,7 +118,10 @@ impl<C: Clock> Pace<C> {
     /// The millisecond of the first write, which is now if there was none; `None` if the clock fails.
     fn first_write(&mut self) -> Option<u64>
         ensures stays { IfSome self.old.replying (λ began. (result ≡ Some began) × (self.new.clock ≡ self.old.clock)) }
-        ensures begins { self.old.replying ≡ None → IfSome (next_of (C.coming self.old.clock)) (λ at. result ≡ Some at) }
+        ensures begins { self.old.replying ≡ None → IfSome (next_of (C.times self.old.clock)) (λ at. result ≡ Some at) }
+        ensures rest { self.old.replying ≡ None
+            → IfSome (C.times self.old.clock) (λ times. C.times self.new.clock ≡ Some (drop 1 times)) }
+        ensures ends { self.old.replying ≡ None → C.times self.old.clock ≡ Some [] → result ≡ None }
         ensures kept { IfSome result (λ began. self.new.replying ≡ Some began) }
         ensures limits { self.new.limits ≡ self.old.limits }
         ensures admitted { self.new.admitted ≡ self.old.admitted }
@@ -135,12 +137,16 @@ impl<C: Clock> Pace<C> {
     pub(crate) fn for_write(&mut self) -> Option<Duration>
         ensures write { IfSome result (λ time. as_nanos time ≤ as_nanos self.old.limits.write) }
         ensures reply { IfSome result (λ time. as_nanos time ≤ as_nanos self.old.limits.reply) }
-        ensures left { IfSome self.old.replying (λ began. IfSome (next_of (C.coming self.old.clock)) (λ at. IfSome result (λ time.
-            as_nanos time ≡ min (as_nanos self.old.limits.reply + began * 1_000_000 - at * 1_000_000) (as_nanos self.old.limits.write)))) }
-        ensures lasts { IfSome self.old.replying (λ began. IfSome (next_of (C.coming self.old.clock)) (λ at. IsSome result ↔ ((began ≤ at)
-            × (at * 1_000_000 < as_nanos self.old.limits.reply + began * 1_000_000)))) }
-        ensures begins { self.old.replying ≡ None → IfSome (next_of (C.coming self.old.clock)) (λ at. IfSome result (λ _.
-            self.new.replying ≡ Some at)) }
+        ensures later { IfSome self.old.replying (λ began. IfSome (next_of (C.times self.old.clock)) (λ at.
+            MayWrite self.old.limits began at result)) }
+        ensures first { self.old.replying ≡ None → IfSome (C.times self.old.clock) (λ times.
+            IfSome (next_of (Some times)) (λ began. IfSome (next_of (Some (drop 1 times))) (λ at.
+            MayWrite self.old.limits began at result))) }
+        ensures ends { C.times self.old.clock ≡ Some [] → result ≡ None }
+        ensures first_ends { self.old.replying ≡ None → IfSome (C.times self.old.clock) (λ times.
+            drop 1 times ≡ [] → result ≡ None) }
+        ensures begins { self.old.replying ≡ None → IfSome (next_of (C.times self.old.clock)) (λ at.
+            IfSome result (λ _. self.new.replying ≡ Some at)) }
         ensures stays { IfSome self.old.replying (λ began. self.new.replying ≡ Some began) }
         ensures begun { IfSome result (λ _. IsSome self.new.replying) }
         ensures limits { self.new.limits ≡ self.old.limits }

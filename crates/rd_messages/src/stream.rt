@@ -11,8 +11,8 @@ use std::time::Duration;
 
 /// A stream between the desk and a visitor.
 pub trait Stream: Write + Drop {
-    /// How many nanoseconds each of its reads so far might wait, in their order, if the stream shows that; that of a
-    /// machine does not.
+    /// How many nanoseconds each of its reads so far might wait, in their order, if the stream shows that; the streams
+    /// of a machine do not.
     ghost waits: { Self → Option (List ℕ) } = { λ _. None };
 
     /// Reads once, waits for so long at most, and gives how many bytes came. A read that has waited for so long fails.

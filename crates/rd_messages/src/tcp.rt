@@ -2,9 +2,10 @@
 
 ghost use Rattle.std.specs.Duration.{as_nanos};
 ghost use Rattle.std.specs.Io.{ReadsAtMost, WritesAtMost};
-ghost use Rattle.std.specs.Io.KnownBytes.{Appends, Keeps, WriteAppends};
-ghost use Rattle.std.specs.Prelude.{◌≡◌, ◌↔◌, ◌≤◌, ◌+◌, ◌<◌, ◌++◌, None, Some, true, false, length, take, vec_len, IfOk, IsErr, OnOk};
+ghost use Rattle.std.specs.Io.KnownBytes.{Appends, Keeps, ReadConsumes, WriteAppends};
+ghost use Rattle.std.specs.Prelude.{◌≡◌, ◌↔◌, ◌≤◌, ◌+◌, ◌<◌, ◌++◌, None, Some, [], true, false, length, take, vec_len, IfOk, IfSome, IsErr, OnOk};
 ghost use Rattle.rd_protocol.specs.BodyPieces.{pieces_left};
+ghost use Rattle.rd_messages.specs.Waits.{ReadsInTime, TimeLasts, next_of};
 ghost use Rattle.rd_messages.specs.Sent.{PutsFront, put_so_far};
 ghost use Rattle.rd_messages.specs.Streams.{limits_of};
 
@@ -48,7 +49,14 @@ fn read_in_time<S: Stream, C: Clock>(
     pace: &mut Pace<C>,
     into: &mut [u8],
 ) -> Result<usize, Broken>
-    ensures { ReadsAtMost result into.new }
+    ensures bound { ReadsAtMost result into.new }
+    ensures waits { IfSome (next_of (C.times pace.old.clock)) (λ at. IfSome (S.waits stream.old) (λ before.
+        ReadsInTime pace.old.limits.request pace.old.admitted at before (S.waits stream.new))) }
+    ensures lasts { IfSome (next_of (C.times pace.old.clock)) (λ at. IfOk result (λ _.
+        TimeLasts pace.old.limits.request pace.old.admitted at)) }
+    ensures limits { pace.new.limits ≡ pace.old.limits }
+    ensures admitted { pace.new.admitted ≡ pace.old.admitted }
+    ensures replying { pace.new.replying ≡ pace.old.replying }
 {
     let time = pace.for_read().ok_or(Broken)?;
     stream.read_within(into, time).map_err(|_| Broken)
@@ -64,6 +72,8 @@ fn write_in_time<S: Stream, C: Clock>(
 ) -> Result<usize, Broken>
     ensures bound { WritesAtMost result bytes.now }
     ensures bytes { WriteAppends (S.Write.contents stream.old) (S.Write.contents stream.new) result bytes.now }
+    ensures lasts { IfSome pace.old.replying (λ began. IfSome (next_of (C.times pace.old.clock)) (λ at. IfOk result (λ _.
+        TimeLasts pace.old.limits.reply began at))) }
 {
     let time = pace.for_write().ok_or(Broken)?;
     stream.limit_writes(time).map_err(|_| Broken)?;
@@ -266,7 +276,20 @@ impl<S: Stream, C: Clock + Drop> Wire for StreamWire<S, C> {
 
     ghost unsent = { λ wire. wire.held };
 
-    fn take(&mut self, into: &mut [u8]) -> Result<usize, Broken> {
+    fn take(&mut self, into: &mut [u8]) -> Result<usize, Broken>
+        requires { self.old.read_failed ≡ false }
+        ensures bound { ReadsAtMost result into.new }
+        ensures bytes { ReadConsumes None None result into.new }
+        ensures failed { IsErr result ↔ (self.new.read_failed ≡ true) }
+        ensures writes_unchanged { self.new.write_failed ≡ self.old.write_failed }
+        ensures waits { IfSome (next_of (C.times self.old.pace.clock)) (λ at. IfSome (S.waits self.old.stream) (λ before.
+            ReadsInTime self.old.pace.limits.request self.old.pace.admitted at before (S.waits self.new.stream))) }
+        ensures lasts { IfSome (next_of (C.times self.old.pace.clock)) (λ at. IfOk result (λ _.
+            TimeLasts self.old.pace.limits.request self.old.pace.admitted at)) }
+        ensures limits { self.new.pace.limits ≡ self.old.pace.limits }
+        ensures admitted { self.new.pace.admitted ≡ self.old.pace.admitted }
+        ensures replying { self.new.pace.replying ≡ self.old.pace.replying }
+    {
         match read_in_time(&mut self.stream, &mut self.pace, into) {
             Ok(count) => Ok(count),
             Err(_) => {
@@ -378,10 +401,10 @@ impl<L: Listener, C: Clock + Copy + Drop> StreamDoor<L, C> {
 
 /// The next visitor of a listener, and the moment and the millisecond that a clock shows then; `None` if one of them
 /// fails.
-fn next_visitor<L: Listener, C: Clock>(
-    listener: &L,
-    clock: &mut C,
-) -> Option<(i64, u64, L::Stream)> {
+fn next_visitor<L: Listener, C: Clock>(listener: &L, clock: &mut C) -> Option<(i64, u64, L::Stream)>
+    ensures at { IfSome (next_of (C.times clock.old)) (λ at. IfSome result (λ visitor. visitor.1 ≡ at)) }
+    ensures ends { C.times clock.old ≡ Some [] → result ≡ None }
+{
     let stream = listener.next().ok()?;
     let moment = clock.now()?;
     let millisecond = clock.milliseconds()?;
@@ -402,6 +425,11 @@ impl<L: Listener, C: Clock + Copy + Drop> Door for StreamDoor<L, C> {
         ensures write_ready { IfOk result (λ visit. visit.1.write_failed ≡ false) }
         ensures unsent { IfOk result (λ visit. visit.1.held ≡ 0) }
         ensures time { IfOk result (λ visit. visit.1.pace.limits ≡ self.old.limits) }
+        ensures clock { IfOk result (λ visit. visit.1.pace.clock ≡ self.new.clock) }
+        ensures unwritten { IfOk result (λ visit. visit.1.pace.replying ≡ None) }
+        ensures admitted { IfSome (next_of (C.times self.old.clock)) (λ at. IfOk result (λ visit.
+            visit.1.pace.admitted ≡ at)) }
+        ensures no_time { C.times self.old.clock ≡ Some [] → IsErr result }
         ensures shut { IsErr result ↔ (self.new.has_shut ≡ true) }
         ensures stays { self.old.has_shut ≡ true → IsErr result }
     {

@@ -10,9 +10,9 @@ use std::time::Duration;
 /// How many bytes a read gives at most.
 const READ_BYTES: usize = 10;
 
-/// What a clock shows, and what the streams beside it were asked: at which millisecond a read or a write began, for how
-/// many milliseconds it might wait, if the stream was told since the last one, and when a stream was ended; and all bytes
-/// that went out.
+/// What a clock shows, and what the streams beside it were asked: at which millisecond a read or a write began, and for
+/// how many milliseconds it might wait (a write, if the stream was told since the one before), and when a stream was
+/// ended; and all bytes that went out.
 #[derive(Drop)]
 pub(super) struct Notes {
     alloc: Global,

@@ -13,17 +13,20 @@ use std::os::unix::net::{SocketAddr, SocketAddrExt, UnixListener, UnixStream};
 use std::process;
 use std::process::Abort;
 use std::test::Fail;
+use std::time::Duration;
 
 const FOR_DEEDS: &[u8] = b"GET /staff/deeds HTTP/1.1\r\nDesk-Key: abc\r\n\r\n";
+
+const HALF_A_REQUEST: &[u8] = b"GET /staff/deeds HTTP/1.1\r\nDesk";
 
 const FOR_IMAGES: &[u8] = b"GET /images HTTP/1.1\r\n\r\n";
 
 const IMAGES: &str =
     "HTTP/1.1 200 OK\r\nContent-Type: application/json\r\nContent-Length: 13\r\nConnection: close\r\n\r\n{\"images\":[]}";
 
-/// So many deeds have donors of 1,000 bytes: a reply with all of them fills what a connection holds back once, and nearly
-/// once more.
-const DEEDS: u32 = 28;
+/// So many deeds have donors of 1,000 bytes: a reply with all of them fills what a connection holds back twice, and
+/// nearly once more.
+const DEEDS: u32 = 45;
 
 /// A clock that stands still.
 #[derive(Clone, Copy)]
@@ -170,8 +173,50 @@ fn a_visit_after_a_write_that_fails_is_whole(rt: HostRuntime) -> Result<(), Fail
     Ok(())
 }
 
-/// What two clients read that have sent their requests before they are served through one door.
-fn assert_replies<R, L, C>(rt: &R, listener: L, mut first: C, mut second: C) -> Result<(), Fail>
+/// What the first of two clients does: it reads its reply, it stops in the midst of its request, or it goes away before
+/// its reply comes.
+#[derive(Clone, Copy)]
+enum First {
+    Reads,
+    Stops,
+    Goes,
+}
+
+impl First {
+    /// What it sends.
+    fn request(self) -> &'static [u8] {
+        match self {
+            First::Stops => HALF_A_REQUEST,
+            First::Reads | First::Goes => FOR_DEEDS,
+        }
+    }
+
+    /// How the run of both goes.
+    fn run(self) -> Served {
+        match self {
+            First::Reads => served(2, 0, 0),
+            First::Stops => served(2, 1, 0),
+            First::Goes => served(2, 0, 1),
+        }
+    }
+
+    /// What it reads.
+    fn reply(self, alloc: Global) -> Result<String, NoMemory> {
+        match self {
+            First::Reads => all_deeds(alloc),
+            First::Stops | First::Goes => Ok(String::new(alloc)),
+        }
+    }
+}
+
+/// Two clients send, and are then served through one door: what each of them reads.
+fn assert_replies<R, L, C>(
+    rt: &R,
+    does: First,
+    listener: L,
+    mut first: C,
+    mut second: C,
+) -> Result<(), Fail>
 where
     R: AllocGlobal + Abort,
     L: Listener,
@@ -179,35 +224,54 @@ where
 {
     let alloc = rt.alloc();
     let mut desk = filled_desk(rt, alloc)?;
-    first.write_all(FOR_DEEDS)?;
+    first.write_all(does.request())?;
     second.write_all(FOR_IMAGES)?;
-    let limits = TimeLimits::usual();
+    let stays = match does {
+        First::Goes => {
+            drop(first);
+            None
+        }
+        First::Reads | First::Stops => Some(first),
+    };
+    let limits = TimeLimits {
+        request: Duration::from_millis(200),
+        ..TimeLimits::usual()
+    };
     let went = serve(alloc, listener, Standing, limits, &mut desk, 2);
-    assert_eq!(rt; went, served(2, 0, 0));
+    assert_eq!(rt; went, does.run());
     let mut read = Vec::new(alloc);
-    first.read_to_end(&mut read)?;
-    let long = all_deeds(alloc)?;
-    assert!(rt; read.as_slice() == long.as_bytes());
+    if let Some(mut first) = stays {
+        first.read_to_end(&mut read)?;
+    }
+    let wanted = does.reply(alloc)?;
+    assert!(rt; read.as_slice() == wanted.as_bytes());
     read.clear();
     second.read_to_end(&mut read)?;
     assert!(rt; read.as_slice() == IMAGES.as_bytes());
     Ok(())
 }
 
+/// In each of three cases the second client reads its own reply, and nothing of the first one's.
 #[test]
 fn two_clients_at_a_port_read_their_own_replies(rt: HostRuntime) -> Result<(), Fail> {
-    let listener = TcpListener::bind(&rt, "127.0.0.1:0")?;
-    let first = TcpStream::connect(&rt, listener.local_addr()?)?;
-    let second = TcpStream::connect(&rt, listener.local_addr()?)?;
-    assert_replies(&rt, listener, first, second)
+    for does in [First::Reads, First::Stops, First::Goes] {
+        let listener = TcpListener::bind(&rt, "127.0.0.1:0")?;
+        let first = TcpStream::connect(&rt, listener.local_addr()?)?;
+        let second = TcpStream::connect(&rt, listener.local_addr()?)?;
+        assert_replies(&rt, does, listener, first, second)?;
+    }
+    Ok(())
 }
 
 #[test]
 fn two_clients_at_a_socket_read_their_own_replies(rt: HostRuntime) -> Result<(), Fail> {
     let name = format!(in rt.alloc(); "desk-two-{}", process::id(rt.process()))?;
     let address = SocketAddr::from_abstract_name(name.as_bytes())?;
-    let listener = UnixListener::bind_addr(&rt, &address)?;
-    let first = UnixStream::connect_addr(&rt, &address)?;
-    let second = UnixStream::connect_addr(&rt, &address)?;
-    assert_replies(&rt, listener, first, second)
+    for does in [First::Reads, First::Stops, First::Goes] {
+        let listener = UnixListener::bind_addr(&rt, &address)?;
+        let first = UnixStream::connect_addr(&rt, &address)?;
+        let second = UnixStream::connect_addr(&rt, &address)?;
+        assert_replies(&rt, does, listener, first, second)?;
+    }
+    Ok(())
 }

@@ -1,6 +1,6 @@
-use Rattle.std.proofs.Common.{◌+◌, ◌≤◌, length}
-use Rattle.rd_messages.specs.Lingering.{GoesOn}
+use Rattle.std.proofs.Common.{◌+◌}
+use Rattle.rd_messages.specs.Waits.{GoesOn}
 use Rattle.rd_messages.proofs.lingering.linger_from.Given as goal
 
 abbrev pub invariant-loop : goal.invariant-loop
-invariant-loop g l = GoesOn (200 + l.fn.began) (g.C.Clock.coming l.fn.clock) (g.S.Stream.waits l.fn.stream) (g.C.Clock.coming l.clock) (g.S.Stream.waits l.stream)
+invariant-loop g l = GoesOn (200 + l.fn.began) (g.C.Clock.times l.fn.clock) (g.S.Stream.waits l.fn.stream) (g.C.Clock.times l.clock) (g.S.Stream.waits l.stream)
