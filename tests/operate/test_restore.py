@@ -100,6 +100,13 @@ def give_sums(house):
         os.replace(f"{summed}{suffix}", f"{store}{suffix}")
     house.start()
 
+@pytest.mark.parametrize("house", [False], indirect=True, ids=["no-sums"])
+def test_disk_of_the_backup_that_is_not_as_it_came_is_named(house, monday):
+    """A bit of it has flipped in a store without sums."""
+    store = monday / "museum.sqlite"
+    store.write_bytes(store.read_bytes().replace(b"A GUIDE TO THE ROOM", b"A GUIDE TO THE SOOM"))
+    assert re.search("not as it came: /accessions/13/", house.restored(monday))
+
 def make_unreadable(house):
     house.stop()
     house.room.store.unlink()
