@@ -22,11 +22,11 @@ function pageOf(address) {
 
 // A link that begins a mail to the staff about a disk or a file; where the museum gives no address, words.
 export function askStaff(words, of) {
-  const phone = about.phone ? ` or call ${about.phone}` : "";
-  if (about.mail === undefined) return element("span", `To ask about it, turn to the museum's staff${phone}.`);
+  const phone = about.phone ? [" or call ", element("span", about.phone, { className: "phone" })] : [];
+  if (about.mail === undefined) return box("span", "", "To ask about it, turn to the museum's staff", ...phone, ".");
   const [subject, body] = [of, `\n\n${location.href}`].map(encodeURIComponent);
   const link = element("a", words, { href: `mailto:${about.mail}?subject=${subject}&body=${body}` });
-  return box("span", "", link, phone);
+  return box("span", "", link, ...phone);
 }
 
 // Rows that are no name and value, values that are too long, and links to anything but pages are left out.

@@ -11,8 +11,8 @@ function fileRow(kind, accession, file, hasUsers) {
   const { word, colour, why } = permission(file);
   const shown = mayRead(file) ? link(name, `${accession}/${file.slot}`) : element("span", name);
   const may = box("span", "", element("span", word, { className: `badge ${colour}` }));
-  if (why) may.append(element("small", why));
-  const type = box("span", "", file.type, element("small", typeWords(kind, file)));
+  if (why) may.append(" ", element("small", why));
+  const type = box("span", "", file.type, " ", element("small", typeWords(kind, file)));
   return row([
     cell("Name", shown, "name"),
     cell("Type", type, "type"),

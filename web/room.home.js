@@ -124,7 +124,7 @@ function summary(hits, counts, { q, type, kind }, isRead) {
 // The box to search in: what is typed there changes the address.
 function searchBox(q) {
   const field = element("input", null, { id: "q", type: "search", value: q ?? "", maxLength: 64, spellcheck: false });
-  Object.assign(field, { autocapitalize: "none", autocomplete: "off", placeholder: "letter 1984, *.PRG" });
+  Object.assign(field, { autocapitalize: "none", autocomplete: "off", placeholder: "letter, *.PRG" });
   const label = element("label", "Search titles, files and numbers", { htmlFor: "q" });
   const button = element("button", "Search", { type: "submit", className: "primary" });
   const form = box("form", "search", label, field, button);

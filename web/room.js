@@ -142,5 +142,6 @@ function useKey(given) {
 // The list of disks comes beside the museum's own files.
 allDisks().catch(() => {});
 listenForKey(useKey);
+part("key-box").hidden = false;
 window.addEventListener("hashchange", () => show(true));
 show(false);

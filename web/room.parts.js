@@ -74,8 +74,8 @@ export function quoting(cite) {
 // The ways to what comes before and after in a list, and where in the list this is.
 export function neighbours(what, all, at, wayTo) {
   const [before, after] = [all[at - 1], all[at + 1]].map((one) => one && wayTo(one));
-  const back = before ? link(`\u2190 ${before.words}`, before.place, { rel: "prev" }) : element("span", "");
-  const on = after ? link(`${after.words} \u2192`, after.place, { rel: "next" }) : element("span", "");
+  const back = before ? link(`\u2190\u00a0${before.words}`, before.place, { rel: "prev" }) : element("span", "");
+  const on = after ? link(`${after.words}\u00a0\u2192`, after.place, { rel: "next" }) : element("span", "");
   const where = element("span", `${at + 1} of ${counted(all.length, what)}`, { className: "quiet" });
   return ways(`Other ${what}s`, "neighbours", back, where, on);
 }

@@ -79,7 +79,7 @@ function c64Directory({ accession, files }, isSmall) {
   });
   const label = typed(`"${`DISK ${accession}`.padEnd(16)}" MU 2A`, LIGHT_BLUE, true);
   const before = ["", 'LOAD"$",8', "", "SEARCHING FOR $", "LOADING", "READY.", "LIST", ""];
-  const head = isSmall ? [] : before.map((text) => typed(text, LIGHT_BLUE));
+  const head = (isSmall ? [""] : before).map((text) => typed(text, LIGHT_BLUE));
   const cursor = [typed("READY.", LIGHT_BLUE), typed(" ", LIGHT_BLUE, true)];
   const lines = [...head, [...typed("0 ", LIGHT_BLUE), ...label], ...rows, ...cursor];
   return isSmall ? c64(lines.slice(0, SIZES.small.rows), SIZES.small) : c64(lines);

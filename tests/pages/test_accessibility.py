@@ -37,6 +37,14 @@ const hasText = (one) => Array.from(one.childNodes).some((node) => node.nodeType
 return Array.from(root.querySelectorAll("body *")).filter((one) => hasText(one) && isSeen(one) && ratio(one) < 4.5)
   .filter((one) => !one.closest(":disabled, option, .skip")).map((one) => `${ratio(one)}: ${one.textContent}`);
 """
+# Scripts: the colour of the paper; what is wider than the window, or cut off; what is of no use in print, or cut off.
+PAPER = "return getComputedStyle(document.body).backgroundColor.match(/\\d+/g).map(Number)"
+CUT_OFF = IS_SEEN + """return Array.from(root.querySelectorAll("body *"))
+  .filter((one) => isSeen(one) && !one.matches("input, .skip") && (one.getBoundingClientRect().right > innerWidth + 1 ||
+    (getComputedStyle(one).overflowX !== "visible" && one.scrollWidth > one.clientWidth + 1)))
+  .map((one) => `${one.tagName} ${one.className}: ${one.textContent}`);"""
+IN_PRINT = IS_SEEN + """return Array.from(root.querySelectorAll("button, input, nav, pre")).filter((one) => isSeen(one)
+  && (one.tagName !== "PRE" || one.scrollHeight > one.clientHeight + 1)).map((one) => one.outerHTML);"""
 # A script: how many controls the Tab key has to reach. From then on window.came has those to which the focus came and
 # where it shows, by their place in this order.
 DUE = IS_SEEN + """
@@ -95,6 +103,17 @@ def test_each_control_has_a_name_of_its_own(view):
     ids = view.script("return Array.from(document.querySelectorAll('[id]'), (one) => one.id)")
     assert due and len(set(ids)) == len(ids)
 
+def test_page_without_javascript_says_what_there_is_and_leads_to_it(reader):
+    reader.cdp("Emulation.setScriptExecutionDisabled", value=True)
+    try:
+        reader.driver.get(reader.door.address)
+        links = [link.get_property("href") for link in reader.driver.find_elements("css selector", "noscript a")]
+        assert links == [f"{reader.door.address}{name}" for name in ("images", "catalogue", "titles.csv")]
+        assert reader.one("main").text.startswith("The reading room\nThis page needs JavaScript.")
+        assert not reader.one("#key-box").is_displayed()
+    finally:
+        reader.cdp("Emulation.setScriptExecutionDisabled", value=False)
+
 def test_headings_skip_no_level(view):
     levels = view.script(HEADINGS)
     assert levels and levels.count(1) <= 1 and levels[0] == min(levels)
@@ -104,12 +123,14 @@ def test_text_has_the_contrast_of_level_aa_in_dark_and_light(view):
     for scheme in ("dark", "light"):
         view.cdp("Emulation.setEmulatedMedia", features=[{"name": "prefers-color-scheme", "value": scheme}])
         assert view.script(CONTRAST) == [], scheme
+        assert {part > 127 for part in view.script(PAPER)} == {scheme == "light"}
 
-def test_nothing_is_wider_than_a_phone(view):
-    with view.phone():
-        view.wait(lambda state: view.script("return window.innerWidth") <= 400)
-        assert view.script("return document.documentElement.scrollWidth <= window.innerWidth")
-        assert view.script(CONTRAST) == []
+def test_nothing_is_cut_off_on_a_phone_or_in_a_window_of_1280_points_at_200_percent(view):
+    for width in (320, 360, 640):
+        with view.phone(width):
+            view.wait(lambda state: view.script("return window.innerWidth") == width)
+            assert (width, view.script(CUT_OFF)) == (width, [])
+            assert view.script(CONTRAST) == []
 
 def test_tab_comes_to_each_control_in_order_and_shows_where_it_is(view):
     count, came, pressed = view.script(DUE), [], 0
@@ -139,3 +160,8 @@ def test_browser_refuses_markup_scripts_and_other_hosts(view):
 def test_each_view_has_a_title_of_its_own(whose, request):
     page, places = request.getfixturevalue(whose), {place for one, place, _ in VIEWS if one == whose}
     assert len({page.go(place)["title"] for place in places}) == len(places)
+
+def test_print_is_on_light_paper_and_has_all_that_is_read_and_nothing_to_press(view):
+    dark = [{"name": "prefers-color-scheme", "value": "dark"}]
+    view.cdp("Emulation.setEmulatedMedia", media="print", features=dark)
+    assert min(view.script(PAPER)) > 200 and view.script(IN_PRINT) == []

@@ -36,7 +36,7 @@ def lines(museum):
     return rows
 
 def in_name(word, line):
-    return all(piece in line["text"] for piece in word.split("*"))
+    return re.search(".*".join(map(re.escape, word.split("*"))), line["text"], re.DOTALL)
 
 def in_disk(word, line):
     """A number counts only as a whole there."""
@@ -84,14 +84,18 @@ def test_words_find_files_and_disks_in_any_order_in_a_list_that_is_fetched_once(
         shown = reader.find(words)
         assert shown["status"] == said(len(disks), len(due)), words
         assert shown["disks"] == [f"Disk {number}" for number in disks[:48]], words
+    assert reader.find("seq*notes")["disks"] == []
     reader.type("Search titles, files and numbers", "nowhere")
-    shown = reader.wait(lambda state: state["status"].startswith("Nothing"))
-    assert (shown["here"], shown["disks"]) == ("#/?q=nowhere", [])
+    shown = reader.wait(lambda state: state["status"].startswith("Nothing") and state["here"] == "#/?q=nowhere")
+    assert shown["disks"] == []
+    reader.script("location.hash = '#/find/letter+1'")
+    reader.wait(lambda state: state["here"] == "#/?q=letter%2B1", "the search of an address of an earlier page")
     assert [path for _, path, _ in reader.door.visits] == ["/catalogue"]
 
 def test_facets_narrow_what_was_found_and_count_it(reader, lines):
     shown = reader.find("letter")
     found = [line for line in lines if "letter" in line["text"]]
+    assert f"All {len(found):,}" in shown["chips"]
     for kind, words in KINDS.items():
         count = len({line["accession"] for line in found if line["kind"] == kind})
         assert f"{words} {count}" in shown["chips"]
@@ -101,10 +105,23 @@ def test_facets_narrow_what_was_found_and_count_it(reader, lines):
     shown = reader.read(lambda state: "type=TXT" in state["here"])
     assert shown["status"] == said(len({line["accession"] for line in texts}), len(texts))
     assert reader.focused() == f"Texts {len(texts)}"
-    assert "Disk 1" not in shown["disks"]
+    assert "Disk 1" not in shown["disks"] and "Commodore 1541 0" in shown["chips"]
+    assert f"Texts {len(texts)}" not in reader.go("?q=letter&kind=d64")["chips"]
     reader.named("link", "Screens").click()
     reader.read(lambda state: "as=screens" in state["here"])
     assert len(reader.texts("#results canvas")) == 48
+
+def test_titles_are_in_order_without_articles_and_accents_and_each_letter_leads_to_its_page(tmp_path, reader, lines):
+    disks = dict.fromkeys(int(line["accession"]) for line in lines)
+    titles = {disk: f"{'The ' * (disk % 2)}{'AÄB'[disk % 3]}x {disk}" for disk in disks}
+    rows = "".join(f"{disk},{titles[disk]},\n" for disk in titles)
+    (tmp_path / "titles.csv").write_text(f"accession,title,note\n{rows}")
+    due = [titles[disk] for disk in sorted(titles, key=lambda disk: (disk % 3 == 2, disk))]
+    assert reader.load()["disks"] == due[:48]
+    reader.named("link", "B").click()
+    shown = reader.read(lambda state: "page=" in state["here"])["disks"]
+    assert next(title for title in due if "B" in title) in shown
+    assert reader.go("?sort=number")["disks"] == [*titles.values()][:48]
 
 def test_progress_is_said_while_the_list_comes(reader, museum):
     whole, is_said = museum.ask_catalogue("public").reply, threading.Event()

@@ -14,8 +14,8 @@ AS_PUBLIC, BY_KEY = "I have a key", "You read with a key"
 OPEN = ["Disk 1001", "Disk 1002", "Disk 1003"]
 ALL = [f"Disk {number}" for number in range(1001, 1007)]
 NOT_READ = "You may not read this file. Ask the staff, who know why."
-WELCOME = ["WELCOME.TXT", "TXTtext", "896"]
-UNREAD = "Damagedthe drive could not read a block of it"
+WELCOME = ["WELCOME.TXT", "TXT text", "896"]
+UNREAD = "Damaged the drive could not read a block of it"
 DAMAGED = "read-error (the drive could not read a block of it)"
 
 @pytest.fixture
@@ -47,19 +47,19 @@ def test_caller_sees_the_disks_of_their_audience(reader, key, asks, disks):
 def test_only_a_file_that_may_be_read_has_a_link_and_others_say_why(museum, reader):
     museum.rules["T1001"] = {1: museums.rule(1, "list", ["public"], {"slot": 0})}
     shown = reader.go("1001")
-    why = "Listed onlytakedown 1 of disk 1001 has closed it"
+    why = "Listed only takedown 1 of disk 1001 has closed it"
     assert (shown["rows"][0], shown["links"]) == ([*WELCOME, why], ["#/1001/1"])
     rules = "takedown 1 of disk 1001 (T1001.1) about 1 file, rule 20 of deed 9 (R9.20) about 1 file."
     assert f"What decides here: {rules}" in reader.text("#view")
     museum.rules["R9"][10] = museums.rule(10, "list", ["public"], {"type": "SEQ"})
-    why = "Listed onlyrule 10 of deed 9 lets you see its name alone"
-    assert reader.go("1003")["rows"][0] == ["LOGBOOK", "SEQtext or data", "", why]
+    why = "Listed only rule 10 of deed 9 lets you see its name alone"
+    assert reader.go("1003")["rows"][0] == ["LOGBOOK", "SEQ text or data", "", why]
     del museum.rules["R9"][10]
     shown = reader.go("1003")
-    assert (shown["rows"][0], shown["links"]) == (["LOGBOOK", "SEQtext or data", "", UNREAD], [])
+    assert (shown["rows"][0], shown["links"]) == (["LOGBOOK", "SEQ text or data", "", UNREAD], [])
     shown = reader.go("1002")
-    why = "Listed onlya dividing line of the directory, which has no bytes to read"
-    assert (shown["rows"][1], shown["links"]) == (["-" * 16, "DELdividing line", "", why], ["#/1002/0", "#/1002/2"])
+    why = "Listed only a dividing line of the directory, which has no bytes to read"
+    assert (shown["rows"][1], shown["links"]) == (["-" * 16, "DEL dividing line", "", why], ["#/1002/0", "#/1002/2"])
 
 def test_refusal_says_why_whom_to_ask_and_where_to_go_on(reader):
     others, staff = "The other files of this disk", "turn to the museum's staff"

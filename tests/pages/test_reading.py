@@ -112,20 +112,17 @@ SHOWN = {
     "2001/1": ("LETTER", "Shown as it came on the screen of a C64.", "", "LETTER.seq", GRAPHIC),
     "2002/0": ("LETTER.TXT", "Shown as text of WordStar, without its marks for print.", "The last\nwords.\n",
                "LETTER.TXT", STAR),
+    "2001/3": ("../../X", "Shown as text.", "<IMG SRC=X ONERROR=1>\n", "____X.usr", b"<IMG SRC=X ONERROR=1>\r"),
     "2001/8": ("DATA", "Shown as bytes: the place, hexadecimal digits, and ASCII.", hexed(DATA), "DATA.prg", DATA),
 }
 
 @pytest.mark.parametrize("place", SHOWN)
 def test_file_comes_in_the_way_that_suits_it_and_is_saved_by_a_safe_name(reader, place):
     heading, says, text, name, data = SHOWN[place]
-    assert (reader.go(place)["heading"], reader.text("pre")) == (heading, text)
+    assert (reader.go(place)["heading"], reader.text("pre"), reader.harmed()) == (heading, text, [None, 0])
     assert says in reader.texts("#view p")
     reader.named("link", "Download").click()
     assert reader.saved(name) == data
-
-def test_markup_in_a_file_is_text(reader):
-    reader.go("2001/3")
-    assert (reader.text("pre").strip(), reader.harmed()) == ("<IMG SRC=X ONERROR=1>", [None, 0])
 
 def test_file_can_be_seen_in_the_other_ways(reader):
     small = '10 print "hello"\n20 goto 10\n'
@@ -150,16 +147,11 @@ def koala(data, x, y, colours=9000, ground=10000):
     bits = data[8 * cell + y % 8] >> 6 - x % 8 // 2 * 2 & 3
     return [data[ground], data[8000 + cell] >> 4, data[8000 + cell], data[colours + cell]][bits] & 15
 
-def advanced(data, x, y):
-    return koala(data, x, y, 9016, 9001)
-
 def art(data, x, y, cells=8000, dots=0):
     """The same of a picture of two colours to a cell."""
     cell = y // 8 * 40 + x // 8
-    return data[cells + cell] >> (data[dots + 8 * cell + y % 8] >> 7 - x % 8 & 1) * 4 & 15
-
-def doodle(data, x, y):
-    return art(data, x, y, 0, 1024)
+    pair = 0x10 if cells is None else data[cells + cell]
+    return pair >> (data[dots + 8 * cell + y % 8] >> 7 - x % 8 & 1) * 4 & 15
 
 def letters(data, x, y):
     """The same of a set of signs: 32 in a row, each white on blue, with four black dots between them."""
@@ -168,8 +160,10 @@ def letters(data, x, y):
         return 0
     return 1 if data[8 * (32 * down + across) + top] >> 7 - left & 1 else 6
 
-DRAWN = {"a Koala picture": (0x6000, 10001, koala), "an Advanced Art Studio picture": (0x2000, 10016, advanced),
-         "an Art Studio picture": (0x2000, 9009, art), "a Doodle picture": (0x5C00, 9216, doodle),
+DRAWN = {"a Koala picture": (0x6000, 10001, koala), "a plain bitmap": (0x2000, 8000, lambda *at: art(*at, None)),
+         "an Advanced Art Studio picture": (0x2000, 10016, lambda *at: koala(*at, 9016, 9001)),
+         "an Art Studio picture": (0x2000, 9009, art),
+         "a Doodle picture": (0x5C00, 9216, lambda *at: art(*at, 0, 1024)),
          "a set of signs": (0x3800, 1024, letters)}
 DECODE = """return import("/pictures.js").then(({ pictureIn }) => {
   const { words, make } = pictureIn(Uint8Array.from(arguments[0]));
@@ -196,6 +190,33 @@ def test_screen_has_the_colours_and_places_of_its_text(reader):
     assert at["7"] == {(x, y) for x in range(8, 16) for y in range(16, 24)}
     assert {ink for (x, y), ink in dots.items() if not (0 <= x < 320 and 0 <= y < 200)} == {"e"}
 
+# A script: whether a directory stands on its screen as a text does on that of a C64. Dots of a terminal are two high.
+ALIKE = """const [disk, text] = arguments;
+const dots = (canvas) => {
+  const [margin, tall] = canvas.width === 352 ? [16, 1] : [12, 2];
+  const { data } = canvas.getContext("2d").getImageData(margin, margin, 320, 128 * tall);
+  const dots = new Uint32Array(data.buffer).filter((_, at) => Math.floor(at / 320) % tall === 0);
+  const inks = [...new Set(dots)];
+  return Array.from(dots, (dot) => inks.indexOf(dot)).join("");
+};
+return import("/screen.js").then(({ canvasOf, directoryScreen, textScreen }) =>
+  dots(directoryScreen(disk, false, 1)) === dots(canvasOf(textScreen(Uint8Array.from(text)), 1)));"""
+# By a kind of disk: files, and the text that its screen is like: light blue (9A hex), grey (98) where there is no size.
+DIRECTORIES = {
+    "d64": ([("LOADER", "PRG", 509), ("A%D3B", "SEQ", None), ("X", "USR", None, None, ["not-closed"])],
+            b'\x9a\rLOAD"$",8\r\rSEARCHING FOR $\rLOADING\rREADY.\rLIST\r\r0 \x12"DISK 7          " MU 2A\x92\r'
+            b'3    "LOADER"           PRG\r\x98     "A\xd3B"              SEQ\r     "X"               *USR\r'
+            b"\x9aREADY.\r\x12 "),
+    "cpm8": ([("PIP.COM", "COM", 128, 0), ("NOTES.TXT", "TXT", 128, 3), ("ED.COM", "COM", None, 0)],
+             b"\x9aA>DIR\rA: PIP      COM : \x98ED       COM\r\x9aA>USER 3\rA>DIR\rA: NOTES    TXT\rA>\x12 "),
+}
+
+@pytest.mark.parametrize("kind", DIRECTORIES)
+def test_directory_stands_on_the_screen_of_its_machine(reader, kind):
+    files, text = DIRECTORIES[kind]
+    files = [dict(zip(("name", "type", "size", "user", "faults"), file), effect="read") for file in files]
+    assert reader.script(ALIKE, {"kind": kind, "accession": 7, "files": files}, list(text))
+
 def test_file_says_what_is_known_of_it_and_how_to_cite_it(reader):
     reader.go("2001/0")
     assert dict(zip(reader.texts("dt"), reader.texts("dd"))) == {
@@ -203,22 +224,26 @@ def test_file_says_what_is_known_of_it_and_how_to_cite_it(reader):
         "Type": "PRG, program, of Commodore 1541", "Size": f"{len(BASIC)} bytes, 1 block",
         "Load address": "$0801 (2049)", "SHA-256": digest(BASIC), "Open by": "rule 20 of deed 9 (R9.20)",
     }
-    of = f"file “HELLO” (slot 0, PRG, {len(BASIC)} bytes, SHA-256 {digest(BASIC)})"
-    address = f"{reader.door.address}#/2001/0"
-    cited = f"The reading room: “Disk 2001”, {of}. {address} (read on 15 June 2026)."
-    for name, text in (("Copy link", address), ("Cite", cited)):
+    of = f", file “HELLO” (slot 0, PRG, {len(BASIC)} bytes, SHA-256 {digest(BASIC)})"
+    address, cited = f"{reader.door.address}#/", "The reading room: “Disk 2001”%s. %s (read on 15 June 2026)."
+    for place, name, text in (("2001", "Cite", cited % ("", f"{address}2001")),
+                              ("2001/0", "Copy link", f"{address}2001/0"),
+                              ("2001/0", "Cite", cited % (of, f"{address}2001/0"))):
+        reader.go(place)
         reader.push(name)
         wait_for(text, lambda: reader.text(".copied").partition(": ")[2] == text)
-    reader.named("link", "LETTER →").click()
+    reader.named("link", "LETTER\u00a0→").click()
     assert reader.read(lambda state: state["heading"] == "LETTER")["here"] == "#/2001/1"
 
-def test_disk_is_short_on_a_phone_and_its_screen_is_a_figure_of_the_table(museum, reader):
-    museums.put_files(museum, 2003, "d64", 9, [(f"FILE {n}", "PRG", b"\1\x08") for n in range(11)])
+def test_disk_with_most_files_and_a_picture_is_found_and_short_on_a_phone_beside_its_figure(museum, reader):
+    museums.put_files(museum, 2003, "d64", 9, [(f"FILE {n}", "PRG", bytes(10003 - n)) for n in range(11)])
     reader.load()
+    assert reader.go("?type=picture")["matches"] == ["FILE 0"]
+    assert reader.go("?sort=files")["disks"][:2] == ["Disk 2003", "Disk 2001"]
     reader.go("2003")
     shown = "const at = document.querySelector('figure canvas'); return [at.role, at.ariaDetailsElements[0].tagName]"
     assert reader.script(shown) == ["img", "TABLE"]
-    assert reader.texts(".neighbours > *") == ["← Disk 2002", "6 of 6 disks", ""]
+    assert reader.texts(".neighbours > *") == ["←\u00a0Disk 2002", "6 of 6 disks", ""]
     with reader.phone():
         assert reader.script("return document.querySelector('table').offsetHeight") <= 1100
 

@@ -181,9 +181,9 @@ class Page:
         ActionChains(self.driver, duration=0).send_keys(*keys).perform()
 
     @contextlib.contextmanager
-    def phone(self):
-        """While this is entered, the screen has 360 by 640 points."""
-        self.cdp("Emulation.setDeviceMetricsOverride", width=360, height=640, deviceScaleFactor=1, mobile=True)
+    def phone(self, width=360):
+        """While this is entered, the screen has so many by 640 points."""
+        self.cdp("Emulation.setDeviceMetricsOverride", width=width, height=640, deviceScaleFactor=1, mobile=True)
         try:
             yield
         finally:
