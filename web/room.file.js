@@ -49,9 +49,9 @@ function cbmViews(bytes) {
   const letters = { isSmall: listing === null && isInSmall(bytes) };
   const views = [];
   if (listing) {
-    const rest = listing.rest ? ` ${counted(listing.rest, "byte")} after it are not shown.` : "";
+    const rest = listing.rest ? `, without the ${counted(listing.rest, "byte")} after it` : "";
     const text = () => basicListing(bytes, letters.isSmall).text;
-    views.push({ id: "as-basic", word: "Listing", says: `Shown as a listing of BASIC.${rest}`, text, letters });
+    views.push({ id: "as-basic", word: "Listing", says: `Shown as a listing of BASIC${rest}.`, text, letters });
   }
   const isPlain = cbmText(bytes) !== null;
   const text = () => (isPlain ? cbmText : petsciiText)(bytes, letters.isSmall);

@@ -102,8 +102,8 @@ function inDisk(text, pieces) {
 // The disks in the order of their titles, each with its first letter: articles and accents do not count, and numbers
 // count as such. Those without a title come last, by their numbers.
 export function known(disks) {
-  const keyOf = (title) =>
-    plain(title).replace(/^(the|an?) /, "").replace(/\d+/g, (digits) => digits.padStart(6, "0")) || "\uffff";
+  const inOrder = (text) => text.replace(/^(the|an?) /, "").replace(/\d+/g, (digits) => digits.padStart(6, "0"));
+  const keyOf = (title) => (title && inOrder(plain(title))) || "\uffff";
   const keyed = disks.map((disk) => ({ disk, key: keyOf(titleOf(disk.accession)) }));
   keyed.sort((one, other) => (one.key < other.key ? -1 : one.key > other.key ? 1 : byNumber(one, other)));
   return keyed.map(({ disk, key }) => ({ disk, letter: key[0], text: "" }));

@@ -42,7 +42,7 @@ PAPER = "return getComputedStyle(document.body).backgroundColor.match(/\\d+/g).m
 CUT_OFF = IS_SEEN + """return Array.from(root.querySelectorAll("body *"))
   .filter((one) => isSeen(one) && !one.matches("input, .skip") && (one.getBoundingClientRect().right > innerWidth + 1 ||
     (getComputedStyle(one).overflowX !== "visible" && one.scrollWidth > one.clientWidth + 1)))
-  .map((one) => `${one.tagName} ${one.className}: ${one.textContent}`);"""
+  .map((one) => one.outerHTML);"""
 IN_PRINT = IS_SEEN + """return Array.from(root.querySelectorAll("button, input, nav, pre")).filter((one) => isSeen(one)
   && (one.tagName !== "PRE" || one.scrollHeight > one.clientHeight + 1)).map((one) => one.outerHTML);"""
 # A script: how many controls the Tab key has to reach. From then on window.came has those to which the focus came and
@@ -162,6 +162,5 @@ def test_each_view_has_a_title_of_its_own(whose, request):
     assert len({page.go(place)["title"] for place in places}) == len(places)
 
 def test_print_is_on_light_paper_and_has_all_that_is_read_and_nothing_to_press(view):
-    dark = [{"name": "prefers-color-scheme", "value": "dark"}]
-    view.cdp("Emulation.setEmulatedMedia", media="print", features=dark)
+    view.cdp("Emulation.setEmulatedMedia", media="print", features=[{"name": "prefers-color-scheme", "value": "dark"}])
     assert min(view.script(PAPER)) > 200 and view.script(IN_PRINT) == []

@@ -47,9 +47,10 @@ def said(disks, files):
 
 def test_home_counts_disks_and_files_and_shows_them_in_pages(reader, lines):
     disks = list(dict.fromkeys(f"Disk {line['accession']}" for line in lines))
-    shown = reader.read(lambda state: state["disks"])
-    assert shown["status"] == f"{len(disks)} disks with {len(lines):,} files, open to everybody."
-    assert shown["disks"] == disks[:48]
+    words = f"{len(disks)} disks with {len(lines):,} files, open to everybody."
+    assert reader.wait(lambda state: state["status"] == words)["disks"] == disks[:48]
+    day = reader.script("return Math.floor(Date.now() / 86400000)")
+    assert reader.text("figcaption") == f"On the screen today: {disks[day % len(disks)]}"
     reader.named("link", "Next page").click()
     assert reader.read(lambda state: state["here"] == "#/?page=2")["disks"] == disks[48:96]
     assert reader.go("?page=99")["disks"] == disks[48 * (len(disks) // 48) :]
@@ -86,8 +87,7 @@ def test_words_find_files_and_disks_in_any_order_in_a_list_that_is_fetched_once(
         assert shown["disks"] == [f"Disk {number}" for number in disks[:48]], words
     assert reader.find("seq*notes")["disks"] == []
     reader.type("Search titles, files and numbers", "nowhere")
-    shown = reader.wait(lambda state: state["status"].startswith("Nothing") and state["here"] == "#/?q=nowhere")
-    assert shown["disks"] == []
+    reader.wait(lambda state: "Nothing" in state["status"] and (state["here"], state["disks"]) == ("#/?q=nowhere", []))
     reader.script("location.hash = '#/find/letter+1'")
     reader.wait(lambda state: state["here"] == "#/?q=letter%2B1", "the search of an address of an earlier page")
     assert [path for _, path, _ in reader.door.visits] == ["/catalogue"]
@@ -112,15 +112,12 @@ def test_facets_narrow_what_was_found_and_count_it(reader, lines):
     assert len(reader.texts("#results canvas")) == 48
 
 def test_titles_are_in_order_without_articles_and_accents_and_each_letter_leads_to_its_page(tmp_path, reader, lines):
-    disks = dict.fromkeys(int(line["accession"]) for line in lines)
-    titles = {disk: f"{'The ' * (disk % 2)}{'AÄB'[disk % 3]}x {disk}" for disk in disks}
-    rows = "".join(f"{disk},{titles[disk]},\n" for disk in titles)
-    (tmp_path / "titles.csv").write_text(f"accession,title,note\n{rows}")
+    titles = {n: f"{'The ' * (n % 2)}{'AÄB'[n % 3]}x {n}" for n in (int(line["accession"]) for line in lines)}
+    (tmp_path / "titles.csv").write_text("".join(["accession,title,note\n", *(f"{n},{titles[n]},\n" for n in titles)]))
     due = [titles[disk] for disk in sorted(titles, key=lambda disk: (disk % 3 == 2, disk))]
     assert reader.load()["disks"] == due[:48]
     reader.named("link", "B").click()
-    shown = reader.read(lambda state: "page=" in state["here"])["disks"]
-    assert next(title for title in due if "B" in title) in shown
+    assert next(one for one in due if "B" in one) in reader.read(lambda state: "page=" in state["here"])["disks"]
     assert reader.go("?sort=number")["disks"] == [*titles.values()][:48]
 
 def test_progress_is_said_while_the_list_comes(reader, museum):
@@ -159,8 +156,7 @@ def test_long_catalogue_is_read(reader):
     assert (shown["status"], shown["disks"]) == (said(1, 100_000), ["Disk 1"])
     assert reader.texts(".matches li")[5] == "and 99,995 more files"
 
-def test_name_stands_as_the_machine_showed_it(reader):
-    """The printed form is beside the file where that is another."""
+def test_name_stands_as_the_machine_showed_it_and_as_it_is_printed_beside_the_file(reader):
     assert [reader.go(disk)["rows"][1][0] for disk in "13"] == ["NOTES 1", "SPRITES 1"]
     assert reader.go("3/1")["title"] == "SPRITES 1, Disk 3 – The reading room"
     assert "%D3%D0%D2%C9%D4%C5%D3 1" in reader.texts("dd")

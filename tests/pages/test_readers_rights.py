@@ -94,8 +94,7 @@ def test_file_that_was_opened_in_between_is_not_shown(museum, reader):
     assert reader.go("1001/0")["refusal"] == ["What you may see has just changed. Try again."]
     assert reader.load()["heading"] == "WELCOME.TXT"
 
-def test_key_that_is_unknown_lets_go_on_without_one(reader):
-    """And another key fetches the list of all files anew."""
+def test_key_that_is_unknown_lets_go_on_without_one_and_each_key_has_its_own_list_of_files(reader):
     assert reader.find("welcome")["disks"] == ["Disk 1001"]
     assert reader.give(STAFF)["disks"] == ["Disk 1001", "Disk 1004"]
     shown = reader.give(NOBODY)

@@ -80,7 +80,7 @@ def test_names_of_files_harm_no_machine_and_differ(reader):
     different = "return import('/safe.js').then(({ different }) => different(arguments[0]))"
     assert reader.script(different, ["A.PRG", "a.prg", "A.PRG", "B"]) == ["A.PRG", "a (2).prg", "A (3).PRG", "B"]
 
-BASIC = program((10, b'\x99 "HELLO"'), (20, b"\x89 10"))
+BASIC = program((10, b'\x99 "HELLO"'), (20, b"\x89 10"), rest=b"\xa9\0")
 STAR, GRAPHIC = b"Th\xe5 last\x8d\nword\xf3.\r\n\x1a" + bytes(100), b"\x93\xb0\xc0\xae\r\xdd \xdd\r\xc8ELLO"
 DATA = bytes(range(256)) * 200
 WELCOME = model_disks.read("cpm8", bytes_of("images", "welcome.img")).files[0].data
@@ -96,6 +96,7 @@ def museum(museum):
     """Disk 2001 has a program, texts and harmful names, 2002 a text of WordStar."""
     museums.put_files(museum, 2001, "d64", 9, FILES)
     museums.put_files(museum, 2002, "cpm8", 9, [("LETTER.TXT", "TXT", STAR)])
+    museum.disks.disks[b"made:2002"].files[0].fields["user"] = "3"
     return museum
 
 def hexed(data, width=16):
@@ -108,7 +109,8 @@ def hexed(data, width=16):
 SHOWN = {
     "1001/0": ("WELCOME.TXT", "Shown as text.", WELCOME.partition(b"\x1a")[0].decode().replace("\r\n", "\n"),
                "WELCOME.TXT", WELCOME),
-    "2001/0": ("HELLO", "Shown as a listing of BASIC.", '10 PRINT "HELLO"\n20 GOTO 10\n', "HELLO.prg", BASIC),
+    "2001/0": ("HELLO", "Shown as a listing of BASIC, without the 2 bytes after it.",
+               '10 PRINT "HELLO"\n20 GOTO 10\n', "HELLO.prg", BASIC),
     "2001/1": ("LETTER", "Shown as it came on the screen of a C64.", "", "LETTER.seq", GRAPHIC),
     "2002/0": ("LETTER.TXT", "Shown as text of WordStar, without its marks for print.", "The last\nwords.\n",
                "LETTER.TXT", STAR),
@@ -163,8 +165,7 @@ def letters(data, x, y):
 DRAWN = {"a Koala picture": (0x6000, 10001, koala), "a plain bitmap": (0x2000, 8000, lambda *at: art(*at, None)),
          "an Advanced Art Studio picture": (0x2000, 10016, lambda *at: koala(*at, 9016, 9001)),
          "an Art Studio picture": (0x2000, 9009, art),
-         "a Doodle picture": (0x5C00, 9216, lambda *at: art(*at, 0, 1024)),
-         "a set of signs": (0x3800, 1024, letters)}
+         "a Doodle picture": (0x5C00, 9216, lambda *at: art(*at, 0, 1024)), "a set of signs": (0x3800, 1024, letters)}
 DECODE = """return import("/pictures.js").then(({ pictureIn }) => {
   const { words, make } = pictureIn(Uint8Array.from(arguments[0]));
   const { width, inks } = make();
@@ -196,24 +197,21 @@ const dots = (canvas) => {
   const [margin, tall] = canvas.width === 352 ? [16, 1] : [12, 2];
   const { data } = canvas.getContext("2d").getImageData(margin, margin, 320, 128 * tall);
   const dots = new Uint32Array(data.buffer).filter((_, at) => Math.floor(at / 320) % tall === 0);
-  const inks = [...new Set(dots)];
-  return Array.from(dots, (dot) => inks.indexOf(dot)).join("");
+  return dots.map((dot) => dots.indexOf(dot)).join();
 };
 return import("/screen.js").then(({ canvasOf, directoryScreen, textScreen }) =>
   dots(directoryScreen(disk, false, 1)) === dots(canvasOf(textScreen(Uint8Array.from(text)), 1)));"""
 # By a kind of disk: files, and the text that its screen is like: light blue (9A hex), grey (98) where there is no size.
-DIRECTORIES = {
-    "d64": ([("LOADER", "PRG", 509), ("A%D3B", "SEQ", None), ("X", "USR", None, None, ["not-closed"])],
-            b'\x9a\rLOAD"$",8\r\rSEARCHING FOR $\rLOADING\rREADY.\rLIST\r\r0 \x12"DISK 7          " MU 2A\x92\r'
-            b'3    "LOADER"           PRG\r\x98     "A\xd3B"              SEQ\r     "X"               *USR\r'
-            b"\x9aREADY.\r\x12 "),
-    "cpm8": ([("PIP.COM", "COM", 128, 0), ("NOTES.TXT", "TXT", 128, 3), ("ED.COM", "COM", None, 0)],
-             b"\x9aA>DIR\rA: PIP      COM : \x98ED       COM\r\x9aA>USER 3\rA>DIR\rA: NOTES    TXT\rA>\x12 "),
-}
+DIRECTORIES = [
+    ("d64", [("LOADER", "PRG", 509), ("A%D3B", "SEQ", None), ("X", "USR", None, None, ["not-closed"])],
+     b'\x9a\rLOAD"$",8\r\rSEARCHING FOR $\rLOADING\rREADY.\rLIST\r\r0 \x12"DISK 7          " MU 2A\x92\r'
+     b'3    "LOADER"           PRG\r\x98     "A\xd3B"              SEQ\r     "X"               *USR\r'
+     b"\x9aREADY.\r\x12 "),
+    ("cpm8", [("PIP.COM", "COM", 128, 0), ("NOTES.TXT", "TXT", 128, 3), ("ED.COM", "COM", None, 0)],
+     b"\x9aA>DIR\rA: PIP      COM : \x98ED       COM\r\x9aA>USER 3\rA>DIR\rA: NOTES    TXT\rA>\x12 ")]
 
-@pytest.mark.parametrize("kind", DIRECTORIES)
-def test_directory_stands_on_the_screen_of_its_machine(reader, kind):
-    files, text = DIRECTORIES[kind]
+@pytest.mark.parametrize("kind, files, text", DIRECTORIES, ids=["C64", "CP/M"])
+def test_directory_stands_on_the_screen_of_its_machine(reader, kind, files, text):
     files = [dict(zip(("name", "type", "size", "user", "faults"), file), effect="read") for file in files]
     assert reader.script(ALIKE, {"kind": kind, "accession": 7, "files": files}, list(text))
 
@@ -225,12 +223,11 @@ def test_file_says_what_is_known_of_it_and_how_to_cite_it(reader):
         "Load address": "$0801 (2049)", "SHA-256": digest(BASIC), "Open by": "rule 20 of deed 9 (R9.20)",
     }
     of = f", file “HELLO” (slot 0, PRG, {len(BASIC)} bytes, SHA-256 {digest(BASIC)})"
-    address, cited = f"{reader.door.address}#/", "The reading room: “Disk 2001”%s. %s (read on 15 June 2026)."
-    for place, name, text in (("2001", "Cite", cited % ("", f"{address}2001")),
-                              ("2001/0", "Copy link", f"{address}2001/0"),
-                              ("2001/0", "Cite", cited % (of, f"{address}2001/0"))):
+    cite = lambda more: f"The reading room: “Disk 2001”{more}. %s (read on 15 June 2026)."
+    for place, name, words in (("2001", "Cite", cite("")), ("2001/0", "Copy link", "%s"), ("2001/0", "Cite", cite(of))):
         reader.go(place)
         reader.push(name)
+        text = words % f"{reader.door.address}#/{place}"
         wait_for(text, lambda: reader.text(".copied").partition(": ")[2] == text)
     reader.named("link", "LETTER\u00a0→").click()
     assert reader.read(lambda state: state["heading"] == "LETTER")["here"] == "#/2001/1"
@@ -238,6 +235,7 @@ def test_file_says_what_is_known_of_it_and_how_to_cite_it(reader):
 def test_disk_with_most_files_and_a_picture_is_found_and_short_on_a_phone_beside_its_figure(museum, reader):
     museums.put_files(museum, 2003, "d64", 9, [(f"FILE {n}", "PRG", bytes(10003 - n)) for n in range(11)])
     reader.load()
+    assert reader.go("2002")["rows"] == [["LETTER.TXT", "TXT text", str(len(STAR)), "user 3", "Read it"]]
     assert reader.go("?type=picture")["matches"] == ["FILE 0"]
     assert reader.go("?sort=files")["disks"][:2] == ["Disk 2003", "Disk 2001"]
     reader.go("2003")

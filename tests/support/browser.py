@@ -33,7 +33,7 @@ const sure = document.getElementById("sure");
 return {
   busy: document.querySelector("[aria-busy=true]") !== null, focus: document.activeElement.className,
   heading: texts(document, "h1")[0], title: document.title, status: texts(document, "#status").join(""),
-  here: location.hash, caller: texts(document, "#caller")[0], refusal: texts(document, ".refused p"),
+  here: location.hash, caller: texts(document, ":not([open]) > #caller")[0], refusal: texts(document, ".refused p"),
   result: texts(open, ".result p, .result dd, .result li"), hint: texts(open, ".hint")[0] ?? "",
   stands: texts(open, ".stands > p"), rows: rows(":is(.stands, #view) tbody tr:not(.space)"),
   disks: texts(open, ".disk-title"), matches: texts(open, ".matches a"), chips: texts(open, ".chip"),
