@@ -38,6 +38,7 @@ begins() {
 for service in "$@"; do
     case $1-$service in
     start-desk) begins ;; stop-desk) ends ;; restart-desk) ends; begins ;; status-desk) answers ;;
+    restart-desk-staff) nginx -c /etc/desk/staff-nginx.conf ;; status-desk-staff) ss -ltn | grep -q :8043 ;;
     restart-nginx) nginx ;; reload-nginx) nginx -s reload 2>/dev/null || echo failed ;; status-nginx) nginx -t -q ;;
     esac
 done

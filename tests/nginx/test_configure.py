@@ -50,9 +50,9 @@ def test_bad_places_are_named_and_nothing_is_written(configured, line):
     status, errors, folder = configured(line)
     assert (status, errors, list(folder.iterdir())) == (1, f"configure: {BAD_PLACES[line]}\n", [])
 
-def test_good_places_make_two_files(configured):
+def test_good_places_make_three_files(configured):
     status, errors, folder = configured("ZONE=UTC0")
-    assert (status, errors, sorted(os.listdir(folder))) == (0, "", ["desk.service", "nginx.conf"])
+    assert (status, errors, sorted(os.listdir(folder))) == (0, "", ["desk.service", "nginx.conf", "staff-nginx.conf"])
 
 @pytest.mark.parametrize("rule", [*RULES, *OFFSETS.values(), *NO_RULES, "UTC 0", "UTC0 ", ""])
 def test_configure_takes_the_rules_of_clocks_that_the_desk_takes(configured, room, rule):

@@ -126,7 +126,8 @@ def send(room, numbers, done, is_over):
 @pytest.mark.parametrize("kills", [10, pytest.param(200, marks=pytest.mark.long)])
 def test_what_was_told_done_has_begun_in_the_journal(room, seed, kills):
     chance, is_over, done, journal = random.Random(seed), threading.Event(), set(), room.folder / "journal"
-    start, workers = journal.stat().st_size, pathlib.Path(f"/proc/{room.nginx.pid}/task/{room.nginx.pid}/children")
+    start, pid = journal.stat().st_size, room.nginx[-1].pid
+    workers = pathlib.Path(f"/proc/{pid}/task/{pid}/children")
     with concurrent.futures.ThreadPoolExecutor(2) as pool, contextlib.ExitStack() as stack:
         stack.callback(is_over.set)
         streams = [pool.submit(send, room, range(first, 2 * first), done, is_over) for first in (10_000, 500_000)]

@@ -56,7 +56,29 @@ def comes(door, path, status):
         time.sleep(0.2)
     return False
 
-@pytest.mark.parametrize("path, most, same, other", [(FILE, 20, FILE, None), ("/images", 1, "/catalogue", FILE)])
+def status_within(connection, seconds):
+    """The status that comes within so many seconds; None where none does."""
+    connection.settimeout(seconds)
+    with contextlib.suppress(TimeoutError):
+        return int(connection.recv(65536)[9:12])
+
+@pytest.mark.parametrize("path, of_one, of_all", [("/catalogue", 1, 2), ("/images/15", 2, 3), (FILE, 20, 40)])
+def test_desk_has_so_many_visits_at_a_time_and_no_address_takes_them_all(room, outside, path, of_one, of_all):
+    asked = f"HEAD {path} HTTP/1.0\r\nHost: localhost\r\n\r\n".encode()
+    with contextlib.ExitStack() as stack:
+        doors = [type(outside)(room, "outside") for _ in range(of_all // of_one + 1)]
+        came = [stack.enter_context(door.connected()) for door in doors for _ in range(of_one)][: of_all + 1]
+        with room.desk_stalled():
+            for connection in came[:-1]:
+                connection.sendall(asked)
+            early = [status_within(connection, 1 / of_all) for connection in came[:-1]]
+            came[-1].sendall(asked)
+            assert (early, status_within(came[-1], 5)) == ([None] * of_all, 429), "under way at the desk"
+        assert [status_within(connection, LIMIT) for connection in came[:-1]] == [200] * of_all
+
+@pytest.mark.parametrize("path, most, same, other", [
+    (FILE, 20, FILE, None), ("/images", 1, "/catalogue", FILE), ("/images/15", 2, "/images/15", FILE),
+])
 def test_address_has_a_number_of_requests_at_a_time(outside, path, most, same, other):
     with unfinished(outside, path, most - 1):
         assert outside.get(same).status == 200

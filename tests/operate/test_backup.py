@@ -222,12 +222,13 @@ def test_file_that_is_not_the_desks_is_not_copied(house, name, plant, words):
     assert came == (1, "", f"desk-backup: {path}: {words}\n")
     assert house.backups() == house.leftovers() == []
 
-@pytest.mark.parametrize("unit, most", [("desk", 0.5), ("desk-backup", 2.7), ("desk-space", 3.1), ("desk-check", 3.6)])
-def test_unit_has_few_rights(unit, most):
+@pytest.mark.parametrize("unit", sorted(UNIT.parent.glob("*.service")), ids=lambda unit: unit.stem)
+def test_unit_has_few_rights(unit):
     """By what systemd itself says of it, from 0 for none to 10."""
-    words = ["systemd-analyze", "security", "--offline=true", "--no-pager", UNIT.with_name(f"{unit}.service")]
+    words = ["systemd-analyze", "security", "--offline=true", "--no-pager", unit]
     said = subprocess.run(words, stdout=subprocess.PIPE, stderr=subprocess.STDOUT, text=True, timeout=60).stdout
-    assert float(re.search(r"Overall exposure level for \S+: ([0-9.]+)", said)[1]) < most, said
+    exposure = float(re.search(r"Overall exposure level for \S+: ([0-9.]+)", said)[1])
+    assert exposure < (1 if unit.stem == "desk" else 4), said
 
 def test_backup_and_restore_work_with_the_rights_of_the_unit_and_the_desks_own_user(house, tmp_path):
     """The folder of the store belongs to a user desk, as by the package; the unit leaves root few rights."""

@@ -42,7 +42,7 @@ class Room(contextlib.AbstractContextManager):
     socket, which nginx's group may use."""
 
     def __init__(self, program):
-        self.program, self.desk, self.nginx = program, None, None
+        self.program, self.desk, self.nginx = program, None, []
         self.folder = pathlib.Path(tempfile.mkdtemp(prefix="reading-room-"))
         # nginx gives up the rights of root, and then still has to read the page
         self.folder.chmod(0o755)
@@ -53,9 +53,9 @@ class Room(contextlib.AbstractContextManager):
 
     def __exit__(self, *_):
         self.stop_desk()
-        if self.nginx:
-            self.nginx.terminate()
-            self.nginx.wait(timeout=LIMIT)
+        for process in self.nginx:
+            process.terminate()
+            process.wait(timeout=LIMIT)
         shutil.rmtree(self.folder, ignore_errors=True)
 
     def run(self, *words):
@@ -150,13 +150,15 @@ class Room(contextlib.AbstractContextManager):
         subprocess.run([CONFIGURE, self.write_places(self.folder / "places"), self.folder], check=True)
 
     def start_nginx(self):
+        """Starts the nginx of readers and that of the staff."""
         if not (self.folder / "nginx.conf").exists():
             self.configure()
-        words = [NGINX, "-p", self.folder, "-c", self.folder / "nginx.conf", "-g", "daemon off;"]
-        # what it cannot do at its start stands among the captured errors
-        self.nginx = subprocess.Popen(words, stdin=subprocess.DEVNULL)
+        for conf in sorted(self.folder.glob("*nginx.conf")):
+            words = [NGINX, "-p", self.folder, "-c", conf, "-g", "daemon off;"]
+            # what it cannot do at its start stands among the captured errors
+            self.nginx.append(subprocess.Popen(words, stdin=subprocess.DEVNULL))
         for port in (self.http_port, self.https_port, self.staff_port):
-            wait_for(port, self.nginx)
+            wait_for(port, self.nginx[0 if port != self.staff_port else -1])
 
     def trusting(self):
         """A context of TLS that trusts the room's certificate and no other."""
