@@ -24,7 +24,6 @@ TITLE = "grep -o '<title>.*</title>'"
 # How many bytes of each page of a store are left alone: eight for the sum, or none.
 SUMS = f"od -An -tu1 -j 20 -N 1 {STORE} | tr -d ' '"
 HEALTHY = f"for _ in $(seq 300); do {VISIT}/health -f -o /dev/null && break; sleep 0.1; done; {VISIT}/health"
-FAILED = "for _ in $(seq 500); do systemctl is-failed --quiet desk && break; sleep 0.1; done; systemctl is-active desk"
 # What waits until no process of nginx has a journal open that was rotated away.
 IS_SHUT = ("for _ in $(seq 300); do find /proc/[0-9]*/fd -lname '/var/log/desk/journal-*' 2>/dev/null | grep -q . || "
            "break; sleep 0.1; done")
@@ -64,8 +63,10 @@ def machine(packages):
 
 TAKEDOWN = (f"{VISIT}/images/13/files/2", '{"error":"denied","rule":"T13.1"}')
 INSTALLED = [
-    ("systemctl is-active desk nginx desk-space desk-backup.timer desk-check.timer desk-look.timer; "
-     "systemctl is-enabled desk desk-backup.timer", "\n".join(["active"] * 6 + ["enabled"] * 2)),
+    ("systemctl is-active desk nginx desk-staff desk-space desk-backup.timer desk-check.timer desk-look.timer; "
+     "systemctl is-enabled desk desk-backup.timer", "\n".join(["active"] * 7 + ["enabled"] * 2)),
+    # nobody knows whether a network sets the clock of the machine that boots it
+    ("echo CLOCK=alone >>/etc/desk/places; systemctl show -P WatchdogTimestamp desk | grep -c .", "1"),
     (f"{VISIT}/ | {TITLE}", "<title>The reading room</title>"), (SUMS, "8"),
     (f"curl -s {DOOR}/ | {TITLE}", "<title>The staff's page</title>"),
     ("runuser -u nobody -- curl -s --unix-socket /run/desk/socket http://x/; echo $?", "7"),
@@ -103,8 +104,8 @@ DAY = [
 # A bit of the store flips, and the desk does not start again, until the backup is restored.
 FLIPPED = [
     (f"byte=$(od -An -tu1 -j 22528 -N 1 {STORE}); printf \"\\\\x$(printf %02x $((byte ^ 1)))\" | "
-     f"dd of={STORE} bs=1 seek=22528 conv=notrunc status=none; systemctl restart desk 2>/dev/null; echo $?; {FAILED}",
-     "1\nfailed"),
+     f"dd of={STORE} bs=1 seek=22528 conv=notrunc status=none; systemctl restart desk 2>/dev/null; echo $?; "
+     "systemctl is-active desk", "1\nactivating"),
     (f"desk-restore {NEWEST} >/root/restored; echo $?; {HEALTHY}; {SUMS}", f"0\n{DONE}8"), TAKEDOWN,
 ]
 OUT = [
@@ -113,13 +114,22 @@ OUT = [
      "2>/dev/null; sha256sum -c --quiet /root/key; echo $?", "1\n0"),
     ("mv /root/out/* /var/lib/desk; systemctl start desk; echo $?", "0"), TAKEDOWN,
 ]
+# A disk was checked on a later day, so that the clock is behind; after many starts it is right.
+BEHIND = [
+    (f"""cd /var/lib/desk; systemctl stop desk; mkdir right; cp -p museum.sqlite* right
+     runuser -u desk -- desk check --store {STORE} --acc 13 --at $(date -d '3 days' +%s) --key \\
+         $(sed 's/^Desk-Key: //' /etc/desk/staff-key); systemctl start desk 2>/dev/null; echo $?
+     for _ in $(seq 1800); do [ $(systemctl show -P NRestarts desk) -lt 11 ] || break; sleep 0.1; done
+     until [ $(systemctl show -P SubState desk) != start-post ]; do sleep 0.1; done
+     mv right/* .; rmdir right; {HEALTHY}""", f"13 sound\n1\n{DONE}"),
+]
 ALARM = [
-    ("printf '#!/bin/sh\\n{ echo $*; cat; } >/root/mail\\n' >/usr/sbin/sendmail; chmod +x /usr/sbin/sendmail; "
+    ("printf '#!/bin/sh\\n{ echo $*; cat; } >/srv/mail\\n' >/usr/sbin/sendmail; chmod +x /usr/sbin/sendmail; "
      "echo ALARM=anna@museum.example >>/etc/desk/places; systemctl stop desk; systemctl start desk-look 2>/dev/null; "
-     "for _ in $(seq 100); do grep -qs 'does not answer' /root/mail && break; sleep 0.1; done; "
-     "sed -n '1,2p; s/.*\\(the desk does not answer\\).*/\\1/p' /root/mail",
-     "-t\nTo: anna@museum.example\nthe desk does not answer"),
-    ("rm /root/mail; systemctl start desk-look; echo $?; ls /root/mail 2>/dev/null; systemctl start desk", "0"),
+     "for _ in $(seq 100); do grep -qs 'does not answer' /srv/mail && break; sleep 0.1; done; "
+     "sed -n '1,2p; s/.*\\(the desk does not answer\\).*/\\1/p' /srv/mail; desk-alarm --test; echo $?",
+     "-t\nTo: anna@museum.example\nthe desk does not answer\n0"),
+    ("rm /srv/mail; systemctl start desk-look; echo $?; ls /srv/mail 2>/dev/null; systemctl start desk", "0"),
 ]
 CHANGED = [
     ("sed -i 's|^ZONE=.*|ZONE=CET-1CEST,M3.5.0,M10.5.0/3|' /etc/desk/places; systemctl restart desk; echo $?", "0"),
@@ -140,7 +150,7 @@ def test_life_of_a_museums_machine(machine, packages):
     _, package = packages
     install(machine, package)
     see(machine, *INSTALLED)
-    for cases in (DAY, FLIPPED, OUT, ALARM, CHANGED):
+    for cases in (DAY, FLIPPED, OUT, BEHIND, ALARM, CHANGED):
         see(machine, *cases)
     machine.halt()
     machine.boot()
@@ -172,4 +182,6 @@ def test_upgrade_keeps_the_store_and_what_is_the_museums_own(machine, packages):
         ("nginx -t 2>&1 | tail -n 1 | grep -c successful; systemctl is-active desk-space", "1\nactive"),
         # (a version that kept no mark of the journal in its backups wants this word)
         (f"desk-restore --without-journal {NEWEST} >/root/restored; echo $?; grep -c '^only' /root/restored", "0\n0"),
-        *STANDS, (f"{STAFF} -X DELETE {DOOR}/images/13/rules/1", DONE), ("desk-look; echo $?", "0"))
+        *STANDS, (f"{STAFF} -X DELETE {DOOR}/images/13/rules/1", DONE),
+        ("echo CLOCK=alone >>/etc/desk/places; desk-look; echo $?",
+         f"the store has no sums, which BY-HAND gives it: {STORE}\n1"))

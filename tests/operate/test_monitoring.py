@@ -1,17 +1,26 @@
 """Whether operate/desk-look finds what is not well on a museum's machine, and whether operate/desk-alarm reports it."""
 
+import http.server
 import json
 import os
 import re
+import shutil
+import signal
+import socket
 import subprocess
+import threading
 import time
 
 import pytest
 from support.room import OPERATE, Room
 from support.samples import STAFF
-from support.server import LIMIT
+from support.server import HOST, LIMIT
 
 DOWN = 1, "the desk does not answer: nginx says 503\n", ""
+# Where no mail program is.
+PATH = "/usr/bin:/bin"
+UNITS = "nginx.service desk-staff.service desk-space.service desk-backup.timer desk-check.timer desk-look.timer".split()
+RUN = "".join(f"{unit} loaded active running\n" for unit in UNITS)
 
 def run(tool, *words, before=(), **settings):
     """How a tool ends: its status, and what it writes."""
@@ -20,44 +29,101 @@ def run(tool, *words, before=(), **settings):
     ran = subprocess.run(words, capture_output=True, text=True, stdin=subprocess.DEVNULL, timeout=LIMIT, env=where)
     return ran.returncode, ran.stdout, ran.stderr
 
+def make_script(path, words):
+    path.write_text(f"#!/bin/sh\n{words}\n")
+    path.chmod(0o755)
+
 @pytest.fixture(scope="module")
 def room(program):
-    """A machine that is just well: with a desk, nginx, desk-space, a certificate of 15 days, a backup of 47 hours ago.
-    Beside it lie a certificate of 13 days, a backup of 49 hours ago, a store of more bytes than any disk has free."""
+    """A machine that is just well: with a desk, both doors, desk-space, a certificate of 15 days, a backup of 47 hours
+    ago. Beside it lie a certificate of 13 days, other backups, a store of more bytes than any disk has free, and one
+    without sums. What systemd says of units and of the clock, and openssl of a certificate, is in files."""
     with Room(program) as made:
-        made.run("init", "--sums", "--store", str(made.store), "--key", STAFF)
+        for name, words in {"large": ["--sums"], "plain": [], "museum": ["--sums"]}.items():
+            made.run("init", *words, "--store", f"{made.folder}/{name}.sqlite", "--key", STAFF)
+        os.truncate(made.folder / "large.sqlite", 1 << 43)
         made.start_desk()
+        made.configure()
+        for name, days in (("13", 13), ("site", 15)):
+            words = f"openssl req -x509 -newkey rsa:2048 -nodes -subj /CN=x -days {days}".split()
+            words += ["-keyout", made.folder / f"{name}.key", "-out", made.folder / f"{name}.crt"]
+            subprocess.run(words, check=True, capture_output=True)
         made.start_nginx()
-        for days in (13, 15):
-            words = f"openssl req -x509 -newkey rsa:2048 -nodes -keyout /dev/null -subj /CN=x -days {days} -out".split()
-            subprocess.run([*words, made.folder / f"{days}.crt"], check=True, capture_output=True)
-        for folder, hours in (("backups", 47), ("old", 49)):
+        for folder, hours in (("backups", 47), ("old", 49), ("ahead", 47), ("ahead", -24)):
             moment = time.strftime("%Y-%m-%dT%H%M%SZ", time.gmtime(time.time() - 3600 * hours))
             (made.folder / folder / moment).mkdir(parents=True)
-        with open(made.folder / "large.sqlite", "wb") as file:
-            file.truncate(1 << 43)
+        (made.folder / "bin").mkdir()
+        for name, words in {"systemctl": "cat units", "timedatectl": "cat clock",
+                            "openssl": f'cat dates 2>/dev/null || exec {shutil.which("openssl")} "$@"'}.items():
+            make_script(made.folder / "bin" / name, f"cd {made.folder}; {words}")
+        (made.folder / "units").write_text(RUN)
+        (made.folder / "clock").write_text("yes\n")
         with made.asked_for_space():
             yield made
 
 def look(room, *words, before=(), **values):
     """Looks at the room, by places of which some have other values."""
-    places = room.write_places(room.folder / "looked-at", **{"CERTIFICATE": room.folder / "15.crt", **values})
-    return run("desk-look", *words, places, before=before)
+    places = room.write_places(room.folder / "looked-at", **values)
+    return run("desk-look", *words, places, before=before, PATH=f"{room.folder}/bin:{PATH}")
 
 @pytest.mark.parametrize("name, value, words", [
     ("CERTIFICATE", "{}/none", r"the certificate cannot be read: .*/none\n"),
-    ("CERTIFICATE", "{}/13.crt", r"the certificate ends on .* GMT\n"),
+    ("CERTIFICATE_KEY", "{}/13.key", r"the certificate does not fit its key, .*\n"),
+    ("CERTIFICATE", "{}/13.crt", r"(the certificate .*\n){2}nginx serves another certificate than .*\n"),
+    ("HTTPS_PORT", "1", r"nobody answers readers at the port of HTTPS: .*\n"),
     ("BACKUPS", "{}/none", r"there is no backup in .*/none\n"),
     ("BACKUPS", "{}/old", r"the latest backup is that of [0-9TZ-]+\n"),
+    ("BACKUPS", "{}/ahead", r"the clock is behind the backup of [0-9TZ-]+, or was ahead when that was made\n"),
     ("JOURNAL", "{}/none", r"there is no journal: .*/none\n"),
     ("SPACE", "{}/none", r"desk-space gives no reply: .*\n"),
     ("STORE", "{}/large.sqlite", r"(.* has [0-9]+ MiB free; it needs [0-9]+\n){2}"),
+    ("STORE", "{}/plain.sqlite", r"the store has no sums, which BY-HAND gives it: .*\n"),
     ("STAFF_PORT", "1", r"nginx gives no reply: .*Connection refused\n"),
+    ("ALARM", "anna@museum.example", r"ALARM is an address, and there is no mail program, .*\n"),
+    ("ALARM", "{}/none", r"ALARM is no program: .*/none\n"),
+    ("PING", "http://127.0.0.1:1/", r"PING gives no reply: .*\n"),
+    ("METRICS", "{}/none/metrics", r"METRICS cannot be written: .*\n"),
 ])
 def test_what_is_missing_old_or_full_is_named(room, name, value, words):
     assert look(room) == (0, "", "")
     status, out, errors = look(room, **{name: value.format(room.folder)})
     assert re.fullmatch(words, out) and (status, errors) == (1, ""), out
+
+@pytest.mark.parametrize("name, said, words", [
+    ("clock", "no\n", "the clock is not set by the network: type timedatectl\n"),
+    ("dates", "notBefore=Jan  1 00:00:00 2999 GMT\nnotAfter=Feb  1 00:00:00 2999 GMT\n",
+     "the clock is behind: the certificate begins on Jan  1 00:00:00 2999 GMT\n"),
+    *(("units", RUN.replace(f"{unit} loaded active", f"{unit} loaded inactive"),
+       f"{unit} does not run: type systemctl status {unit}\n") for unit in UNITS),
+    ("units", f"{RUN}desk-alarm@x.service loaded failed failed\ndesk-look.service loaded failed failed\n",
+     "desk-alarm@x.service has failed: type journalctl -u desk-alarm@x.service\n"),
+])
+def test_what_systemd_says_of_units_or_the_clock_is_named(room, name, said, words):
+    file = room.folder / name
+    before = file.read_text() if file.exists() else ""
+    file.write_text(said)
+    try:
+        assert look(room) == (1, words, "")
+        assert name != "clock" or look(room, CLOCK="alone") == (0, "", "")
+    finally:
+        file.write_text(before) if before else file.unlink()
+
+def test_look_that_finds_nothing_is_told_elsewhere(room):
+    """Somebody there notices where none comes. What it found is there for Prometheus, too."""
+    came, metrics = [], room.folder / "desk.prom"
+    class Elsewhere(http.server.BaseHTTPRequestHandler):
+        def do_GET(self):
+            came.append(self.path)
+            self.send_response(200)
+            self.end_headers()
+    with http.server.HTTPServer((HOST, 0), Elsewhere) as server:
+        threading.Thread(target=server.serve_forever, args=(0.02,), daemon=True).start()
+        told = {"PING": f"http://{HOST}:{server.server_port}/room", "METRICS": metrics}
+        for status, places in ((0, told), (1, {**told, "BACKUPS": room.folder / "old"})):
+            assert look(room, "--new", room.folder / "new", **places)[0] == status and came == ["/room"]
+            assert f'\ndesk_faults{{look="backup"}} {status}\n' in metrics.read_text()
+            subprocess.run(["promtool", "check", "metrics"], input=metrics.read_bytes(), check=True)
+        server.shutdown()
 
 @pytest.mark.parametrize("place", ["JOURNAL", "STORE"])
 @pytest.mark.parametrize("megabytes, is_named", [(200, True), (400, False)])
@@ -80,21 +146,54 @@ def test_fault_is_reported_once_a_day(room):
         path.write_text(json.dumps({name: moment - 24 * 3600 for name, moment in json.loads(path.read_text()).items()}))
         assert look(room, *new) == DOWN
 
+def test_systemd_is_told_that_the_desk_replies_and_not_while_it_stalls(room):
+    words = [os.path.join(OPERATE, "package", "watch"), room.place, "0.05"]
+    where = {"NOTIFY_SOCKET": str(room.folder / "notify"), "MAINPID": str(room.desk.pid)}
+    with socket.socket(socket.AF_UNIX, socket.SOCK_DGRAM) as told:
+        told.bind(where["NOTIFY_SOCKET"])
+        told.settimeout(LIMIT)
+        watch = subprocess.Popen(words, env=os.environ | where, start_new_session=True)
+        try:
+            assert watch.wait(timeout=LIMIT) == 0 and told.recv(99) == b"WATCHDOG=1"
+            with room.desk_stalled():
+                told.settimeout(2)
+                with pytest.raises(TimeoutError, match="timed out"):
+                    for _ in range(50):
+                        told.recv(99)
+            assert told.recv(99) == b"WATCHDOG=1"
+        finally:
+            os.killpg(watch.pid, signal.SIGKILL)
+    ended = subprocess.run([words[0], "/none", "1"], env=os.environ | {"MAINPID": "none"}, timeout=LIMIT)
+    assert ended.returncode == 1
+
 def test_words_that_are_none_are_refused():
-    for tool, words in {"desk-look": "[--new FILE] [PLACES]", "desk-space": "[PLACES]", "desk-alarm": "UNIT"}.items():
+    for tool, words in {"desk-look": "[--new FILE] [PLACES]", "desk-space": "[PLACES]",
+                        "desk-alarm": "UNIT, or desk-alarm --test"}.items():
         assert run(tool, "a", "b") == (2, "", f"usage: {tool} {words}\n")
 
-def test_alarm_goes_to_a_command_of_the_museum_or_says_that_nobody_gets_it(room, tmp_path):
-    for name, words in {
-        "journalctl": 'echo "the journal of $7"', "hostname": "echo museum",
-        "own": f'{{ echo "word $*"; cat; }} >"{tmp_path}/own.out"',
-    }.items():
-        (tmp_path / name).write_text(f"#!/bin/sh\n{words}\n")
-        (tmp_path / name).chmod(0o755)
-    path = f"{tmp_path}:{os.environ['PATH']}"
-    places = room.write_places(tmp_path / "places", ALARM=tmp_path / "own")
-    assert run("desk-alarm", "a.service", PATH=path, DESK_PLACES=places) == (0, "", "")
-    report = "word a.service\ndesk: a.service has failed on museum\n\nthe journal of a.service\n"
-    assert (tmp_path / "own.out").read_text() == report
-    status, _, errors = run("desk-alarm", "x", PATH=path, DESK_PLACES=room.write_places(places))
-    assert status == 0 and "names nobody to report it to" in errors
+NOBODY = "names nobody to report it to"
+
+@pytest.mark.parametrize("alarm, unit, status, words", [
+    ("own", "a.service", 0, ""), ("own", "--test", 0, ""), ("bad", "a.service", 1, "/bad has not taken the report"),
+    ("anna@museum.example", "a.service", 0, ""), ("bert@museum.example", "a.service", 1, "no mail went to bert@"),
+    (None, "a.service", 0, NOBODY), (None, "--test", 1, NOBODY),
+])
+def test_alarm_reports_by_a_command_or_by_mail_or_says_why_it_cannot(room, tmp_path, alarm, unit, status, words):
+    makes = f'{{ echo "word $*"; cat; }} >"{tmp_path}/report"'
+    for name, script in {"journalctl": 'echo "the journal of $7"', "hostname": "echo museum", "own": makes,
+                         "bad": "exit 3", "sendmail": f"{makes}; ! grep -q bert {tmp_path}/report"}.items():
+        make_script(tmp_path / name, script)
+    values = {"ALARM": alarm if alarm and "@" in alarm else tmp_path / alarm} if alarm else {}
+    places = room.write_places(tmp_path / "places", **values)
+    came, _, errors = run("desk-alarm", unit, PATH=f"{tmp_path}:{PATH}", DESK_PLACES=places)
+    assert came == status and words in errors and errors.count("\n") == (words != ""), errors
+    if status == 0 and alarm:
+        said = "a test" if unit == "--test" else f"{unit} has failed"
+        head = f"word {unit}\n" if alarm == "own" else f"word -t\nTo: {alarm}\nSubject: desk: {said} on museum\n\n"
+        tail = "" if unit == "--test" else f"the journal of {unit}\n"
+        assert (tmp_path / "report").read_text() == f"{head}desk: {said} on museum\n\n{tail}"
+
+def test_alarm_says_that_there_is_no_mail_program(room, tmp_path):
+    places = room.write_places(tmp_path / "places", ALARM="anna@museum.example")
+    status, _, errors = run("desk-alarm", "--test", PATH=PATH, DESK_PLACES=places)
+    assert status == 1 and "no mail program for anna@museum.example: install one, such as msmtp-mta\n" in errors
