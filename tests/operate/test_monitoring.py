@@ -1,6 +1,5 @@
 """Whether operate/desk-look finds what is not well on a museum's machine, and whether operate/desk-alarm reports it."""
 
-import http.server
 import json
 import os
 import re
@@ -8,13 +7,12 @@ import shutil
 import signal
 import socket
 import subprocess
-import threading
 import time
 
 import pytest
-from support.room import OPERATE, Room
+from support.room import OPERATE, Room, wait_until
 from support.samples import STAFF
-from support.server import HOST, LIMIT
+from support.server import LIMIT
 
 DOWN = 1, "the desk does not answer: nginx says 503\n", ""
 # Where no mail program is.
@@ -110,20 +108,13 @@ def test_what_systemd_says_of_units_or_the_clock_is_named(room, name, said, word
 
 def test_look_that_finds_nothing_is_told_elsewhere(room):
     """Somebody there notices where none comes. What it found is there for Prometheus, too."""
-    came, metrics = [], room.folder / "desk.prom"
-    class Elsewhere(http.server.BaseHTTPRequestHandler):
-        def do_GET(self):
-            came.append(self.path)
-            self.send_response(200)
-            self.end_headers()
-    with http.server.HTTPServer((HOST, 0), Elsewhere) as server:
-        threading.Thread(target=server.serve_forever, args=(0.02,), daemon=True).start()
-        told = {"PING": f"http://{HOST}:{server.server_port}/room", "METRICS": metrics}
-        for status, places in ((0, told), (1, {**told, "BACKUPS": room.folder / "old"})):
-            assert look(room, "--new", room.folder / "new", **places)[0] == status and came == ["/room"]
-            assert f'\ndesk_faults{{look="backup"}} {status}\n' in metrics.read_text()
-            subprocess.run(["promtool", "check", "metrics"], input=metrics.read_bytes(), check=True)
-        server.shutdown()
+    metrics, path = room.folder / "desk.prom", "/room.css?all-is-well"
+    told = {"PING": f"http://127.0.0.1:{room.staff_port}{path}", "METRICS": metrics}
+    for status, places in ((0, told), (1, {**told, "BACKUPS": room.folder / "old"})):
+        assert look(room, **places)[0] == status
+        assert f'\ndesk_faults{{look="backup"}} {status}\n' in metrics.read_text()
+        subprocess.run(["promtool", "check", "metrics"], input=metrics.read_bytes(), check=True)
+    wait_until(lambda: room.logs().count(path.encode()) == 1)
 
 @pytest.mark.parametrize("place", ["JOURNAL", "STORE"])
 @pytest.mark.parametrize("megabytes, is_named", [(200, True), (400, False)])
@@ -147,53 +138,45 @@ def test_fault_is_reported_once_a_day(room):
         assert look(room, *new) == DOWN
 
 def test_systemd_is_told_that_the_desk_replies_and_not_while_it_stalls(room):
-    words = [os.path.join(OPERATE, "package", "watch"), room.place, "0.05"]
-    where = {"NOTIFY_SOCKET": str(room.folder / "notify"), "MAINPID": str(room.desk.pid)}
+    words, where = [f"{OPERATE}/package/watch", room.place, "0.05"], {"NOTIFY_SOCKET": f"{room.folder}/notify"}
     with socket.socket(socket.AF_UNIX, socket.SOCK_DGRAM) as told:
         told.bind(where["NOTIFY_SOCKET"])
-        told.settimeout(LIMIT)
-        watch = subprocess.Popen(words, env=os.environ | where, start_new_session=True)
+        told.settimeout(5)
+        where |= {**os.environ, "MAINPID": str(room.desk.pid)}
+        watch = subprocess.Popen(words, env=where, start_new_session=True)
         try:
             assert watch.wait(timeout=LIMIT) == 0 and told.recv(99) == b"WATCHDOG=1"
-            with room.desk_stalled():
-                told.settimeout(2)
-                with pytest.raises(TimeoutError, match="timed out"):
-                    for _ in range(50):
-                        told.recv(99)
+            with room.desk_stalled(), pytest.raises(TimeoutError, match="timed out"):
+                for _ in range(50):
+                    told.recv(99)
             assert told.recv(99) == b"WATCHDOG=1"
         finally:
             os.killpg(watch.pid, signal.SIGKILL)
-    ended = subprocess.run([words[0], "/none", "1"], env=os.environ | {"MAINPID": "none"}, timeout=LIMIT)
-    assert ended.returncode == 1
+    assert subprocess.run([words[0], "/none", "1"], env=where | {"MAINPID": "none"}, timeout=LIMIT).returncode == 1
 
 def test_words_that_are_none_are_refused():
     for tool, words in {"desk-look": "[--new FILE] [PLACES]", "desk-space": "[PLACES]",
                         "desk-alarm": "UNIT, or desk-alarm --test"}.items():
         assert run(tool, "a", "b") == (2, "", f"usage: {tool} {words}\n")
 
-NOBODY = "names nobody to report it to"
+NOBODY, MAIL = "names nobody to report it to", "anna@museum.example"
 
 @pytest.mark.parametrize("alarm, unit, status, words", [
-    ("own", "a.service", 0, ""), ("own", "--test", 0, ""), ("bad", "a.service", 1, "/bad has not taken the report"),
-    ("anna@museum.example", "a.service", 0, ""), ("bert@museum.example", "a.service", 1, "no mail went to bert@"),
-    (None, "a.service", 0, NOBODY), (None, "--test", 1, NOBODY),
+    ("{}/own", "a.service", 0, ""), ("{}/own", "--test", 0, ""), (MAIL, "a.service", 0, ""), (MAIL, "--test", 0, ""),
+    ("{}/bad", "a.service", 1, "/bad has not taken the report"), ("b@x", "a.service", 1, "no mail went to b@x"),
+    (None, "a.service", 0, NOBODY), (None, "--test", 1, NOBODY), ("none", "--test", 1, "no mail program for none: "),
 ])
 def test_alarm_reports_by_a_command_or_by_mail_or_says_why_it_cannot(room, tmp_path, alarm, unit, status, words):
-    makes = f'{{ echo "word $*"; cat; }} >"{tmp_path}/report"'
-    for name, script in {"journalctl": 'echo "the journal of $7"', "hostname": "echo museum", "own": makes,
-                         "bad": "exit 3", "sendmail": f"{makes}; ! grep -q bert {tmp_path}/report"}.items():
-        make_script(tmp_path / name, script)
-    values = {"ALARM": alarm if alarm and "@" in alarm else tmp_path / alarm} if alarm else {}
-    places = room.write_places(tmp_path / "places", **values)
+    takes = f'{{ echo "word $*"; cat; }} >{tmp_path}/report'
+    for name, script in {"journalctl": 'echo "the journal of $7"', "hostname": "echo museum", "own": takes,
+                         "bad": "exit 3", "sendmail": f"{takes}; ! grep -q b@x {tmp_path}/report"}.items():
+        if (alarm, name) != ("none", "sendmail"):
+            make_script(tmp_path / name, script)
+    places = room.write_places(tmp_path / "places", **({"ALARM": alarm.format(tmp_path)} if alarm else {}))
     came, _, errors = run("desk-alarm", unit, PATH=f"{tmp_path}:{PATH}", DESK_PLACES=places)
-    assert came == status and words in errors and errors.count("\n") == (words != ""), errors
-    if status == 0 and alarm:
-        said = "a test" if unit == "--test" else f"{unit} has failed"
-        head = f"word {unit}\n" if alarm == "own" else f"word -t\nTo: {alarm}\nSubject: desk: {said} on museum\n\n"
-        tail = "" if unit == "--test" else f"the journal of {unit}\n"
-        assert (tmp_path / "report").read_text() == f"{head}desk: {said} on museum\n\n{tail}"
-
-def test_alarm_says_that_there_is_no_mail_program(room, tmp_path):
-    places = room.write_places(tmp_path / "places", ALARM="anna@museum.example")
-    status, _, errors = run("desk-alarm", "--test", PATH=PATH, DESK_PLACES=places)
-    assert status == 1 and "no mail program for anna@museum.example: install one, such as msmtp-mta\n" in errors
+    assert came == status and words in errors, errors
+    if not words:
+        report, due = (tmp_path / "report").read_text(), "the journal of a.service"
+        due = "desk: a test on museum" if unit == "--test" else f"desk: {unit} has failed on museum\n\n{due}"
+        assert report.startswith(f"word -t\nTo: {alarm}\nSubject: " if alarm == MAIL else f"word {unit}\n")
+        assert f"{due}\n" in report
