@@ -157,6 +157,13 @@ def do(program, folder, *words, given=""):
     return ran.stdout
 
 
+def systemctl(word):
+    """Has systemd do something to the desk's unit."""
+    ran = subprocess.run(["systemctl", word, UNIT], stdin=subprocess.DEVNULL, capture_output=True, text=True)
+    if ran.returncode:
+        raise Failed(f"systemctl {word} {UNIT}: {ran.stderr.strip()}")
+
+
 # Folders
 
 

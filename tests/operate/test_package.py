@@ -50,7 +50,7 @@ def test_package_has_each_file_starts_each_timer_and_reports_its_failure(package
     assert {path.name for path in due if path.read_bytes() not in held} == {"control", "desk.1"}
     script = (tmp_path / "DEBIAN" / "postinst").read_text()
     begun, units = re.search('(?m)^units="(.*)"$', script)[1].split(), [*tmp_path.glob("lib/systemd/system/*.timer")]
-    assert "/usr/bin/desk init --sums " in script and len(units) == 3
+    assert "desk-key first" in script and len(units) == 3
     for unit in units:
         assert unit.name in begun
         assert "\nOnFailure=desk-alarm@%n.service\n" in unit.with_suffix(".service").read_text(), unit.name
