@@ -2,7 +2,7 @@
 import { longTable } from "./lists.js";
 import { askObject, cell, counted, element, kindWords, numberOf, own, part, row } from "./shared.js";
 import { change, changed, formOf, held, readHeld, shownAnew, showsAnew, work } from "./staff.desk.js";
-import { sendMany } from "./staff.many.js";
+import { isDone, sendMany } from "./staff.many.js";
 import { limitFields } from "./staff.ruleform.js";
 import { buttonsCell } from "./staff.rules.js";
 import { dayAfter, today } from "./staff.words.js";
@@ -11,6 +11,7 @@ import { withTitle } from "./titles.js";
 // After how many days a disk is due to be checked again.
 const DAYS = 365;
 const DIRECTORIES = { end: "it ends well", loop: "it leads back into itself", off: "it leads off the disk" };
+const RESTORE = " Restore a backup of what is changed.";
 const OUTCOMES = {
   sound: "Sound: the disk still has the SHA-256 that came with it.",
   changed: "Changed: the disk no longer has the SHA-256 that came with it. Restore a backup.",
@@ -38,7 +39,8 @@ const survey = async (accession) => surveyed(await askObject(`/images/${accessio
 
 async function check(accession) {
   const { outcome } = await changed("POST", `/images/${accession}/check`);
-  return shownAnew("checks", `Disk ${accession}. ${OUTCOMES[outcome]}`);
+  const words = `Disk ${accession}. ${OUTCOMES[outcome]}`;
+  return shownAnew("checks", outcome === "changed" ? element("p", words, { className: "warning" }) : words);
 }
 
 // Checks all disks whose latest check is before a day, or that were never checked.
@@ -53,10 +55,26 @@ async function checkAll(before, tools) {
       item.found = (await changed("POST", `/images/${item.accession}/check`)).outcome;
     },
     after: showChecks,
+    said: checkedWords,
     heads: ["Disk", "Found"],
     cells: ({ accession, found }) => [String(accession), found],
   };
   return due.length ? sendMany(run, tools) : `There is no disk whose latest check is before ${before}.`;
+}
+
+// How many are sound, and which are changed.
+function foundWords(found) {
+  const changed = found.filter(({ outcome }) => outcome === "changed").map(({ accession }) => accession);
+  const sound = found.filter(({ outcome }) => outcome === "sound").length.toLocaleString("en");
+  const bad = changed.length ? `, ${changed.length.toLocaleString("en")} CHANGED: ${changed.join(", ")}` : "";
+  return { words: `${sound} sound${bad}`, isBad: changed.length > 0 };
+}
+
+// What a check of many has found. A changed disk is a warning.
+function checkedWords(items, rest) {
+  const { words, isBad } = foundWords(items.map(({ accession, found }) => ({ accession, outcome: found })));
+  const checked = `${counted(items.filter(isDone).length, "disk")} checked: ${words}.`;
+  return element("p", `${checked}${rest}${isBad ? RESTORE : ""}`, { className: isBad ? "warning summary" : "summary" });
 }
 
 function checkRow({ accession, day, outcome }) {
@@ -72,19 +90,20 @@ function checkRow({ accession, day, outcome }) {
   ]);
 }
 
+// What stands of all disks: the warning stays there as long as a disk is changed.
 function summary(checks) {
-  const changed = checks.filter((one) => one.outcome === "changed").map((one) => one.accession);
-  const never = checks.filter((one) => one.day === null).length;
-  const bad = changed.length ? ` Changed: ${changed.join(", ")}.` : " None is changed.";
-  return `${counted(checks.length, "disk")}, ${never.toLocaleString("en")} of them never checked.${bad}`;
+  const { words, isBad } = foundWords(checks);
+  const never = checks.filter((one) => one.day === null).length.toLocaleString("en");
+  const text = `${counted(checks.length, "disk")}: ${words}; ${never} never checked.${isBad ? RESTORE : ""}`;
+  return element("p", text, { className: isBad ? "warning" : "" });
 }
 
 // Reads the checks anew, and shows them.
 export async function showChecks() {
   const checks = await readHeld("checks");
   const made = longTable("latest checks", ["Disk", "Checked on", "Outcome", ""], held.checks, checkRow);
-  const words = checks.length ? summary(checks) : "There is no disk.";
-  part("checks").querySelector(".stands").replaceChildren(element("p", words), ...(checks.length ? [made] : []));
+  const words = checks.length ? summary(checks) : element("p", "There is no disk.");
+  part("checks").querySelector(".stands").replaceChildren(words, ...(checks.length ? [made] : []));
 }
 
 export function listenForChecks() {

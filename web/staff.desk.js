@@ -63,12 +63,28 @@ function whoFields() {
   return { "Desk-Staff": sentWords(name), "Desk-Note": sentWords(reason) };
 }
 
+export function whoNow() {
+  const { name, reason } = part("who").elements;
+  return { name: name.value.trim(), reason: reason.value.trim() };
+}
+
+// Whether the reason that stands there has gone out with a change that is done: the next change has one of its own.
+let isSpent = false;
+
+// What is not done yet keeps its reason.
+export function keepReason() {
+  isSpent = false;
+}
+
 // Changes
 
-export function changed(method, path, body) {
-  return askObject(path, { method, body, headers: { ...fields(), ...whoFields() } }).catch((fault) => {
+export async function changed(method, path, body) {
+  const headers = { ...fields(), ...whoFields() };
+  const said = await askObject(path, { method, body, headers }).catch((fault) => {
     throw fault instanceof Refused ? Object.assign(fault, { isOfChange: true }) : fault;
   });
+  isSpent = true;
+  return said;
 }
 
 export async function send(method, path, body) {
@@ -141,7 +157,9 @@ export async function work(name, doing) {
 // Work that changes something: only with a name and a reason. Where the button that was pressed is gone with its line,
 // the outcome gets the focus.
 export async function change(name, doing) {
+  isSpent = false;
   const done = hasWho() && (await work(name, doing));
+  if (done && isSpent) part("who").elements.reason.value = "";
   // a dialog that has just closed may still have the focus
   const at = document.activeElement;
   if (at === document.body || at.closest("dialog:not([open])")) part(name).querySelector(".result").focus();
@@ -164,10 +182,12 @@ function progressOf(name, stop) {
   };
 }
 
-// Asks once more: the words, more below them, and the buttons for yes and for no.
+// Asks once more: the words, who does it and why, more below them, and the buttons for yes and for no.
 export function sure({ words, more = [], go, keep }) {
   const dialog = part("sure");
+  const { name, reason } = whoNow();
   part("sure-words").textContent = words;
+  part("sure-who").textContent = `By ${name}. Reason: ${reason}`;
   part("sure-more").replaceChildren(...more);
   const [yes, no] = dialog.querySelectorAll("button");
   yes.textContent = go;

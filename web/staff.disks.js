@@ -1,10 +1,10 @@
 // Dumps of disks: chosen, described by their lengths and SHA-256, numbered by hand or by a sheet, and put.
-import { KINDS, Refused, cell, counted, digestOf, element, explainRefusal, kindWords } from "./shared.js";
+import { KINDS, Refused, box, cell, counted, digestOf, element, explainRefusal, kindWords } from "./shared.js";
 import { part, row, table } from "./shared.js";
-import { change, formOf, send, work } from "./staff.desk.js";
+import { change, dated, formOf, readHeld, send, sure, work } from "./staff.desk.js";
 import { isDone, sendMany } from "./staff.many.js";
 import { matchRows, rowProblem, rowsIn } from "./staff.sheet.js";
-import { LIMITS } from "./staff.words.js";
+import { LIMITS, listed, ruleWords } from "./staff.words.js";
 
 // The chosen dumps, and the rows of the sheet that came with them, or null.
 let dumps = [];
@@ -136,8 +136,28 @@ function sheetWords() {
 
 // Puts
 
+// Says of each deed what its disks come under, and asks. Gives the words where nothing is to be sent, else null.
+async function unagreed() {
+  const open = sendable().filter((dump) => !isDone(dump));
+  const deeds = new Map((await readHeld("deeds")).map((one) => [String(one.deed), one]));
+  const wanted = [...new Set(open.map(({ deed }) => deed.value))];
+  const unknown = wanted.filter((deed) => !deeds.has(deed));
+  if (unknown.length) return `Nothing is sent: there is no deed ${listed(unknown)}. Put it first.`;
+  const more = wanted.flatMap((deed) => deedParts(deeds.get(deed), open.filter((dump) => dump.deed.value === deed)));
+  const asked = { words: `Put ${counted(open.length, "disk")}?`, more, go: "Put them", keep: "Do not put them" };
+  return (await sure(asked)) ? null : "Nothing is sent.";
+}
+
+function deedParts({ deed, donor, signed, rules }, disks) {
+  const lines = rules.map((rule) => dated("li", `${rule.rank}: ${ruleWords(rule)}`));
+  const heading = dated("h3", `${counted(disks.length, "disk")} under deed ${deed}, of ${donor}, signed on ${signed}`);
+  return [heading, box("ul", "rules", ...(lines.length ? lines : [element("li", "No rule: nobody sees them.")]))];
+}
+
 // One after the other: a refusal stops no other dump, and the next press sends the refused one again.
-function putDumps(tools) {
+async function putDumps(tools) {
+  const words = await unagreed();
+  if (words !== null) return words;
   const run = {
     section: "disks",
     items: sendable(),

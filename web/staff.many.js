@@ -1,8 +1,8 @@
 // Many changes, one after the other: with progress, a report that can be saved, and a way to go on where the connection
 // was lost or the reader stopped.
 import { csvText } from "./csv.js";
-import { Refused, cell, counted, element, explainRefusal, part, refusalName, row, table } from "./shared.js";
-import { change, isUnsure, older } from "./staff.desk.js";
+import { Refused, cell, counted, element, explainRefusal, refusalName, row, table } from "./shared.js";
+import { change, isUnsure, keepReason, older, whoNow } from "./staff.desk.js";
 import { today } from "./staff.words.js";
 import { save } from "./stream.js";
 
@@ -28,6 +28,7 @@ export async function sendMany(run, { progress, signal }) {
   for (const [at, item] of left.entries()) {
     if (signal.aborted) break;
     progress("Sending", at, left.length);
+    item.who = whoNow();
     const fault = await run.one(item).then(
       () => null,
       (came) => came,
@@ -36,6 +37,7 @@ export async function sendMany(run, { progress, signal }) {
     run.shown?.(item);
     if (fault !== null && isLost(fault)) break;
   }
+  if (!run.items.every(isDone)) keepReason();
   let isOlder = false;
   await run.after?.().catch(() => {
     isOlder = true;
@@ -43,11 +45,13 @@ export async function sendMany(run, { progress, signal }) {
   return report(run, isOlder);
 }
 
-function summary({ items, word, verb }) {
+// How many are done, and, behind that or behind what the run says of them, how many are not.
+function summary({ items, word, verb, said }) {
   const done = items.filter(isDone).length;
   const open = items.filter((item) => !item.outcome).length;
-  const failed = items.length - done - open;
-  return `${counted(done, word)} ${verb}, ${failed} failed${open ? `, ${open} not sent yet` : ""}.`;
+  const rest = `${items.length - done - open} failed${open ? `, ${open} not sent yet` : ""}.`;
+  if (said) return said(items, done < items.length ? ` ${rest}` : "");
+  return element("p", `${counted(done, word)} ${verb}, ${rest}`, { className: "summary" });
 }
 
 // What became of the items: in short, those that failed, and buttons to go on and to save the report; and whether what
@@ -56,7 +60,7 @@ function report(run, isOlder) {
   const made = element("div", null);
   const failed = run.items.filter((item) => item.outcome && !isDone(item));
   const isWhole = run.items.every(isDone);
-  made.append(element("p", summary(run), { className: "summary" }));
+  made.append(summary(run));
   if (failed.length && !run.shown) made.append(failedTable(run, failed));
   const buttons = element("p", null, { className: "choices" });
   const goOn = () => change(run.section, (tools) => sendMany(run, tools));
@@ -80,8 +84,8 @@ function button(words, name, press) {
 }
 
 function saveReport({ section, items, heads, cells }) {
-  const { name, reason } = part("who").elements;
-  const rows = items.map((item) => [...cells(item), item.outcome || "not sent", name.value, reason.value]);
+  const whoOf = ({ who }) => (who ? [who.name, who.reason] : ["", ""]);
+  const rows = items.map((item) => [...cells(item), item.outcome || "not sent", ...whoOf(item)]);
   const records = [[...heads.map((head) => head.toLowerCase()), "outcome", "name", "reason"], ...rows];
   save(`${section}-${today()}.csv`, [csvText(records)], "text/csv");
 }

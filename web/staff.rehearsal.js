@@ -1,6 +1,8 @@
 // What a change of rules would open and what it would close, for whom and on which days, before it is made.
+import { shownName } from "./names.js";
 import { Refused, counted, element } from "./shared.js";
 import { dated, sure } from "./staff.desk.js";
+import { COLUMNS, given, readVerdicts } from "./staff.verdicts.js";
 import { EFFECTS, audienceWords, dayAfter, listed, today } from "./staff.words.js";
 import { readTable } from "./stream.js";
 
@@ -37,7 +39,7 @@ export class Changes {
     this.file = null;
   }
 
-  take([accession, slot, name, audience, now, , then]) {
+  take([accession, slot, name, audience, now, then]) {
     if (this.file?.accession !== accession || this.file.slot !== slot) {
       this.close();
       this.file = { accession, slot, name, turns: new Map() };
@@ -68,17 +70,29 @@ function newGroup([now, then], audiences) {
   return { now, then, audiences, opens: ORDER.indexOf(then) > ORDER.indexOf(now), count: 0, first: [] };
 }
 
+// What a rehearsal does not say: the kind of each disk, and which files the desk gives out.
+async function readServed(tools) {
+  const known = { kinds: new Map(), served: new Set() };
+  const take = (record) => {
+    known.kinds.set(record[COLUMNS.accession], record[COLUMNS.kind]);
+    if (record[COLUMNS.size] !== "") known.served.add(`${record[COLUMNS.accession]}/${record[COLUMNS.slot]}`);
+  };
+  await readVerdicts(today(), take, tools);
+  return known;
+}
+
 // Rehearses commands on days. Gives what changes on each day, and the commands that the desk refuses with
 // `no-accession`, which name no disk.
-export async function rehearse(commands, days, progress, signal) {
+export async function rehearse(commands, days, tools) {
+  const known = await readServed(tools);
   const missing = new Set();
   const found = [];
   const all = days.length * commands.length;
   for (const [at, { day, words }] of days.entries()) {
     const changes = new Changes();
     for (const [place, command] of commands.entries()) {
-      if (all > 1) progress("Rehearsing", at * commands.length + place, all);
-      await rehearseOne(command, day, changes, signal).catch((fault) => {
+      if (all > 1) tools.progress("Rehearsing", at * commands.length + place, all);
+      await rehearseOne(command, day, { changes, known, signal: tools.signal }).catch((fault) => {
         if (commands.length === 1 || !(fault instanceof Refused) || fault.said.error !== "no-accession") throw fault;
         missing.add(command);
       });
@@ -88,8 +102,13 @@ export async function rehearse(commands, days, progress, signal) {
   return { found, missing };
 }
 
-async function rehearseOne({ method, path, body }, day, changes, signal) {
-  const take = (record) => changes.take(record);
+// A file that the desk gives out to nobody opens and closes for nobody.
+async function rehearseOne({ method, path, body }, day, { changes, known, signal }) {
+  const take = ([accession, slot, name, audience, effect, , thenEffect]) => {
+    const isServed = known.served.has(`${accession}/${slot}`);
+    const [now, then] = [given(effect, isServed), given(thenEffect, isServed)];
+    if (now !== then) changes.take([accession, slot, shownName(known.kinds.get(accession), name), audience, now, then]);
+  };
   await readTable(`/staff/rehearsals/${day}${path}`, { method, body, take, signal });
   changes.close();
 }
@@ -128,8 +147,8 @@ export const rehearsalParts = (found) => found.flatMap((day, at) => dayParts(day
 export const closesNothing = (found) => found.every(({ groups }) => groups.every((group) => group.opens));
 
 // Shows what commands would change, and asks whether to send them. Gives those to send, none where the answer is no.
-export async function rehearsed({ words, notes, commands, days, isTakedown, go }, { progress, signal }) {
-  const { found, missing } = await rehearse(commands, days, progress, signal);
+export async function rehearsed({ words, notes, commands, days, isTakedown, go }, tools) {
+  const { found, missing } = await rehearse(commands, days, tools);
   const left = commands.filter((command) => !missing.has(command));
   const none = [...missing].map((command) => String(command.scope));
   const said = [...notes];

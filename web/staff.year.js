@@ -1,9 +1,10 @@
 // What opens and what closes in the next year: the verdicts of each day on which a rule begins or ends, each compared
 // with those of the day before it in that list.
+import { shownName } from "./names.js";
 import { counted, element, part } from "./shared.js";
 import { formOf, readHeld, work } from "./staff.desk.js";
 import { Changes, dayParts } from "./staff.rehearsal.js";
-import { COLUMNS, EFFECT_AT, readVerdicts } from "./staff.verdicts.js";
+import { COLUMNS, EFFECT_AT, effectOf, readVerdicts } from "./staff.verdicts.js";
 import { dayAfter, today } from "./staff.words.js";
 
 // How far the page looks, and at how many days at most.
@@ -43,7 +44,7 @@ class Effects {
 // A number that is in the order of accessions, then slots.
 const fileNumber = (record) => Number(record[COLUMNS.accession]) * 10000 + Number(record[COLUMNS.slot]);
 
-const effectsOf = (record) => Object.values(EFFECT_AT).map((at) => record[at]);
+const effectsOf = (record) => Object.keys(EFFECT_AT).map((audience) => effectOf(record, audience));
 
 // Reads a day, and gives its effects and how they differ from those before.
 async function readDay(day, before, tools) {
@@ -56,18 +57,18 @@ async function readDay(day, before, tools) {
     if (!words.has(text)) words.set(text, text);
     effects.add(file, words.get(text));
     const old = before?.of(file);
-    if (old !== undefined && old !== text) takeTurn(changes, record, old.split(" "));
+    if (old !== undefined && old !== text) takeTurns(changes, record, old.split(" "), text.split(" "));
   };
   await readVerdicts(day, take, tools);
   changes.close();
   return { effects, groups: changes.all() };
 }
 
-function takeTurn(changes, record, old) {
-  const file = [record[COLUMNS.accession], record[COLUMNS.slot], record[COLUMNS.name]];
-  for (const [place, [audience, at]] of Object.entries(EFFECT_AT).entries()) {
-    if (old[place] === record[at]) continue;
-    changes.take([...file, audience, old[place], "", record[at]]);
+function takeTurns(changes, record, old, now) {
+  const name = shownName(record[COLUMNS.kind], record[COLUMNS.name]);
+  for (const [at, audience] of Object.keys(EFFECT_AT).entries()) {
+    if (old[at] === now[at]) continue;
+    changes.take([record[COLUMNS.accession], record[COLUMNS.slot], name, audience, old[at], now[at]]);
   }
 }
 

@@ -77,6 +77,7 @@ def test_staff_puts_a_deed_a_rule_and_a_disk(room, staffs, tmp_path):
     for label in ("Accession of new.img", "Deed of new.img"):
         staffs.set(f"[aria-label='{label}']", "39")
     staffs.submit("disks")
+    staffs.answer(True)
     assert effects(room, 39) == ["read"] * 4
 
 def test_staff_rehearses_puts_and_ends_a_takedown(room, staffs):

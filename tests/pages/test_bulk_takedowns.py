@@ -38,7 +38,7 @@ def test_lists_of_disks_that_the_field_takes(takedowns):
     for text in ("1001-1002, 1005 1004 1099", "1001\u20131002,1004;1005,1099"):
         asked = type_many(takedowns, text)["sure"]
         assert (asked[0], asked[2]) == ("Put a takedown of 5 disks?", "There is no disk 1099: left out.")
-        assert asked[4].startswith("Closes for the public and the reading room: 10 files. Now they may read them; ")
+        assert asked[4].startswith("Closes for the public and the reading room: 8 files. Now they may read them; ")
         takedowns.answer(False)
     assert takedowns.door.sent() == []
 

@@ -62,8 +62,12 @@ def test_dumps_of_a_sheet_are_found_compared_and_put(museum, staff, choose):
     shown = choose({**DUMPS, "shelf.CSV": ("\ufeff" + "\r\n".join([HEADS, *map(",".join, ROWS), ""])).encode()})
     words = "7 files chosen. The sheet has 7 rows: 4 ready, 2 with another disk than it says, 1 without a file."
     assert (shown["result"], results(shown)) == ([words], FOUND)
+    assert "there is no deed 99" in staff.push("Put the disks")["result"][0], "a disk of an unknown deed goes out"
+    museum.deeds[99] = "Late Donor", "2020-01-01"
+    staff.push("Put the disks")
+    del museum.deeds[99]
     staff.door.before = lost_at(3)
-    assert staff.push("Put the disks")["result"][0] == "2 disks put, 1 failed, 1 not sent yet."
+    assert staff.answer(True)["result"][0] == "2 disks put, 1 failed, 1 not sent yet."
     shown = staff.push("Go on with the rest")
     assert shown["result"][0] == "3 disks put, 1 failed."
     done = {name: (disk, deed, "done") for name, (disk, deed, says) in FOUND.items() if says == ""}
@@ -90,6 +94,13 @@ def test_dumps_are_described_and_numbered_by_hand(staff, choose):
     staff.type("Accession of one.d64", "3001")
     staff.type("Deed of one.d64", "9")
     staff.push("Number the others from the first")
-    shown = staff.push("Put the disks")
+    asked = staff.push("Put the disks")["sure"]
+    assert asked, "a disk goes out without a question"
+    donor = 'C. "Sea" Müller \\ Söhne'
+    rule = "20: all files readable for the public, the reading room and the staff, on all days"
+    assert asked == ["Put 2 disks?", f"2 disks under deed 9, of {donor}, signed on 0001-01-01", rule]
+    assert (staff.answer(False)["result"], staff.door.sent()) == (["Nothing is sent."], [])
+    staff.push("Put the disks")
+    shown = staff.answer(True)
     assert shown["result"][0] == "2 disks put, 0 failed."
     assert [row[4:] for row in shown["list"]] == [["3001", "9", "done"], ["3002", "9", "done"], ["", "", no_kind]]

@@ -47,6 +47,7 @@ def test_staff_gives_a_key_puts_a_takedown_and_drops_it(staff):
     reach(staff, "Put it", Keys.ENTER)
     assert agree(staff)["result"] == ["Done: takedown 1000 of disk 1002."]
     assert staff.door.effects(1002)["public"] == ["deny", "read", "read"]
+    reach(staff, "Reason", "another letter")
     reach(staff, "Drop takedown 1000 of disk 1002", Keys.ENTER)
     shown = agree(staff)
     assert (shown["rows"], shown["focus"]) == ([], "result")

@@ -82,9 +82,17 @@ def test_days_to_come_of_an_embargo(staff):
     first = ["On 2090-03-01, its first day", NOTHING, "On 2100-02-28", NOTHING]
     assert shown["sure"][3:] == [NOW, NOTHING, *first, "On 2100-03-01", *closes]
 
+def test_file_that_the_desk_gives_out_to_nobody_is_not_said_to_be_read(takedowns):
+    shown = takedowns.take_down("1005", "", "1", *BOTH)
+    is_honest = "Now they may see that they are there; then they see nothing of them." in shown["sure"][-2]
+    assert is_honest, "a rehearsal closes a file as readable that nobody is given"
+    takedowns.answer(False)
+    shown = takedowns.take_down("1005", "", "1", *BOTH, effect="list")
+    assert shown["sure"][-2:] == [NOW, NOTHING]
+
 def test_files_are_counted_and_the_first_ten_named_as_text(museum, takedowns):
     names = [*museums.HARMFUL, *(f"FILE {number}" for number in range(195))]
-    museums.put_files(museum, 1077, "d64", 9, [(name, "SEQ", b"A") for name in names])
+    museums.put_files(museum, 1077, "cpm8", 9, [(name, "SEQ", b"A") for name in names])
     shown = takedowns.put_rule("takedowns", "1077", "", "all", None, "public", "staff")
     line = "Closes for the public and the staff: 200 files. Now they may read them; then they see nothing of them."
     first = [f"{name} (disk 1077, slot {slot})" for slot, name in enumerate(names[:10])]

@@ -10,6 +10,7 @@ EVERYBODY = "the public, the reading room and the staff"
 RULE_20 = ["20", EVERYBODY, "all files", "read them", "on all days", "ChangeDrop"]
 STAFF, OTHER = digest(b"abc"), digest(b"another")
 NOBODY = "Nobody can use it any more."
+CHANGED, RESTORE = "1 CHANGED: 1003;", " Restore a backup of what is changed."
 
 def put_rule(staff):
     staff.put_rule("rules", "8", "20", "all", None, "public", "room", "staff", effect="read")
@@ -25,14 +26,20 @@ def test_deed_is_put_with_name_and_reason(staff):
     rules += f"20: all files readable for {EVERYBODY}, on all daysRules"
     assert staff.read()["rows"][0] == ["7", "A. Curator", "2019-05-04", "3", rules, "Change"]
     for name, reason in (("", "a reason"), ("Ada", " "), ("Ada", "ü" * 167)):
-        staff.fill("who", name=name, reason=reason)
+        staff.fill("who", name=name)
+        staff.reason = reason
         put_deed(staff)
         assert staff.door.sent() == [], (name, reason)
-    staff.fill("who", reason="ü" * 166)
+    staff.reason = "ü" * 166
     shown = put_deed(staff, "31", "E. <b>Müller</b>")
     assert staff.door.sent() == [("PUT", "/deeds/31", "Ada", "%C3%BC" * 166)]
     assert (shown["result"], shown["stands"]) == (["Done: deed 31."], ["4 deeds."])
     assert shown["rows"][3] == ["31", "E. <b>Müller</b>", "1999-12-31", "0", "No rule: nobody sees its disks", "Change"]
+    left = staff.one("#who [name=reason]").get_property("value")
+    assert left == "", "the reason of one change goes along with the next"
+    staff.door.before = lost_at(1)
+    put_deed(staff)
+    assert staff.one("#who [name=reason]").get_property("value") == staff.reason
 
 def test_deed_is_replaced_only_when_that_is_agreed(staff):
     stands, then = "It stands: B. Donor, signed on 2020-02-29.", "Then: E. Müller, signed on 2020-02-29."
@@ -40,6 +47,8 @@ def test_deed_is_replaced_only_when_that_is_agreed(staff):
         staff.of_row("deed 8", "Change")
         staff.fill("change", donor="E. Müller")
         assert staff.push("Put the deed")["sure"] == ["Replace deed 8?", stands, then]
+        who = staff.texts("#sure > p:not(.choices)")
+        assert who == ["By Ada Archivist. Reason: a letter of today"], "a question names neither who asks nor why"
         shown = staff.answer(is_agreed)
         assert (shown["result"], shown["rows"][1][1], len(staff.door.sent())) == ([said], donor, is_agreed)
 
@@ -93,18 +102,32 @@ def test_key_is_put_given_away_and_dropped(museum, staff):
     assert staff.of_row(f"key {STAFF}", "Give it to the reading room")["result"] == words
 
 def test_check_says_whether_a_disk_has_changed(museum, staff):
-    assert staff.go("checks")["stands"] == ["6 disks, 6 of them never checked. None is changed."]
+    assert staff.go("checks")["stands"] == ["6 disks: 0 sound; 6 never checked."]
     shown = staff.of_row("disk 1002", "Check")
     assert shown["result"] == ["Disk 1002. Sound: the disk still has the SHA-256 that came with it."]
     assert [row[1:] for row in shown["rows"][:2]] == [["never", "", "CheckSurvey"], [TODAY, "sound", "CheckSurvey"]]
     museum.images[1003] = museum.images[1003]._replace(digest="0" * 64)
     shown = staff.of_row("disk 1003", "Check")
-    assert (shown["stands"], shown["rows"][2][2]) == (["6 disks, 4 of them never checked. Changed: 1003."], "changed")
+    assert (shown["stands"], shown["rows"][2][2]) == ([f"6 disks: 1 sound, {CHANGED} 4 never checked.{RESTORE}"], "changed")
     museum.latest[1002] = "2020-01-01", "sound"
-    assert staff.push("Check all of these")["result"][0] == "5 disks checked, 0 failed."
+    assert staff.push("Check all of these")["result"][0] == "5 disks checked: 5 sound."
     assert [path.split("/")[2] for _, path, _, _ in staff.door.sent()[2:]] == ["1001", "1002", "1004", "1005", "1006"]
     words = "There is no disk whose latest check is before 2025-06-15."
     assert staff.push("Check all of these")["result"] == [words]
+
+def test_changed_disk_among_many_checked_is_a_warning_that_stays(museum, staff):
+    museum.images[1003] = museum.images[1003]._replace(digest="0" * 64)
+    staff.go("checks")
+    staff.door.before = lost_at(5)
+    shown, words = staff.push("Check all of these"), "4 disks checked: 3 sound, 1 CHANGED: 1003."
+    assert shown["result"][0].startswith(words), "a changed disk is told as one that is checked"
+    assert shown["result"][0] == f"{words} 1 failed, 1 not sent yet.{RESTORE}"
+    shown = staff.push("Go on with the rest")
+    assert shown["result"][0] == f"6 disks checked: 5 sound, 1 CHANGED: 1003.{RESTORE}"
+    staff.go("deeds")
+    staff.go("checks")
+    stays = [f"6 disks: 5 sound, {CHANGED} 0 never checked.{RESTORE}"]
+    assert staff.texts("#checks .stands > .warning") == stays, "the warning is gone with the view"
 
 def test_survey_describes_a_disk(staff):
     staff.go("checks")

@@ -206,14 +206,24 @@ class ReadersPage(Page):
 
 
 class StaffPage(Page):
-    """The staff's page."""
+    """The staff's page. A change that is done empties the reason, and a click types it again."""
+
+    reason = "a letter of today"
+
+    def click(self, selector):
+        self.fill("who", reason=self.reason)
+        return super().click(selector)
+
+    def push(self, button):
+        self.fill("who", reason=self.reason)
+        return super().push(button)
 
     def begin(self):
         """Gives the page the key of the staff, and types who works and why."""
         self.one("#key").send_keys(STAFF)
         self.one("#key-form button").click()
         self.wait(lambda state: not state["busy"] and "takes this key" in state["status"], "a key that is taken")
-        self.fill("who", name="Ada Archivist", reason="a letter of today")
+        self.fill("who", name="Ada Archivist", reason=self.reason)
         return self
 
     def set(self, selector, value):
