@@ -8,7 +8,7 @@ const LONGEST_WORDS = 300;
 const short = (text) => (text.length > LONGEST_WORDS ? `${text.slice(0, LONGEST_WORDS)} ..` : text);
 
 // The body of a change as an object; an empty one where it is none.
-function bodyOf({ body }) {
+export function bodyOf({ body }) {
   try {
     return Object(JSON.parse(body));
   } catch {
@@ -26,9 +26,10 @@ function said(change, words) {
   }
 }
 
-function ruleSaid(change) {
-  return said(change, (rule) => ruleWords({ from: null, until: null, ...rule, audiences: [...rule.audiences].sort() }));
-}
+// A rule as the desk shows it, from the body that puts it.
+export const ruleOfBody = (body) => ({ from: null, until: null, ...body, audiences: [...body.audiences].sort() });
+
+const ruleSaid = (change) => said(change, (body) => ruleWords(ruleOfBody(body)));
 
 function deedSaid(change) {
   return said(change, ({ donor, signed }) => textOf(donor) && `${donor}, signed on ${textOf(signed)}`);
@@ -167,5 +168,6 @@ function changeOf({ moment, at, status, method, path, staff, note, body }) {
   const [name, reason] = [typed(textOf(staff)), typed(textOf(note))];
   const found = wayOf(change);
   const scope = found ? found.way.of(found.at) : {};
-  return { ...change, name, reason, search: `${name}\n${reason}`.toLowerCase(), ...scope };
+  const target = change.path.split("?")[0].toLowerCase();
+  return { ...change, target, name, reason, search: `${name}\n${reason}`.toLowerCase(), ...scope };
 }

@@ -1,12 +1,11 @@
 // Survey and check of disks, and the latest check of each.
 import { longTable } from "./lists.js";
-import { askObject, cell, counted, element, kindWords, numberOf, own, part, row } from "./shared.js";
-import { change, changed, formOf, held, readHeld, shownAnew, showsAnew, work } from "./staff.desk.js";
+import { box, cell, counted, element, kindWords, numberOf, own, part, row } from "./shared.js";
+import { change, changed, dated, diskCell, formOf, held, readHeld, shownAnew, showsAnew } from "./staff.desk.js";
 import { isDone, sendMany } from "./staff.many.js";
 import { limitFields } from "./staff.ruleform.js";
 import { buttonsCell } from "./staff.rules.js";
 import { dayAfter, today } from "./staff.words.js";
-import { withTitle } from "./titles.js";
 
 // After how many days a disk is due to be checked again.
 const DAYS = 365;
@@ -17,7 +16,7 @@ const OUTCOMES = {
   changed: "Changed: the disk no longer has the SHA-256 that came with it. Restore a backup.",
 };
 
-function surveyed(survey) {
+export function surveyed(survey, more = {}) {
   const { donor, signed, files, served, faulty, label, directory, map } = survey;
   const pairs = {
     Disk: `${numberOf(survey.accession)}, ${kindWords(survey.kind)}${label && `, called \u201c${label}\u201d`}`,
@@ -30,17 +29,15 @@ function surveyed(survey) {
     pairs.Map = `${free} blocks in use are marked free, ${used} unused ones not; ${wrong} tracks have a wrong count`;
     pairs.Sizes = `${counted(survey.size_differs, "file")} with another size than the directory says`;
   }
-  const made = element("dl", null);
-  made.append(...Object.entries(pairs).flatMap(([term, text]) => [element("dt", term), element("dd", text)]));
-  return made;
+  const lines = Object.entries({ ...more, ...pairs });
+  return box("dl", "", ...lines.flatMap(([term, text]) => [element("dt", term), element("dd", text)]));
 }
 
-const survey = async (accession) => surveyed(await askObject(`/images/${accession}/survey`));
-
-async function check(accession) {
+// Checks a disk, and says in a section what was found.
+export async function checked(accession, section) {
   const { outcome } = await changed("POST", `/images/${accession}/check`);
   const words = `Disk ${accession}. ${OUTCOMES[outcome]}`;
-  return shownAnew("checks", outcome === "changed" ? element("p", words, { className: "warning" }) : words);
+  return shownAnew(section, outcome === "changed" ? element("p", words, { className: "warning" }) : words);
 }
 
 // Checks all disks whose latest check is before a day, or that were never checked.
@@ -80,14 +77,18 @@ function checkedWords(items, rest) {
 function checkRow({ accession, day, outcome }) {
   const words = `disk ${accession}`;
   return row([
-    cell("Disk", withTitle(String(accession), accession), "number"),
+    diskCell(accession),
     cell("Checked on", day ?? "never", "day"),
     cell("Outcome", outcome ?? "", outcome === "changed" ? "warning" : ""),
-    buttonsCell(words, {
-      Check: () => change("checks", () => check(accession)),
-      Survey: () => work("checks", () => survey(accession)),
-    }),
+    buttonsCell(words, { Check: () => change("checks", () => checked(accession, "checks")) }),
   ]);
+}
+
+// What the latest check of a disk has found.
+export function checkWords(disk) {
+  const { day, outcome } = held.checks.find(({ accession }) => accession === disk) ?? {};
+  if (outcome === "changed") return element("p", `CHANGED on ${day}.${RESTORE}`, { className: "warning" });
+  return dated("p", day ? `Its latest check: ${outcome} on ${day}.` : "It was never checked.");
 }
 
 // What stands of all disks: the warning stays there as long as a disk is changed.
@@ -108,18 +109,12 @@ export async function showChecks() {
 
 export function listenForChecks() {
   const form = formOf("checks");
-  const { accession, check: button, before, all } = form.elements;
+  const { before } = form.elements;
   showsAnew("checks", showChecks);
   limitFields(form);
   before.value = dayAfter(today(), -DAYS);
-  all.addEventListener("click", () => {
-    if (before.value && before.reportValidity()) change("checks", (tools) => checkAll(before.value, tools));
-  });
   form.addEventListener("submit", (event) => {
     event.preventDefault();
-    work("checks", () => survey(accession.value));
-  });
-  button.addEventListener("click", () => {
-    if (accession.reportValidity()) change("checks", () => check(accession.value));
+    change("checks", (tools) => checkAll(before.value, tools));
   });
 }

@@ -1,5 +1,6 @@
 // The staff's side of the desk: what stands there, changes to it, and the work of a section of the page.
-import { Refused, askObject, element, fields, listOf, part, refusal } from "./shared.js";
+import { Refused, askObject, box, cell, element, fields, listOf, part, refusal } from "./shared.js";
+import { withTitle } from "./titles.js";
 
 // After these nobody here knows whether the desk has done what was sent. A command that is sent twice is done once.
 const UNSURE = [0, 502, 503, 504];
@@ -100,20 +101,36 @@ export function show(name, ...parts) {
 
 export const paragraph = (words) => (words instanceof Node ? words : dated("p", words));
 
-// An element with a text, whose days are not broken at the end of a line.
+// An element with a text, whose days are not broken at the end of a line, and whose disks lead to their pages.
 export function dated(name, text, fields = {}) {
   const made = element(name, null, fields);
-  const parts = text.split(/([0-9]{4}-[0-9]{2}-[0-9]{2})/);
-  made.append(...parts.map((words, at) => (at % 2 ? element("span", words, { className: "date" }) : words)));
+  const parts = text.split(/([0-9]{4}-[0-9]{2}-[0-9]{2}|(?<=\bdisk )[1-9][0-9]{0,5}\b)/);
+  const special = (words) => (words.includes("-") ? element("span", words, { className: "date" }) : diskLink(words));
+  made.append(...parts.map((words, at) => (at % 2 ? special(words) : words)));
   return made;
 }
 
-// How each section shows anew what stands.
-const shows = {};
-
-export function showsAnew(name, again) {
-  shows[name] = again;
+export function button(words, press, fields = {}) {
+  const made = element("button", words, { type: "button", ...fields });
+  made.addEventListener("click", press);
+  return made;
 }
+
+const diskLink = (accession) => element("a", String(accession), { href: `#/disk/${accession}` });
+
+// The cell of a disk's number, with its title below.
+export const diskCell = (accession, column = "Disk") =>
+  cell(column, withTitle(diskLink(accession), Number(accession)), "number");
+
+// How each section shows anew what stands, and how its latest work shows how far it has come.
+const shows = {};
+const progresses = {};
+
+export function showsAnew(name, show_) {
+  shows[name] = show_;
+}
+
+const again = async (name) => shows[name]?.({ progress: progresses[name] });
 
 // What is said where a section cannot be shown anew after a change.
 export const older = (name) =>
@@ -122,7 +139,7 @@ export const older = (name) =>
 // The words of a change that is done, once its section is shown anew; where it cannot be, also what was not read, and
 // why.
 export async function shownAnew(name, words) {
-  const fault = await shows[name]().then(
+  const fault = await again(name).then(
     () => null,
     (came) => came,
   );
@@ -138,6 +155,7 @@ export async function work(name, doing) {
   show(name);
   const stop = new AbortController();
   const tools = { progress: progressOf(name, stop), signal: stop.signal };
+  progresses[name] = tools.progress;
   // a change that was sent may be done all the same
   const isStopped = (fault) => stop.signal.aborted && !isUnsure(fault);
   const { outcome, done, fault } = await Promise.resolve(tools)
@@ -148,7 +166,7 @@ export async function work(name, doing) {
     );
   if (outcome !== null && outcome !== undefined) show(name, ...[outcome].flat().map(paragraph));
   if (fault && isUnsure(fault)) {
-    await shows[name]?.().catch(() => part(name).querySelector(".result").append(older(name)));
+    await again(name).catch(() => part(name).querySelector(".result").append(older(name)));
   }
   part(name).setAttribute("aria-busy", "false");
   return done;
@@ -169,12 +187,8 @@ export async function change(name, doing) {
 // Shows how far a long work of a section has come, with a button that stops it.
 function progressOf(name, stop) {
   const words = element("span", "");
-  const bar = element("progress", null);
-  bar.setAttribute("aria-label", "Progress");
-  const button = element("button", "Stop", { type: "button" });
-  button.addEventListener("click", () => stop.abort());
-  const shown = element("p", null, { className: "choices" });
-  shown.append(words, bar, button);
+  const bar = element("progress", null, { ariaLabel: "Progress" });
+  const shown = box("p", "choices", words, bar, button("Stop", () => stop.abort()));
   return (doing, count, all) => {
     words.textContent = `${doing}: ${count.toLocaleString("en")}${all ? ` of ${all.toLocaleString("en")}` : ""}.`;
     if (all) Object.assign(bar, { max: all, value: count });

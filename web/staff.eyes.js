@@ -3,13 +3,13 @@ import { csvText } from "./csv.js";
 import { longTable, nameCell } from "./lists.js";
 import { searchText } from "./names.js";
 import { cell, counted, element, kindWords, part, row } from "./shared.js";
-import { dated, formOf, work } from "./staff.desk.js";
+import { dated, diskCell, formOf, work } from "./staff.desk.js";
 import { limitFields, options } from "./staff.ruleform.js";
 import { COLUMNS, EFFECT_AT, SAVED_HEADS, effectOf, mayWords, onDay, readVerdicts } from "./staff.verdicts.js";
-import { ruleMeaning, savedVerdict } from "./staff.verdicts.js";
+import { ruleAbbr, savedVerdict } from "./staff.verdicts.js";
 import { AUDIENCES, today } from "./staff.words.js";
 import { inParts, keeper, save } from "./stream.js";
-import { hasTitles, isTitled, withTitle } from "./titles.js";
+import { hasTitles, isTitled } from "./titles.js";
 
 // The verdicts of the day that was read last, and when they were asked; behind each the text to look in.
 let seen = { day: "", moment: "", files: [] };
@@ -62,16 +62,14 @@ function summary(counts) {
 }
 
 function fileRow(file, audience) {
-  const label = file[EFFECT_AT[audience] + 1];
-  const rule = element("abbr", label, { title: ruleMeaning(label) });
   return row([
-    cell("Disk", withTitle(file[COLUMNS.accession], Number(file[COLUMNS.accession])), "number"),
+    diskCell(file[COLUMNS.accession]),
     cell("Kind", kindWords(file[COLUMNS.kind])),
     cell("Slot", file[COLUMNS.slot], "number"),
     nameCell(file[COLUMNS.kind], file[COLUMNS.name]),
     cell("Type", file[COLUMNS.type]),
     cell("They may", mayWords(file, audience)),
-    cell("Rule", rule),
+    cell("Rule", ruleAbbr(file, audience)),
   ]);
 }
 

@@ -12,7 +12,7 @@ import { withTitle } from "./titles.js";
 
 // From how many changes on the page reads no more.
 const MOST = 100000;
-const COLUMNS = ["When", "Who", "What", "Outcome", "Reason"];
+export const COLUMNS = ["When", "Who", "What", "Outcome", "Reason"];
 
 const BOUND = [
   `the last ${PIECE >> 20} MB first and as much at each press; then what was put away, month by month`,
@@ -41,11 +41,11 @@ function found({ accession, deed, words, day, checks }) {
   return changes.filter((change) => asked.every((isFound) => isFound(change)));
 }
 
-function changeRow(change) {
+export function changeRow(change) {
   return row([
     cell("When", timeOf(change), "day"),
     cell("Who", change.name, "words"),
-    cell("What", withTitle(changeWords(change), Number(change.accession)), "words"),
+    cell("What", withTitle(dated("span", changeWords(change)), Number(change.accession)), "words"),
     cell("Outcome", outcomeWords(change), isUnknown(change) ? "warning" : ""),
     cell("Reason", change.reason, "words"),
   ]);
@@ -77,8 +77,19 @@ function draw() {
   form.elements.older.disabled = lines.isWhole || isFull();
 }
 
+// Reads it anew, so far back that it is enough, or else all. Gives the changes and, where it may have older ones, since
+// when it has them.
+export async function readBack(isEnough, tools) {
+  [lines, read, changes] = [new Lines(), new AllChanges(), []];
+  while (!isEnough(changes) && !lines.isWhole && !isFull()) {
+    await lines.readOlder((line) => read.take(line), () => read.oldest.slice(0, 7), tools);
+    changes = read.inOrder();
+  }
+  return { changes, since: lines.isWhole ? "" : timeOf({ moment: read.oldest }) };
+}
+
 // Where nginx has no file, or may not read it, the page says so.
-function explained(fault) {
+export function explained(fault) {
   if (!(fault instanceof Refused)) throw fault;
   const words = {
     404: "There is no journal here: nginx has no file of it. Nobody can see here who changed what.",

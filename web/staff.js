@@ -4,6 +4,7 @@ import { readTitles } from "./titles.js";
 import { listenForChecks, showChecks } from "./staff.checks.js";
 import { listenForDeeds, showDeeds } from "./staff.deeds.js";
 import { work } from "./staff.desk.js";
+import { listenForDisk, openDisk } from "./staff.disk.js";
 import { listenForDisks } from "./staff.disks.js";
 import { listenForEyes, openEyes } from "./staff.eyes.js";
 import { listenForJournal, openJournal } from "./staff.journal.js";
@@ -17,8 +18,9 @@ const VIEWS = {
   rules: { heading: "Rules of deeds", of: "Rules of deed", open: (scope) => openRules("rules", scope) },
   disks: { heading: "Disks", open: () => {} },
   takedowns: { heading: "Takedowns", of: "Takedowns of disk", open: (scope) => openRules("takedowns", scope) },
-  keys: { heading: "Keys", open: showKeys },
+  keys: { heading: "Keys", open: (_, tools) => showKeys(tools) },
   checks: { heading: "Checks", open: showChecks },
+  disk: { heading: "One disk", of: "Disk", open: openDisk },
   eyes: { heading: "Who sees what", open: openEyes, isLook: true },
   year: { heading: "The next year", open: openYear, isLook: true },
   journal: { heading: "Journal", of: "Journal of disk", open: openJournal, isLook: true },
@@ -82,7 +84,7 @@ async function useKey(given) {
 function listen() {
   ["rules", "takedowns"].forEach(listenForRules);
   const looks = [listenForEyes, listenForYear, listenForJournal];
-  const starts = [listenForDeeds, listenForDisks, listenForKeys, listenForChecks, ...looks];
+  const starts = [listenForDeeds, listenForDisks, listenForDisk, listenForKeys, listenForChecks, ...looks];
   starts.forEach((start) => start());
   for (const name of Object.keys(VIEWS)) part(name).querySelector(".result").tabIndex = -1;
   for (const button of part("sure").querySelectorAll("button")) {
@@ -90,7 +92,11 @@ function listen() {
   }
   part("who").addEventListener("submit", (event) => event.preventDefault());
   part("who").addEventListener("input", ({ target }) => target.setCustomValidity(""));
-  window.addEventListener("hashchange", () => showView(true));
+  window.addEventListener("hashchange", () => {
+    // a question that somebody leaves by a link is answered by no
+    for (const dialog of document.querySelectorAll("dialog[open]")) dialog.close("");
+    showView(true);
+  });
   // a link to the view that is open already opens it again
   part("places").addEventListener("click", ({ target }) => {
     if (target.hash === location.hash) showView(true);

@@ -1,8 +1,8 @@
 // Many changes, one after the other: with progress, a report that can be saved, and a way to go on where the connection
 // was lost or the reader stopped.
 import { csvText } from "./csv.js";
-import { Refused, cell, counted, element, explainRefusal, refusalName, row, table } from "./shared.js";
-import { change, isUnsure, keepReason, older, whoNow } from "./staff.desk.js";
+import { Refused, box, cell, counted, element, explainRefusal, refusalName, row, table } from "./shared.js";
+import { button, change, isUnsure, keepReason, older, whoNow } from "./staff.desk.js";
 import { today } from "./staff.words.js";
 import { save } from "./stream.js";
 
@@ -39,7 +39,7 @@ export async function sendMany(run, { progress, signal }) {
   }
   if (!run.items.every(isDone)) keepReason();
   let isOlder = false;
-  await run.after?.().catch(() => {
+  await run.after?.({ progress }).catch(() => {
     isOlder = true;
   });
   return report(run, isOlder);
@@ -62,11 +62,10 @@ function report(run, isOlder) {
   const isWhole = run.items.every(isDone);
   made.append(summary(run));
   if (failed.length && !run.shown) made.append(failedTable(run, failed));
-  const buttons = element("p", null, { className: "choices" });
+  if (run.more && !isWhole && !isOlder) made.append(element("p", run.more()));
   const goOn = () => change(run.section, (tools) => sendMany(run, tools));
-  if (!isWhole) buttons.append(button("Go on with the rest", "go-on", goOn));
-  buttons.append(button("Save the report", "save-report", () => saveReport(run)));
-  made.append(buttons);
+  const buttons = isWhole ? [] : [button("Go on with the rest", goOn)];
+  made.append(box("p", "choices", ...buttons, button("Save the report", () => saveReport(run))));
   if (isOlder) made.append(older(run.section));
   return made;
 }
@@ -75,12 +74,6 @@ function failedTable({ heads, cells }, failed) {
   const columns = [...heads, "Outcome"];
   const rowOf = (item) => row([...cells(item), item.outcome].map((text, at) => cell(columns[at], text)));
   return table("Failed", columns, failed.map(rowOf));
-}
-
-function button(words, name, press) {
-  const made = element("button", words, { type: "button", name });
-  made.addEventListener("click", press);
-  return made;
 }
 
 function saveReport({ section, items, heads, cells }) {

@@ -124,7 +124,7 @@ const may = (effect) => (effect === "deny" ? EFFECTS.deny : `may ${EFFECTS[effec
 
 function groupParts(group) {
   const words = ({ name, accession, slot }) => `${name} (disk ${accession}, slot ${slot})`;
-  const items = group.first.map((file) => element("li", words(file)));
+  const items = group.first.map((file) => dated("li", words(file)));
   const rest = group.count - group.first.length;
   if (rest > 0) items.push(element("li", `and ${counted(rest, "more file")}`));
   const list = element("ul", null);

@@ -1,13 +1,14 @@
 // Rules of deeds, and takedowns: the forms that put and change them, and the tables of those that stand.
 import { longTable } from "./lists.js";
-import { cell, counted, element, part, row } from "./shared.js";
-import { change, dated, formOf, held, readHeld, rulesOf, send, shownAnew, showsAnew } from "./staff.desk.js";
+import { box, cell, counted, element, part, row } from "./shared.js";
+import { button, change, dated, diskCell, formOf, held, readHeld, rulesOf } from "./staff.desk.js";
+import { send, shownAnew, showsAnew } from "./staff.desk.js";
 import { sendMany } from "./staff.many.js";
 import { MOST_DISKS, accessionsIn, placeOf } from "./staff.ranks.js";
 import { rehearsalDays, rehearsed } from "./staff.rehearsal.js";
 import { fillRule, makeRuleForm, ruleIn } from "./staff.ruleform.js";
 import { RULES, ruleTexts, ruleWords } from "./staff.words.js";
-import { titleOf, withTitle } from "./titles.js";
+import { titleOf } from "./titles.js";
 
 // Of how many disks the page says one by one what their takedowns replace or follow.
 const MOST_NOTES = 10;
@@ -108,32 +109,20 @@ function changeRule(name, scope, rule) {
   dialog.showModal();
 }
 
-export function leaveButton() {
-  const made = element("button", "Leave it as it is", { type: "button", name: "leave" });
-  made.addEventListener("click", () => part("change").close());
-  return made;
-}
+export const leaveButton = () => button("Leave it as it is", () => part("change").close(), { name: "leave" });
 
 // Tables
 
-function button(words, label, press) {
-  const made = element("button", words, { type: "button" });
-  made.setAttribute("aria-label", label);
-  made.addEventListener("click", press);
-  return made;
-}
-
 export function buttonsCell(words, presses) {
-  const made = element("div", null, { className: "choices" });
-  made.append(...Object.entries(presses).map(([text, press]) => button(text, `${text} ${words}`, press)));
-  return cell("", made, "work");
+  const made = Object.entries(presses).map(([text, press]) => button(text, press, { ariaLabel: `${text} ${words}` }));
+  return cell("", box("div", "choices", ...made), "work");
 }
 
 function ruleRow(name, { scope, rule }) {
   const { of, words } = RULES[name];
-  const shown = name === "takedowns" ? withTitle(String(scope), scope) : String(scope);
   const texts = Object.entries(ruleTexts(rule));
-  const cells = [cell(of, shown), ...texts.map(([label, text]) => cell(label, dated("span", text)))];
+  const first = name === "takedowns" ? diskCell(scope, of) : cell(of, String(scope));
+  const cells = [first, ...texts.map(([label, text]) => cell(label, dated("span", text)))];
   const presses = {
     Change: () => changeRule(name, scope, rule),
     Drop: () => change(name, (tools) => drop(name, scope, rule, tools)),

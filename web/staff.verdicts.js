@@ -1,6 +1,6 @@
 // What every caller gets of every file on a day, as the desk says; and how that is said and saved.
 import { shownName } from "./names.js";
-import { explained, meaning } from "./shared.js";
+import { element, explained, meaning } from "./shared.js";
 import { AUDIENCES, today } from "./staff.words.js";
 import { readTable } from "./stream.js";
 import { titleOf } from "./titles.js";
@@ -12,6 +12,11 @@ export const EFFECT_AT = { public: 9, room: 11, staff: 13 };
 // Reads the verdicts of a day, and hands each record on.
 export function readVerdicts(day, take, { progress, signal }) {
   return readTable(`/staff/verdicts/${day}`, { take, signal, progress: (count) => progress(`Reading ${day}`, count) });
+}
+
+// The same of one disk.
+export function readVerdictsOf(accession, day, take, tools) {
+  return readVerdicts(day, (record) => record[COLUMNS.accession] === String(accession) && take(record), tools);
 }
 
 // The desk gives out a file only where it has a size: without one, `read` is no more than `list`.
@@ -38,7 +43,12 @@ export function mayWords(record, audience) {
   return `${MAY[effectOf(record, audience)]}${why && ` (${why})`}`;
 }
 
-export const ruleMeaning = (label) => (label === "D0" ? "no rule matches" : meaning(label));
+const ruleMeaning = (label) => (label === "D0" ? "no rule matches" : meaning(label));
+
+export function ruleAbbr(record, audience) {
+  const label = record[EFFECT_AT[audience] + 1];
+  return element("abbr", label, { title: ruleMeaning(label) });
+}
 
 // By which rules the verdicts of a day are.
 const PAST = "by today's rules, not by those that stood then";

@@ -69,7 +69,7 @@ READERS = "", "2001", "2001/0", "2001/1", "1001", "1004", "?q=letter&as=screens"
 VIEWS = [("reader", place, None) for place in READERS]
 VIEWS += [("staff", place, None) for place in ("deeds", "rules", "takedowns", "keys", "journal", "disks")]
 VIEWS += [("staff", *more) for more in [
-    ("eyes", "Look"), ("year", "Look at the next year"), ("checks", "Survey disk 1002"),
+    ("eyes", "Look"), ("year", "Look at the next year"), ("checks", "Check disk 1002"), ("disk/1002", "Check it"),
     ("takedowns", "Change takedown 1000 of disk 1003"), ("takedowns", "Drop takedown 1000 of disk 1003"),
 ]]
 

@@ -1,7 +1,7 @@
 """What stands at the desk: deeds, rules, takedowns, keys and checks. Each is put, changed and dropped in its row, and
 read anew after each change."""
 
-from staff_helpers import CANNOT_REACH, lost_at, older, put_deed
+from staff_helpers import CANNOT_REACH, journal_lines, lost_at, moment, older, put_deed
 from support import museums
 from support.browser import TODAY
 from support.samples import digest
@@ -9,7 +9,7 @@ from support.samples import digest
 EVERYBODY = "the public, the reading room and the staff"
 RULE_20 = ["20", EVERYBODY, "all files", "read them", "on all days", "ChangeDrop"]
 STAFF, OTHER = digest(b"abc"), digest(b"another")
-NOBODY = "Nobody can use it any more."
+START, NOBODY = 1_800_000_000, "Nobody can use it any more."
 CHANGED, RESTORE = "1 CHANGED: 1003;", " Restore a backup of what is changed."
 
 def put_rule(staff):
@@ -87,7 +87,7 @@ def test_rules_that_are_put_again_stay_as_they_were(museum, staff):
 
 def test_key_is_put_given_away_and_dropped(museum, staff):
     rows = staff.go("keys")["rows"]
-    assert [row[2] for row in rows] == ["Give it to the staffDrop", "Give it to the reading roomDrop"]
+    assert [row[3] for row in rows] == ["Give it to the staffDrop", "Give it to the reading roomDrop"]
     shown = put_key(staff)
     assert (shown["result"], shown["stands"]) == ([f"Done: key of the reading room, SHA-256 {OTHER}."], ["3 keys."])
     assert staff.of_row(f"key {OTHER}", "Drop")["sure"] == [f"Drop key with SHA-256 {OTHER}?", NOBODY]
@@ -101,14 +101,29 @@ def test_key_is_put_given_away_and_dropped(museum, staff):
              "Only the staff may do this. Use a key of the staff.", "Refusal: staff-only", "Rule: S0, for the staff"]
     assert staff.of_row(f"key {STAFF}", "Give it to the reading room")["result"] == words
 
+def test_key_says_who_put_it_when_and_why(staff):
+    """Of the key of the room: as the journal says of the latest change that can have put what stands."""
+    key, room, other = digest(b"hello"), '{"audience":"room"}', '{"audience":"staff"}'
+    by, none = f"{moment(START + 0.5)[:19].replace('T', ' ')} by Ada: a letter", "not in the journal"
+    for later, words in [
+        ([], by), ([("200", "PUT", other)], none), ([("200", "DELETE", "")], none), ([("404", "DELETE", "")], by),
+        ([("502", "DELETE", "")], by), ([("200", "PUT", "[")], none),
+    ]:
+        changes = [("200", "PUT", room), *later]
+        lines = [journal_lines(at, START + at, status, method, f"/badges/{key.upper()}", "Ada", "a%20letter", body)
+                 for at, (status, method, body) in enumerate(changes)]
+        staff.door.journals = {"/journal": b"".join(lines)}
+        assert [row[2] for row in staff.go("keys")["rows"]] == [words, none], later
+
 def test_check_says_whether_a_disk_has_changed(museum, staff):
     assert staff.go("checks")["stands"] == ["6 disks: 0 sound; 6 never checked."]
     shown = staff.of_row("disk 1002", "Check")
     assert shown["result"] == ["Disk 1002. Sound: the disk still has the SHA-256 that came with it."]
-    assert [row[1:] for row in shown["rows"][:2]] == [["never", "", "CheckSurvey"], [TODAY, "sound", "CheckSurvey"]]
+    assert [row[1:] for row in shown["rows"][:2]] == [["never", "", "Check"], [TODAY, "sound", "Check"]]
     museum.images[1003] = museum.images[1003]._replace(digest="0" * 64)
     shown = staff.of_row("disk 1003", "Check")
-    assert (shown["stands"], shown["rows"][2][2]) == ([f"6 disks: 1 sound, {CHANGED} 4 never checked.{RESTORE}"], "changed")
+    words = [f"6 disks: 1 sound, {CHANGED} 4 never checked.{RESTORE}"]
+    assert (shown["stands"], shown["rows"][2][2]) == (words, "changed")
     museum.latest[1002] = "2020-01-01", "sound"
     assert staff.push("Check all of these")["result"][0] == "5 disks checked: 5 sound."
     assert [path.split("/")[2] for _, path, _, _ in staff.door.sent()[2:]] == ["1001", "1002", "1004", "1005", "1006"]
@@ -128,15 +143,6 @@ def test_changed_disk_among_many_checked_is_a_warning_that_stays(museum, staff):
     staff.go("checks")
     stays = [f"6 disks: 5 sound, {CHANGED} 0 never checked.{RESTORE}"]
     assert staff.texts("#checks .stands > .warning") == stays, "the warning is gone with the view"
-
-def test_survey_describes_a_disk(staff):
-    staff.go("checks")
-    assert staff.of_row("disk 1002", "Survey")["result"] == [
-        "1002, Commodore 1541, called \u201cREADING ROOM\u201d", '9, of C. "Sea" Müller \\ Söhne, signed on 0001-01-01',
-        "3 files: 2 can be given out, 0 damaged", "it ends well",
-        "0 blocks in use are marked free, 0 unused ones not; 0 tracks have a wrong count",
-        "0 files with another size than the directory says",
-    ]
 
 def test_change_that_is_done_is_called_done_where_the_list_cannot_be_read(staff):
     changes = [("deeds", put_deed, "deed 35."), ("rules", put_rule, "rule 20 of deed 8."),

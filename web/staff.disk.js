@@ -1,0 +1,182 @@
+// One disk on one page: what it is, who gets which of its files by which rules, takedowns of the files that are ticked,
+// and what the journal has of it.
+import { csvText } from "./csv.js";
+import { nameCell } from "./lists.js";
+import { shownName } from "./names.js";
+import { askObject, box, cell, counted, element, part, row, table } from "./shared.js";
+import { checkWords, checked, surveyed } from "./staff.checks.js";
+import { button, change, dated, formOf, readHeld, rulesOf, send, showsAnew } from "./staff.desk.js";
+import { COLUMNS as CHANGES, changeRow } from "./staff.journal.js";
+import { sendMany } from "./staff.many.js";
+import { UNREAD, originsOf, standingDisk, standingRule } from "./staff.origins.js";
+import { freeRank } from "./staff.ranks.js";
+import { rehearsalDays, rehearsed } from "./staff.rehearsal.js";
+import { makeRuleForm, ruleIn } from "./staff.ruleform.js";
+import { COLUMNS, EFFECT_AT, SAVED_HEADS, mayWords, readVerdictsOf, savedVerdict } from "./staff.verdicts.js";
+import { ruleAbbr } from "./staff.verdicts.js";
+import { AUDIENCES, RULES, listed, ruleTexts, ruleWords, today } from "./staff.words.js";
+import { save } from "./stream.js";
+import { noteOf, titleOf } from "./titles.js";
+
+// How many changes of the journal are shown at most.
+const MOST_CHANGES = 20;
+
+// The disk that is shown: its survey and who put it, its files with their verdicts, of which day and when these were
+// asked, its rules with who put each, and the changes of the journal.
+let shown = null;
+
+const nameOf = (record) => shownName(record[COLUMNS.kind], record[COLUMNS.name]);
+
+// Reads the disk anew, and shows it: first without what the journal says.
+async function readDisk(accession, tools) {
+  const survey = await askObject(`/images/${accession}/survey`);
+  for (const what of ["deeds", "takedowns", "checks"]) await readHeld(what);
+  const asked = { day: today(), moment: new Date().toISOString() };
+  const files = [];
+  await readVerdictsOf(accession, asked.day, (record) => files.push(record), tools);
+  const things = [{ ...standingDisk(survey), origin: UNREAD }, ...decidingRules(survey)];
+  shown = { survey, things, files, asked, changes: [] };
+  draw();
+  const { origins, changes } = await originsOf(things, tools);
+  things.forEach((thing, at) => Object.assign(thing, { origin: origins[at] }));
+  shown.changes = changes;
+  draw();
+}
+
+// All rules that decide on a disk, in the order in which the desk tries them.
+function decidingRules({ accession, deed }) {
+  const of = (name, scope, letter) =>
+    rulesOf(name, scope).map((rule) => {
+      const label = `${letter}${scope}.${rule.rank}`;
+      return { ...standingRule(RULES[name].path(scope, rule.rank), rule), rule, label, name, scope, origin: UNREAD };
+    });
+  return [...of("takedowns", accession, "T"), ...of("rules", deed, "R")];
+}
+
+function fileRow(record) {
+  const [slot, size] = [record[COLUMNS.slot], record[COLUMNS.size]];
+  const ariaLabel = `Take down ${nameOf(record)}, slot ${slot}`;
+  const tick = element("input", null, { type: "checkbox", name: "slots", value: slot, ariaLabel });
+  const name = nameCell(record[COLUMNS.kind], record[COLUMNS.name]);
+  const cells = [cell("Take down", tick), cell("Slot", slot, "number"), name, cell("Type", record[COLUMNS.type])];
+  const verdicts = Object.entries(AUDIENCES).map(([audience, words]) =>
+    cell(words, box("span", "", `${mayWords(record, audience)} `, ruleAbbr(record, audience))),
+  );
+  return row([...cells, cell("Bytes", size && Number(size).toLocaleString("en"), "number"), ...verdicts]);
+}
+
+function rulesTable(rules) {
+  const columns = ["Rule", "For whom", "Which files", "They may", "Days", "Put"];
+  const rowOf = ({ rule, label, name, scope, origin }) => {
+    const texts = { ...ruleTexts(rule), Put: origin };
+    const cells = columns.slice(1).map((column) => cell(column, dated("span", texts[column])));
+    return row([cell("Rule", element("a", label, { href: `#/${name}/${scope}` })), ...cells]);
+  };
+  if (rules.length === 0) return element("p", "No rule: nobody sees it.");
+  return table("rules that decide", columns, rules.map(rowOf));
+}
+
+// The latest changes of the disk and its deed, as far as the journal was read.
+function journalParts({ accession, deed }) {
+  const [disk, ofDeed] = [String(accession), String(deed)];
+  const mine = shown.changes.filter((one) => one.accession === disk || (one.deed === ofDeed && !one.accession));
+  const link = element("a", `All changes of disk ${disk} in the journal`, { href: `#/journal/${disk}` });
+  const made = mine.length ? [table("latest changes", CHANGES, mine.slice(0, MOST_CHANGES).map(changeRow))] : [];
+  return [element("h2", "The latest changes of the disk and its deed"), ...made, box("p", "", link)];
+}
+
+function draw() {
+  const { survey, things, files, asked } = shown;
+  const [disk, ...rules] = things;
+  const { accession } = survey;
+  const more = {
+    Title: [titleOf(accession), noteOf(accession)].filter(Boolean).join("; ") || "none",
+    "Taken in": disk.origin,
+  };
+  const columns = ["Take down", "Slot", "Name", "Type", "Bytes", ...Object.values(AUDIENCES)];
+  const press = () => change("disk", () => checked(accession, "disk"));
+  const all = [
+    ...[surveyed(survey, more), checkWords(accession), button("Check it", press)],
+    dated("h2", `Who gets what on ${asked.day}`),
+    files.length ? table("files", columns, files.map(fileRow)) : element("p", "It has no file."),
+    ...[button("Save who gets what as CSV", saveShown), part("ticked")],
+    ...[element("h2", "The rules that decide, in their order: the first that matches a file"), rulesTable(rules)],
+    ...journalParts(survey),
+  ];
+  part("ticked").hidden = files.length === 0;
+  part("disk").querySelector(".stands").replaceChildren(...all);
+}
+
+// Saves who gets what of the disk, and who put the rule that decides.
+function saveShown() {
+  const { survey, things, files, asked } = shown;
+  const originOf = (label) => things.find((one) => one.label === label)?.origin ?? "";
+  const rowOf = (record, [audience, at]) => [...savedVerdict(record, audience, asked), originOf(record[at + 1])];
+  const rows = files.flatMap((record) => Object.entries(EFFECT_AT).map((one) => rowOf(record, one)));
+  const records = [[...SAVED_HEADS, "rule put"], ...rows];
+  save(`disk-${survey.accession}-${asked.day}.csv`, [csvText(records)], "text/csv");
+}
+
+// Puts a takedown of each file that is ticked, at a free rank, once all are rehearsed and agreed to.
+async function takeDown(records, tools) {
+  const { accession } = shown.survey;
+  await readHeld("takedowns");
+  const ranks = rulesOf("takedowns", accession).map(({ rank }) => rank);
+  const commands = records.map((record) => {
+    const [rank, slot] = [freeRank(ranks), Number(record[COLUMNS.slot])];
+    ranks.push(rank);
+    const rule = { ...ruleIn(part("ticked")), select: { slot } };
+    const sent = { method: "PUT", path: RULES.takedowns.path(accession, rank), body: JSON.stringify(rule) };
+    return { scope: accession, rank, slot, rule, name: nameOf(record), ...sent };
+  });
+  if (commands.some(({ rank }) => rank === null)) return `All ranks of disk ${accession} are in use.`;
+  const words = `Take down ${counted(commands.length, "file")} of disk ${accession}?`;
+  const notes = commands.map(({ name, rank, rule }) => `${name}, at rank ${rank}: ${ruleWords(rule)}.`);
+  const asked = { words, notes, commands, days: rehearsalDays(commands[0].rule), isTakedown: true, go: "Take down" };
+  if ((await rehearsed(asked, tools)).length === 0) return "Nothing is taken down.";
+  return sendMany(takedownRun(accession, commands), tools);
+}
+
+function takedownRun(accession, commands) {
+  const stands = ({ rank, slot }) =>
+    rulesOf("takedowns", accession).some((one) => one.rank === rank && one.select.slot === slot);
+  const words = (isWanted) => listed(commands.filter(isWanted).map(({ name, rank }) => `${name} (takedown ${rank})`));
+  return {
+    ...{ section: "disk", items: commands, word: "takedown", verb: "put", heads: ["Slot", "Name", "Rank"] },
+    one: ({ method, path, body }) => send(method, path, body),
+    after: (tools) => readDisk(accession, tools),
+    more: () => `These stand: ${words(stands) || "none"}. These do not: ${words((one) => !stands(one)) || "none"}.`,
+    cells: ({ slot, name, rank }) => [String(slot), name, String(rank)],
+  };
+}
+
+// The page of a disk, where its number is given.
+export async function openDisk(accession, tools) {
+  formOf("disk").elements.accession.value = accession ?? "";
+  part("ticked").hidden = true;
+  part("disk").querySelector(".stands").replaceChildren(part("ticked"));
+  return accession ? readDisk(accession, tools) : "Type the number of a disk.";
+}
+
+export function listenForDisk() {
+  const [which, ticked] = [formOf("disk"), part("ticked")];
+  showsAnew("disk", (tools) => readDisk(shown.survey.accession, tools));
+  makeRuleForm("takedowns", ticked);
+  const { rank, how, effect } = ticked.elements;
+  for (const field of [rank, how]) field.closest("label").hidden = true;
+  rank.disabled = true;
+  [how.value, effect.value] = ["all", "deny"];
+  for (const box_ of ticked.querySelectorAll("[name=audiences]")) box_.checked = box_.value !== "staff";
+  ticked.dispatchEvent(new Event("change"));
+  ticked.querySelector("[type=submit]").textContent = "Take down what is ticked";
+  which.addEventListener("submit", (event) => {
+    event.preventDefault();
+    location.hash = `#/disk/${which.elements.accession.value}`;
+  });
+  ticked.addEventListener("submit", (event) => {
+    event.preventDefault();
+    const slots = Array.from(part("disk").querySelectorAll("[name=slots]:checked"), ({ value }) => value);
+    const records = shown.files.filter((record) => slots.includes(record[COLUMNS.slot]));
+    change("disk", (tools) => (records.length ? takeDown(records, tools) : "Tick the files to take down."));
+  });
+}

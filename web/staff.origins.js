@@ -1,0 +1,55 @@
+// Who put what stands, when and why, as the journal says.
+import { Refused } from "./shared.js";
+import { bodyOf, isUnknown, ruleOfBody, timeOf } from "./staff.changes.js";
+import { readBack } from "./staff.journal.js";
+import { ruleWords } from "./staff.words.js";
+
+// What stands: how the paths of the changes begin that put it, and whether the body of one says what stands.
+export const standingKey = ({ digest, audience }) => ({
+  path: `/badges/${digest}`,
+  isSaid: (body) => body.audience === audience,
+});
+export const standingRule = (path, rule) => ({
+  path,
+  isSaid: (body) => ruleWords(ruleOfBody(body)) === ruleWords(rule),
+});
+export const standingDisk = ({ accession, kind, deed }) => ({
+  path: `/accessions/${accession}/${kind}/${deed}/`,
+  isSaid: () => true,
+});
+
+// Whether a change says what stands: the desk takes no body that is not of its form.
+function isOf({ path, isSaid }, change) {
+  try {
+    return change.method === "PUT" && isSaid(bodyOf(change));
+  } catch {
+    return false;
+  }
+}
+
+// The latest change that put what stands; null where a later one put or dropped something else there. Where nobody
+// knows what became of one, it counts if it says what stands.
+function originOf(thing, changes) {
+  const isHere = ({ target }) => (thing.path.endsWith("/") ? target.startsWith(thing.path) : target === thing.path);
+  const counts = (change) => change.status === "200" || (isUnknown(change) && isOf(thing, change));
+  const found = changes.find((change) => isHere(change) && counts(change));
+  return found && isOf(thing, found) ? found : null;
+}
+
+function originWords(change, since) {
+  if (change === null) return since ? `not in the journal, which is read back to ${since}` : "not in the journal";
+  const { name, reason } = change;
+  return `${timeOf(change)} by ${name || "nobody who is named"}${reason && `: ${reason}`}`;
+}
+
+export const UNREAD = "not looked for in the journal";
+
+// For each of some things that stand, the words that say who put it, when and why; and the changes that were read.
+export async function originsOf(things, tools) {
+  const isEnough = (changes) => things.every((thing) => originOf(thing, changes));
+  const { changes, since, fault } = await readBack(isEnough, tools).catch((came) => ({ changes: [], fault: came }));
+  if (fault && (tools.signal?.aborted || !(fault instanceof Refused))) throw fault;
+  const none = fault?.status === 404 ? "there is no journal" : "the journal cannot be read";
+  const origins = things.map((thing) => (fault ? none : originWords(originOf(thing, changes), since)));
+  return { origins, changes };
+}
