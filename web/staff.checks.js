@@ -113,8 +113,5 @@ export function listenForChecks() {
   showsAnew("checks", showChecks);
   limitFields(form);
   before.value = dayAfter(today(), -DAYS);
-  form.addEventListener("submit", (event) => {
-    event.preventDefault();
-    change("checks", (tools) => checkAll(before.value, tools));
-  });
+  form.addEventListener("submit", () => change("checks", (tools) => checkAll(before.value, tools)));
 }

@@ -31,8 +31,7 @@ function changeDeed({ deed, donor, signed }) {
   form.elements.donor.value = donor;
   form.elements.signed.value = signed;
   form.append(leaveButton());
-  form.addEventListener("submit", (event) => {
-    event.preventDefault();
+  form.addEventListener("submit", () => {
     dialog.close();
     change("deeds", () => put(String(deed), bodyOf(form.elements)));
   });
@@ -76,9 +75,6 @@ export function listenForDeeds() {
   const form = formOf("deeds");
   showsAnew("deeds", showDeeds);
   limitFields(form);
-  form.addEventListener("submit", (event) => {
-    event.preventDefault();
-    change("deeds", () => put(form.elements.deed.value, bodyOf(form.elements)));
-  });
+  form.addEventListener("submit", () => change("deeds", () => put(form.elements.deed.value, bodyOf(form.elements))));
 }
 

@@ -169,12 +169,8 @@ export function listenForDisk() {
   for (const box_ of ticked.querySelectorAll("[name=audiences]")) box_.checked = box_.value !== "staff";
   ticked.dispatchEvent(new Event("change"));
   ticked.querySelector("[type=submit]").textContent = "Take down what is ticked";
-  which.addEventListener("submit", (event) => {
-    event.preventDefault();
-    location.hash = `#/disk/${which.elements.accession.value}`;
-  });
-  ticked.addEventListener("submit", (event) => {
-    event.preventDefault();
+  which.addEventListener("submit", () => location.assign(`#/disk/${which.elements.accession.value}`));
+  ticked.addEventListener("submit", () => {
     const slots = Array.from(part("disk").querySelectorAll("[name=slots]:checked"), ({ value }) => value);
     const records = shown.files.filter((record) => slots.includes(record[COLUMNS.slot]));
     change("disk", (tools) => (records.length ? takeDown(records, tools) : "Tick the files to take down."));

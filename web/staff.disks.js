@@ -1,10 +1,13 @@
 // Dumps of disks: chosen, described by their lengths and SHA-256, numbered by hand or by a sheet, and put.
+import { readDump } from "./dump.js";
 import { KINDS, Refused, box, cell, counted, digestOf, element, explainRefusal, kindWords } from "./shared.js";
 import { part, row, table } from "./shared.js";
-import { change, dated, formOf, readHeld, send, sure, work } from "./staff.desk.js";
+import { button, change, dated, formOf, readHeld, rulesOf, send, sure, work } from "./staff.desk.js";
+import { forecast, forecastWords } from "./staff.forecast.js";
 import { isDone, sendMany } from "./staff.many.js";
+import { diskMap } from "./staff.map.js";
 import { matchRows, rowProblem, rowsIn } from "./staff.sheet.js";
-import { LIMITS, listed, ruleWords } from "./staff.words.js";
+import { LIMITS, listed, ruleWords, today } from "./staff.words.js";
 
 // The chosen dumps, and the rows of the sheet that came with them, or null.
 let dumps = [];
@@ -43,7 +46,7 @@ function dumpRow(dump) {
   const fields = kind === undefined || dump.isLeftOut ? ["", ""] : [accession, deed];
   says.textContent = dump.problem || dump.outcome;
   return row([
-    cell("File", file.name, "name"),
+    cell("File", kind === undefined ? file.name : mapButton(dump), "name"),
     cell("Bytes", file.size.toLocaleString("en"), "number"),
     cell("Kind", kind === undefined ? "" : kindWords(kind)),
     cell("SHA-256", kind === undefined ? "" : sum, "digest"),
@@ -51,6 +54,17 @@ function dumpRow(dump) {
     cell("Deed", fields[1]),
     cell("Result", says),
   ]);
+}
+
+// The name of a dump, with a button that shows its map.
+function mapButton({ file, kind }) {
+  const press = async () => {
+    const map = diskMap(kind, new Uint8Array(await bytesOf(file)));
+    part("disks").querySelector(".stands").replaceChildren(element("h2", `The map of ${file.name}`), map);
+    return null;
+  };
+  const made = button("Map", () => work("disks", press), { ariaLabel: `Map of ${file.name}` });
+  return box("div", "", `${file.name} `, made);
 }
 
 function missingRow({ name, kind, sha256, accession, deed }) {
@@ -80,7 +94,7 @@ async function chooseFiles({ files }, tools) {
   const images = made.filter((one) => one.kind);
   for (const [at, dump] of images.entries()) {
     tools.progress("Reading", at, images.length);
-    await readDump(dump);
+    await readFile(dump);
   }
   const fault = sheets.length ? await readSheet(sheets) : "";
   if (sheet !== null) useSheet();
@@ -94,9 +108,11 @@ function bytesOf(file) {
   });
 }
 
-async function readDump(dump) {
+async function readFile(dump) {
   try {
-    dump.digest = await digestOf(await bytesOf(dump.file));
+    const bytes = await bytesOf(dump.file);
+    dump.digest = await digestOf(bytes);
+    dump.files = readDump(dump.kind, new Uint8Array(bytes)).files;
     dump.sum.textContent = dump.digest;
   } catch (fault) {
     dump.problem = explainRefusal(fault);
@@ -143,15 +159,22 @@ async function unagreed() {
   const wanted = [...new Set(open.map(({ deed }) => deed.value))];
   const unknown = wanted.filter((deed) => !deeds.has(deed));
   if (unknown.length) return `Nothing is sent: there is no deed ${listed(unknown)}. Put it first.`;
+  await readHeld("takedowns");
   const more = wanted.flatMap((deed) => deedParts(deeds.get(deed), open.filter((dump) => dump.deed.value === deed)));
   const asked = { words: `Put ${counted(open.length, "disk")}?`, more, go: "Put them", keep: "Do not put them" };
   return (await sure(asked)) ? null : "Nothing is sent.";
 }
 
-function deedParts({ deed, donor, signed, rules }, disks) {
+function deedParts({ deed, donor, signed, rules }, dumps_) {
   const lines = rules.map((rule) => dated("li", `${rule.rank}: ${ruleWords(rule)}`));
-  const heading = dated("h3", `${counted(disks.length, "disk")} under deed ${deed}, of ${donor}, signed on ${signed}`);
-  return [heading, box("ul", "rules", ...(lines.length ? lines : [element("li", "No rule: nobody sees them.")]))];
+  const heading = dated("h3", `${counted(dumps_.length, "disk")} under deed ${deed}, of ${donor}, signed on ${signed}`);
+  const rulesFor = ({ accession }) => [...rulesOf("takedowns", Number(accession.value)), ...rules];
+  const forecasts = dumps_.map((dump) => forecast(dump.files, rulesFor(dump), today()));
+  const words = `What they get from today, ${today()}, as this page reckons it from the dumps and these rules:`;
+  return [
+    ...[heading, box("ul", "rules", ...(lines.length ? lines : [element("li", "No rule: nobody sees them.")]))],
+    ...[dated("p", words), box("ul", "", ...forecastWords(forecasts).map((text) => element("li", text)))],
+  ];
 }
 
 // One after the other: a refusal stops no other dump, and the next press sends the refused one again.
@@ -192,15 +215,13 @@ function countOn() {
 export function listenForDisks() {
   const form = formOf("disks");
   const { files, count, empty } = form.elements;
-  form.addEventListener("submit", (event) => {
-    event.preventDefault();
-    change("disks", putDumps);
-  });
+  form.addEventListener("submit", () => change("disks", putDumps));
   files.addEventListener("change", () => work("disks", (tools) => chooseFiles(form.elements, tools)));
   count.addEventListener("click", countOn);
   empty.addEventListener("click", () => {
     dumps = [];
     sheet = null;
+    part("disks").querySelector(".stands").replaceChildren();
     showDumps();
   });
 }

@@ -122,10 +122,7 @@ export function listenForEyes() {
   const { audience, words, closed, save: button } = form.elements;
   limitFields(form);
   options(audience, AUDIENCES);
-  form.addEventListener("submit", (event) => {
-    event.preventDefault();
-    look();
-  });
+  form.addEventListener("submit", () => look());
   const redraw = () => seen.day && draw();
   [audience, closed, words].forEach((field) => field.addEventListener("change", redraw));
   words.addEventListener("keydown", (event) => {

@@ -151,10 +151,7 @@ export function listenForJournal() {
   const { accession, deed, words, day, checks, older, anew, save: button } = form.elements;
   limitFields(form);
   part("journal").querySelector(".bound").textContent = BOUND;
-  form.addEventListener("submit", (event) => {
-    event.preventDefault();
-    draw();
-  });
+  form.addEventListener("submit", () => draw());
   [accession, deed, words, day, checks].forEach((field) => field.addEventListener("change", draw));
   older.addEventListener("click", goOn);
   anew.addEventListener("click", () => work("journal", readAnew));

@@ -81,16 +81,23 @@ async function useKey(given) {
   showView(false);
 }
 
+// Each view has its form, then what came of its work, then what stands.
+function addPlaces(view) {
+  view.querySelector("form").after(element("div", null, { className: "result", role: "status", tabIndex: -1 }));
+  view.append(element("div", null, { className: "stands" }));
+}
+
 function listen() {
+  Object.keys(VIEWS).map(part).forEach(addPlaces);
   ["rules", "takedowns"].forEach(listenForRules);
   const looks = [listenForEyes, listenForYear, listenForJournal];
   const starts = [listenForDeeds, listenForDisks, listenForDisk, listenForKeys, listenForChecks, ...looks];
   starts.forEach((start) => start());
-  for (const name of Object.keys(VIEWS)) part(name).querySelector(".result").tabIndex = -1;
   for (const button of part("sure").querySelectorAll("button")) {
     button.addEventListener("click", () => part("sure").close(button.value));
   }
-  part("who").addEventListener("submit", (event) => event.preventDefault());
+  // no form of the page loads another one
+  document.addEventListener("submit", (event) => event.preventDefault());
   part("who").addEventListener("input", ({ target }) => target.setCustomValidity(""));
   window.addEventListener("hashchange", () => {
     // a question that somebody leaves by a link is answered by no

@@ -98,8 +98,7 @@ function changeRule(name, scope, rule) {
   form.elements.rank.readOnly = true;
   fillRule(form, rule);
   form.append(leaveButton());
-  form.addEventListener("submit", (event) => {
-    event.preventDefault();
+  form.addEventListener("submit", () => {
     const changed = ruleIn(form);
     dialog.close();
     change(name, (tools) => put(name, [scope], String(rule.rank), changed, tools));
@@ -178,8 +177,7 @@ export function listenForRules(name) {
   if (name === "takedowns") takeMany(form);
   form.elements.scope.addEventListener("input", () => draw(name));
   form.addEventListener("input", () => hint(name));
-  form.addEventListener("submit", (event) => {
-    event.preventDefault();
+  form.addEventListener("submit", () => {
     const { scope, rank } = form.elements;
     change(name, (tools) => put(name, scopesIn(name, scope.value), rank.value, ruleIn(form), tools));
   });

@@ -99,8 +99,5 @@ export function openYear() {
 }
 
 export function listenForYear() {
-  formOf("year").addEventListener("submit", (event) => {
-    event.preventDefault();
-    work("year", look);
-  });
+  formOf("year").addEventListener("submit", () => work("year", look));
 }

@@ -1,0 +1,76 @@
+// The map of a dump: each sector where it is on the disk, the first track outermost; the way of the chosen file, and
+// faults.
+import { readDump } from "./dump.js";
+import { shownName } from "./names.js";
+import { box, counted, element, explained } from "./shared.js";
+
+// The radius of the disk, and of its middle without sectors.
+const [OUTER, INNER] = [100, 25];
+const WORDS = { chosen: "chosen file", used: "other files", system: "directory", fault: "faults", free: "free" };
+
+function svg(name, fields, ...inside) {
+  const made = document.createElementNS("http://www.w3.org/2000/svg", name);
+  for (const [field, value] of Object.entries(fields)) made.setAttribute(field, value);
+  made.append(...inside);
+  return made;
+}
+
+// The outline of a sector: a part of the ring of its track.
+function outline(track, tracks, sector) {
+  const width = (OUTER - INNER) / tracks.length;
+  const [far, near] = [OUTER - track * width, OUTER - (track + 0.85) * width];
+  const [from, to] = [sector + 0.05, sector + 0.95].map((at) => (2 * Math.PI * at) / tracks[track]);
+  const point = (radius, angle) => `${(radius * Math.sin(angle)).toFixed(2)} ${(-radius * Math.cos(angle)).toFixed(2)}`;
+  const arc = (radius, angle, turn) => `A${radius} ${radius} 0 0 ${turn} ${point(radius, angle)}`;
+  return `M${point(far, from)}${arc(far, to, 1)}L${point(near, to)}${arc(near, from, 0)}Z`;
+}
+
+// The units at which files have a fault: that the drive could not read, that something else has too, or the last one.
+function faultyUnits({ files, taken, isBad }) {
+  const unitsOf = ({ units }) => {
+    const found = units.filter((unit) => isBad(unit) || taken.get(unit) > 1);
+    return found.length ? found : units.slice(-1);
+  };
+  return new Set(files.filter(({ faults }) => faults.length).flatMap(unitsOf));
+}
+
+function sectors({ tracks, unitAt, taken, system, isBad }, faulty) {
+  const kindOf = (unit) => {
+    if (isBad(unit) || faulty.has(unit)) return "fault";
+    return (system.has(unit) && "system") || (taken.has(unit) && "used") || "free";
+  };
+  return tracks.flatMap((count, track) =>
+    Array.from({ length: count }, (_, sector) => {
+      const unit = unitAt(track, sector);
+      return { unit, path: svg("path", { d: outline(track, tracks, sector), class: kindOf(unit) }) };
+    }),
+  );
+}
+
+export function diskMap(kind, bytes) {
+  const disk = readDump(kind, bytes);
+  const cells = sectors(disk, faultyUnits(disk));
+  const damaged = disk.files.filter(({ faults }) => faults.length).length;
+  const summary = `${counted(disk.files.length, "file")}, ${damaged || "none"} of them damaged.`;
+  const says = element("figcaption", summary, { role: "status" });
+  const wordsOf = ({ name, units, faults }) => {
+    const words = faults.map(explained).join("; ") || "No fault";
+    return `${shownName(kind, name)}: ${counted(new Set(units).size, "block")}. ${words}.`;
+  };
+  const choose = (file, pressed) => {
+    const isOff = pressed.getAttribute("aria-pressed") === "true";
+    for (const one of buttons) one.setAttribute("aria-pressed", String(one === pressed && !isOff));
+    for (const { unit, path } of cells) path.classList.toggle("chosen", !isOff && file.units.includes(unit));
+    says.textContent = isOff ? summary : wordsOf(file);
+  };
+  const buttons = disk.files.map((file) => {
+    const words = `${shownName(kind, file.name)} ${file.type}${file.faults.length ? ", damaged" : ""}`;
+    const made = element("button", words, { type: "button", ariaPressed: "false" });
+    made.addEventListener("click", () => choose(file, made));
+    return made;
+  });
+  const fields = { class: "map", viewBox: "-100 -100 200 200", role: "img", "aria-label": "Map of the disk's sectors" };
+  const legend = Object.entries(WORDS).map(([name, words]) => element("span", words, { className: `key ${name}` }));
+  const drawn = svg("svg", fields, ...cells.map(({ path }) => path));
+  return box("figure", "disk-map", drawn, box("p", "choices", ...legend), says, box("div", "choices", ...buttons));
+}
