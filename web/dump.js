@@ -27,7 +27,6 @@ const STARTS = { SEQ: [3], PRG: [3], USR: [3], REL: [3, 21] };
 const BLOCKS = 683;
 
 const blockAt = (track, sector) => (sector < (SECTORS[track - 1] ?? 0) ? FIRST[track - 1] + sector : -1);
-const [MAP, DIRECTORY] = [blockAt(18, 0), blockAt(18, 1)];
 
 // All blocks from one on along the links, and how they end.
 function chain(bytes, start) {
@@ -40,23 +39,20 @@ function chain(bytes, start) {
 }
 
 function cbmFile(bytes, entry, slot) {
-  const type = TYPES[entry[2] & 15] ?? "OTHER";
-  const isClosed = entry[2] >= 128;
+  const [type, isClosed] = [TYPES[entry[2] & 15] ?? "OTHER", entry[2] >= 128];
   const starts = isClosed ? (STARTS[type] ?? []) : [];
   const chains = starts.map((at) => chain(bytes, blockAt(entry[at], entry[at + 1])));
   const name = printed(trimmed(entry.subarray(5, 21), 0xa0), [0x25]);
-  const ends = chains.map(({ end }) => end);
-  return { slot, user: null, name, type, isClosed, ends, units: chains.flatMap(({ blocks }) => blocks) };
+  const [ends, units] = [chains.map(({ end }) => end), chains.flatMap(({ blocks }) => blocks)];
+  return { slot, user: null, name, type, isClosed, ends, units };
 }
 
 function cbmDisk(bytes) {
-  const directory = chain(bytes, DIRECTORY).blocks;
-  const entries = directory.flatMap((block) =>
-    Array.from({ length: 8 }, (_, at) => bytes.subarray(256 * block + 32 * at, 256 * block + 32 * at + 32)),
-  );
-  const all = entries.map((entry, slot) => (entry[2] === 0 ? null : cbmFile(bytes, entry, slot)));
-  const files = all.filter((file) => file !== null);
-  const system = new Set([MAP, ...directory]);
+  const directory = chain(bytes, blockAt(18, 1)).blocks;
+  const places = directory.flatMap((block) => Array.from({ length: 8 }, (_, at) => 256 * block + 32 * at));
+  const entries = places.map((place) => bytes.subarray(place, place + 32));
+  const files = entries.flatMap((entry, slot) => (entry[2] === 0 ? [] : [cbmFile(bytes, entry, slot)]));
+  const system = new Set([blockAt(18, 0), ...directory]);
   const taken = tally([...system, ...files.flatMap(({ units }) => units)]);
   const isBad = (block) => bytes[256 * BLOCKS + block] > 1;
   for (const file of files) {
@@ -74,7 +70,6 @@ function cbmDisk(bytes) {
 
 // Disks of CP/M: the sector of a track at which each logical one lies.
 const SKEW = [1, 7, 13, 19, 25, 5, 11, 17, 23, 3, 9, 15, 21, 2, 8, 14, 20, 26, 6, 12, 18, 24, 4, 10, 16, 22];
-const LAST_BLOCK = 242;
 
 const extentOf = (entry) => 32 * (entry[14] & 63) + (entry[12] & 31);
 
@@ -108,7 +103,7 @@ function cpmDisk(bytes) {
       gap: extents.some((one) => one && !extents.includes(one - 1)),
       short: entries.some((entry, at) => entry[15] < 128 && extents[at] < extents.at(-1)),
       hole: reached.includes(0),
-      "off-disk": units.some((unit) => unit > LAST_BLOCK),
+      "off-disk": units.some((unit) => unit > 242),
       crossed: units.some((unit) => unit === 1 || taken.get(unit) > 1),
     });
     file.isServed = file.faults.length === 0;

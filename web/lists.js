@@ -1,7 +1,7 @@
 // Long lists: a table whose rows are drawn as far as they are seen. Its rows stand in blocks; a block that is far from
 // the screen is one empty row of the same height.
 import { shownName } from "./names.js";
-import { cell, element, table } from "./shared.js";
+import { box, cell, element, table } from "./shared.js";
 
 const BLOCK = 100;
 const NEAR = "1200px 0px";
@@ -84,6 +84,53 @@ export function longTable(caption, columns, items, rowOf) {
   made.lastChild.replaceWith(...list.blocks.map((block) => block.body));
   made.setAttribute("aria-rowcount", items.length + 1);
   list.watch();
+  return made;
+}
+
+// Up to so many rows nobody needs to sort or filter; and how somebody has done it, by the caption of the list.
+const FEW = 20;
+const choices = new Map();
+
+// A table of items that can be sorted by the columns that have a value of each, and filtered by a text in these.
+export function listTable(caption, columns, items, rowOf) {
+  const names = Object.keys(columns);
+  if (items.length <= FEW) return longTable(caption, names, items, rowOf);
+  const chosen = choices.get(caption) ?? { words: "", column: "", turn: 1 };
+  const filter = element("input", null, { type: "search", value: chosen.words });
+  const count = element("span", "", { role: "status" });
+  const made = box("div", "", box("label", "", "Only rows with ", filter, " ", count), element("table", null));
+  const isFound = (one) => names.some((name) => `${columns[name]?.(one) ?? ""}`.toLowerCase().includes(chosen.words));
+  const order = (one, other) => {
+    const [first, second] = [one, other].map(columns[chosen.column]);
+    return first === second ? 0 : chosen.turn * (first < second ? -1 : 1);
+  };
+  const draw = () => {
+    const shown = items.filter(isFound);
+    if (chosen.column) shown.sort(order);
+    count.textContent = `${shown.length.toLocaleString("en")} of ${items.length.toLocaleString("en")} shown`;
+    made.lastChild.replaceWith(longTable(caption, names, shown, rowOf));
+    made.querySelectorAll("th").forEach(addSort);
+  };
+  const addSort = (head) => {
+    const name = head.textContent;
+    if (!columns[name]) return;
+    const isSorted = chosen.column === name;
+    if (isSorted) head.ariaSort = chosen.turn > 0 ? "ascending" : "descending";
+    const arrow = isSorted ? (chosen.turn > 0 ? " \u2191" : " \u2193") : "";
+    const button = element("button", name + arrow, { type: "button" });
+    button.addEventListener("click", () => {
+      Object.assign(chosen, { column: name, turn: isSorted ? -chosen.turn : 1 });
+      draw();
+      made.querySelector("[aria-sort] button").focus();
+    });
+    head.replaceChildren(button);
+  };
+  choices.set(caption, chosen);
+  filter.addEventListener("input", () => {
+    chosen.words = filter.value.toLowerCase();
+    draw();
+  });
+  draw();
   return made;
 }
 

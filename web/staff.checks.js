@@ -1,5 +1,5 @@
 // Survey and check of disks, and the latest check of each.
-import { longTable } from "./lists.js";
+import { listTable } from "./lists.js";
 import { box, cell, counted, element, kindWords, numberOf, own, part, row } from "./shared.js";
 import { change, changed, dated, diskCell, formOf, held, readHeld, shownAnew, showsAnew } from "./staff.desk.js";
 import { isDone, sendMany } from "./staff.many.js";
@@ -10,11 +10,12 @@ import { dayAfter, today } from "./staff.words.js";
 // After how many days a disk is due to be checked again.
 const DAYS = 365;
 const DIRECTORIES = { end: "it ends well", loop: "it leads back into itself", off: "it leads off the disk" };
-const RESTORE = " Restore a backup of what is changed.";
-const OUTCOMES = {
-  sound: "Sound: the disk still has the SHA-256 that came with it.",
-  changed: "Changed: the disk no longer has the SHA-256 that came with it. Restore a backup.",
-};
+
+// What a check has found: a warning where a disk is changed.
+function finding(text, isBad) {
+  if (!isBad) return dated("p", text, { className: "callout" });
+  return dated("p", `${text} Restore a backup of what is changed.`, { className: "refused" });
+}
 
 export function surveyed(survey, more = {}) {
   const { donor, signed, files, served, faulty, label, directory, map } = survey;
@@ -36,8 +37,9 @@ export function surveyed(survey, more = {}) {
 // Checks a disk, and says in a section what was found.
 export async function checked(accession, section) {
   const { outcome } = await changed("POST", `/images/${accession}/check`);
-  const words = `Disk ${accession}. ${OUTCOMES[outcome]}`;
-  return shownAnew(section, outcome === "changed" ? element("p", words, { className: "warning" }) : words);
+  const isBad = outcome === "changed";
+  const words = isBad ? "CHANGED: it no longer has" : "sound: it still has";
+  return shownAnew(section, finding(`Disk ${accession} is ${words} the SHA-256 that came with it.`, isBad));
 }
 
 // Checks all disks whose latest check is before a day, or that were never checked.
@@ -46,8 +48,6 @@ async function checkAll(before, tools) {
   const run = {
     section: "checks",
     items: due.map(({ accession }) => ({ accession, found: "" })),
-    word: "disk",
-    verb: "checked",
     one: async (item) => {
       item.found = (await changed("POST", `/images/${item.accession}/check`)).outcome;
     },
@@ -70,39 +70,38 @@ function foundWords(found) {
 // What a check of many has found. A changed disk is a warning.
 function checkedWords(items, rest) {
   const { words, isBad } = foundWords(items.map(({ accession, found }) => ({ accession, outcome: found })));
-  const checked = `${counted(items.filter(isDone).length, "disk")} checked: ${words}.`;
-  return element("p", `${checked}${rest}${isBad ? RESTORE : ""}`, { className: isBad ? "warning summary" : "summary" });
+  return finding(`${counted(items.filter(isDone).length, "disk")} checked: ${words}.${rest}`, isBad);
 }
 
 function checkRow({ accession, day, outcome }) {
-  const words = `disk ${accession}`;
   return row([
     diskCell(accession),
     cell("Checked on", day ?? "never", "day"),
     cell("Outcome", outcome ?? "", outcome === "changed" ? "warning" : ""),
-    buttonsCell(words, { Check: () => change("checks", () => checked(accession, "checks")) }),
+    buttonsCell(`disk ${accession}`, { Check: () => change("checks", () => checked(accession, "checks")) }),
   ]);
 }
 
 // What the latest check of a disk has found.
 export function checkWords(disk) {
   const { day, outcome } = held.checks.find(({ accession }) => accession === disk) ?? {};
-  if (outcome === "changed") return element("p", `CHANGED on ${day}.${RESTORE}`, { className: "warning" });
-  return dated("p", day ? `Its latest check: ${outcome} on ${day}.` : "It was never checked.");
+  const isBad = outcome === "changed";
+  return finding(day ? `Latest check: ${isBad ? "CHANGED" : outcome} on ${day}.` : "Never checked.", isBad);
 }
 
 // What stands of all disks: the warning stays there as long as a disk is changed.
 function summary(checks) {
   const { words, isBad } = foundWords(checks);
   const never = checks.filter((one) => one.day === null).length.toLocaleString("en");
-  const text = `${counted(checks.length, "disk")}: ${words}; ${never} never checked.${isBad ? RESTORE : ""}`;
-  return element("p", text, { className: isBad ? "warning" : "" });
+  return finding(`${counted(checks.length, "disk")}: ${words}; ${never} never checked.`, isBad);
 }
 
 // Reads the checks anew, and shows them.
 export async function showChecks() {
   const checks = await readHeld("checks");
-  const made = longTable("latest checks", ["Disk", "Checked on", "Outcome", ""], held.checks, checkRow);
+  const columns = { Disk: (one) => one.accession, "Checked on": (one) => one.day ?? "never" };
+  Object.assign(columns, { Outcome: (one) => one.outcome ?? "", "": null });
+  const made = listTable("latest checks", columns, held.checks, checkRow);
   const words = checks.length ? summary(checks) : element("p", "There is no disk.");
   part("checks").querySelector(".stands").replaceChildren(words, ...(checks.length ? [made] : []));
 }

@@ -1,9 +1,9 @@
 // Deeds: who gave disks, and when they signed; each with its rules.
-import { longTable } from "./lists.js";
+import { listTable } from "./lists.js";
 import { cell, counted, element, part, row } from "./shared.js";
 import { change, dated, formOf, held, readHeld, send, shownAnew, showsAnew, sure } from "./staff.desk.js";
 import { limitFields } from "./staff.ruleform.js";
-import { buttonsCell, leaveButton } from "./staff.rules.js";
+import { buttonsCell, showChange } from "./staff.rules.js";
 import { ruleWords } from "./staff.words.js";
 
 const signedWords = ({ donor, signed }) => `${donor}, signed on ${signed}`;
@@ -24,26 +24,18 @@ async function put(deed, body) {
 const bodyOf = ({ donor, signed }) => ({ donor: donor.value, signed: signed.value });
 
 function changeDeed({ deed, donor, signed }) {
-  const dialog = part("change");
   const form = formOf("deeds").cloneNode(true);
   limitFields(form);
   Object.assign(form.elements.deed, { value: deed, readOnly: true });
   form.elements.donor.value = donor;
   form.elements.signed.value = signed;
-  form.append(leaveButton());
-  form.addEventListener("submit", () => {
-    dialog.close();
-    change("deeds", () => put(String(deed), bodyOf(form.elements)));
-  });
-  part("change-heading").textContent = `Change deed ${deed}`;
-  dialog.querySelector("form").replaceWith(form);
-  dialog.showModal();
+  showChange(`Change deed ${deed}`, form, () => change("deeds", () => put(String(deed), bodyOf(form.elements))));
 }
 
 // The rules of a deed in short, and the way to all that can be done with them.
 function rulesCell({ deed, rules }) {
   const made = element("div", null);
-  if (rules.length) made.append(element("ul", null, { className: "rules" }));
+  if (rules.length) made.append(element("ul", null));
   const lines = rules.map((rule) => dated("li", `${rule.rank}: ${ruleWords(rule)}`));
   made.firstChild?.append(...lines);
   const words = rules.length ? "Rules" : "No rule: nobody sees its disks";
@@ -66,8 +58,11 @@ function deedRow(one) {
 export async function showDeeds() {
   await readHeld("deeds");
   const count = element("p", held.deeds.length ? `${counted(held.deeds.length, "deed")}.` : "There is no deed.");
-  const columns = ["Deed", "Donor", "Signed on", "Disks", "Rules", ""];
-  const made = held.deeds.length ? [longTable("deeds that stand", columns, held.deeds, deedRow)] : [];
+  const columns = {
+    ...{ Deed: ({ deed }) => deed, Donor: ({ donor }) => donor, "Signed on": ({ signed }) => signed },
+    ...{ Disks: ({ accessions }) => accessions, Rules: ({ rules }) => rules.map(ruleWords).join("; "), "": null },
+  };
+  const made = held.deeds.length ? [listTable("deeds that stand", columns, held.deeds, deedRow)] : [];
   part("deeds").querySelector(".stands").replaceChildren(count, ...made);
 }
 

@@ -44,24 +44,16 @@ export function rulesOf(name, scope) {
 
 // Who changes something, and why
 
-function sentWords(input) {
-  const words = encodeURIComponent(input.value.trim());
-  return words.length <= LONGEST_WORDS ? words : null;
-}
+const sentWords = (text) => encodeURIComponent(text.trim());
 
 // Marks a name or a reason that is missing or too long, and says whether both can be sent.
 export function hasWho() {
   for (const input of [part("who").elements.name, part("who").elements.reason]) {
-    const words = sentWords(input);
-    const lacks = words === "" ? "The page sends this with each change." : "";
-    input.setCustomValidity(words === null ? "This is too long: it has at most 1,000 bytes as it is sent." : lacks);
+    const length = sentWords(input.value).length;
+    const long = length > LONGEST_WORDS ? "This is too long: it has at most 1,000 bytes as it is sent." : "";
+    input.setCustomValidity(length === 0 ? "The page sends this with each change." : long);
   }
   return part("who").reportValidity();
-}
-
-function whoFields() {
-  const { name, reason } = part("who").elements;
-  return { "Desk-Staff": sentWords(name), "Desk-Note": sentWords(reason) };
 }
 
 export function whoNow() {
@@ -80,7 +72,8 @@ export function keepReason() {
 // Changes
 
 export async function changed(method, path, body) {
-  const headers = { ...fields(), ...whoFields() };
+  const { name, reason } = whoNow();
+  const headers = { ...fields(), "Desk-Staff": sentWords(name), "Desk-Note": sentWords(reason) };
   const said = await askObject(path, { method, body, headers }).catch((fault) => {
     throw fault instanceof Refused ? Object.assign(fault, { isOfChange: true }) : fault;
   });
@@ -99,7 +92,7 @@ export function show(name, ...parts) {
   part(name).querySelector(".result").replaceChildren(...parts);
 }
 
-export const paragraph = (words) => (words instanceof Node ? words : dated("p", words));
+export const paragraph = (words) => (words instanceof Node ? words : dated("p", words, { className: "callout" }));
 
 // An element with a text, whose days are not broken at the end of a line, and whose disks lead to their pages.
 export function dated(name, text, fields = {}) {
@@ -139,10 +132,7 @@ export const older = (name) =>
 // The words of a change that is done, once its section is shown anew; where it cannot be, also what was not read, and
 // why.
 export async function shownAnew(name, words) {
-  const fault = await again(name).then(
-    () => null,
-    (came) => came,
-  );
+  const fault = await again(name).then(() => null, (came) => came);
   return fault === null ? words : [words, older(name), refusal(fault)];
 }
 

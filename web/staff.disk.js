@@ -1,17 +1,16 @@
-// One disk on one page: what it is, who gets which of its files by which rules, takedowns of the files that are ticked,
-// and what the journal has of it.
+// One disk on one page: what it is, who gets what of it by which rules, its journal, and takedowns of ticked files.
 import { csvText } from "./csv.js";
 import { nameCell } from "./lists.js";
 import { shownName } from "./names.js";
 import { askObject, box, cell, counted, element, part, row, table } from "./shared.js";
 import { checkWords, checked, surveyed } from "./staff.checks.js";
-import { button, change, dated, formOf, readHeld, rulesOf, send, showsAnew } from "./staff.desk.js";
+import { button, change, dated, formOf, readHeld, rulesOf, showsAnew } from "./staff.desk.js";
 import { COLUMNS as CHANGES, changeRow } from "./staff.journal.js";
-import { sendMany } from "./staff.many.js";
 import { UNREAD, originsOf, standingDisk, standingRule } from "./staff.origins.js";
 import { freeRank } from "./staff.ranks.js";
 import { rehearsalDays, rehearsed } from "./staff.rehearsal.js";
 import { makeRuleForm, ruleIn } from "./staff.ruleform.js";
+import { putMany } from "./staff.rules.js";
 import { COLUMNS, EFFECT_AT, SAVED_HEADS, mayWords, readVerdictsOf, savedVerdict } from "./staff.verdicts.js";
 import { ruleAbbr } from "./staff.verdicts.js";
 import { AUDIENCES, RULES, listed, ruleTexts, ruleWords, today } from "./staff.words.js";
@@ -21,8 +20,7 @@ import { noteOf, titleOf } from "./titles.js";
 // How many changes of the journal are shown at most.
 const MOST_CHANGES = 20;
 
-// The disk that is shown: its survey and who put it, its files with their verdicts, of which day and when these were
-// asked, its rules with who put each, and the changes of the journal.
+// The disk that is shown: its survey, who put it and its rules, its files with their verdicts, and changes of it.
 let shown = null;
 
 const nameOf = (record) => shownName(record[COLUMNS.kind], record[COLUMNS.name]);
@@ -89,18 +87,16 @@ function draw() {
   const { survey, things, files, asked } = shown;
   const [disk, ...rules] = things;
   const { accession } = survey;
-  const more = {
-    Title: [titleOf(accession), noteOf(accession)].filter(Boolean).join("; ") || "none",
-    "Taken in": disk.origin,
-  };
+  const title = [titleOf(accession), noteOf(accession)].filter(Boolean).join("; ") || "none";
+  const about = surveyed(survey, { Title: title, "Taken in": disk.origin });
   const columns = ["Take down", "Slot", "Name", "Type", "Bytes", ...Object.values(AUDIENCES)];
   const press = () => change("disk", () => checked(accession, "disk"));
   const all = [
-    ...[surveyed(survey, more), checkWords(accession), button("Check it", press)],
+    ...[about, checkWords(accession), button("Check it", press)],
     dated("h2", `Who gets what on ${asked.day}`),
     files.length ? table("files", columns, files.map(fileRow)) : element("p", "It has no file."),
     ...[button("Save who gets what as CSV", saveShown), part("ticked")],
-    ...[element("h2", "The rules that decide, in their order: the first that matches a file"), rulesTable(rules)],
+    ...[element("h2", "The rules, in their order: the first that matches decides"), rulesTable(rules)],
     ...journalParts(survey),
   ];
   part("ticked").hidden = files.length === 0;
@@ -134,28 +130,22 @@ async function takeDown(records, tools) {
   const notes = commands.map(({ name, rank, rule }) => `${name}, at rank ${rank}: ${ruleWords(rule)}.`);
   const asked = { words, notes, commands, days: rehearsalDays(commands[0].rule), isTakedown: true, go: "Take down" };
   if ((await rehearsed(asked, tools)).length === 0) return "Nothing is taken down.";
-  return sendMany(takedownRun(accession, commands), tools);
+  const isOf = (one, { rank, select }) => rank === one.rank && select.slot === one.slot;
+  const stands = (one) => rulesOf("takedowns", accession).some((rule) => isOf(one, rule));
+  const those = (some) => listed(some.map(({ name, rank }) => `${name} (takedown ${rank})`)) || "none";
+  const not = (one) => !stands(one);
+  const said = () => `These stand: ${those(commands.filter(stands))}. These do not: ${those(commands.filter(not))}.`;
+  const cells = ({ slot, name, rank }) => [String(slot), name, String(rank)];
+  const more = { after: (how) => readDisk(accession, how), more: said, heads: ["Slot", "Name", "Rank"], cells };
+  return putMany("disk", commands, more, tools);
 }
 
-function takedownRun(accession, commands) {
-  const stands = ({ rank, slot }) =>
-    rulesOf("takedowns", accession).some((one) => one.rank === rank && one.select.slot === slot);
-  const words = (isWanted) => listed(commands.filter(isWanted).map(({ name, rank }) => `${name} (takedown ${rank})`));
-  return {
-    ...{ section: "disk", items: commands, word: "takedown", verb: "put", heads: ["Slot", "Name", "Rank"] },
-    one: ({ method, path, body }) => send(method, path, body),
-    after: (tools) => readDisk(accession, tools),
-    more: () => `These stand: ${words(stands) || "none"}. These do not: ${words((one) => !stands(one)) || "none"}.`,
-    cells: ({ slot, name, rank }) => [String(slot), name, String(rank)],
-  };
-}
-
-// The page of a disk, where its number is given.
 export async function openDisk(accession, tools) {
   formOf("disk").elements.accession.value = accession ?? "";
   part("ticked").hidden = true;
   part("disk").querySelector(".stands").replaceChildren(part("ticked"));
-  return accession ? readDisk(accession, tools) : "Type the number of a disk.";
+  if (accession) await readDisk(accession, tools);
+  return accession ? [] : "Type the number of a disk.";
 }
 
 export function listenForDisk() {
@@ -164,8 +154,7 @@ export function listenForDisk() {
   makeRuleForm("takedowns", ticked);
   const { rank, how, effect } = ticked.elements;
   for (const field of [rank, how]) field.closest("label").hidden = true;
-  rank.disabled = true;
-  [how.value, effect.value] = ["all", "deny"];
+  [rank.disabled, how.value, effect.value] = [true, "all", "deny"];
   for (const box_ of ticked.querySelectorAll("[name=audiences]")) box_.checked = box_.value !== "staff";
   ticked.dispatchEvent(new Event("change"));
   ticked.querySelector("[type=submit]").textContent = "Take down what is ticked";

@@ -20,18 +20,13 @@ function noKind(length) {
   return `The page does not send it: no kind of disk has ${counted(length, "byte")}. ${lengths.join(", ")}.`;
 }
 
-function numberField(label, limits) {
-  const made = element("input", null, { required: true, ...limits });
-  made.setAttribute("aria-label", label);
-  return made;
-}
-
 function dumpOf(file) {
   const kind = kindOf(file.size);
   const places = { says: element("div", null), sum: element("span", "") };
   const dump = { file, kind, digest: "", outcome: "", problem: "", ...places };
-  dump.accession = numberField(`Accession of ${file.name}`, LIMITS.accession);
-  dump.deed = numberField(`Deed of ${file.name}`, LIMITS.deed);
+  const fieldOf = (what, ariaLabel) => element("input", null, { required: true, ariaLabel, ...LIMITS[what] });
+  dump.accession = fieldOf("accession", `Accession of ${file.name}`);
+  dump.deed = fieldOf("deed", `Deed of ${file.name}`);
   if (kind === undefined) dump.problem = noKind(file.size);
   return dump;
 }
@@ -61,7 +56,6 @@ function mapButton({ file, kind }) {
   const press = async () => {
     const map = diskMap(kind, new Uint8Array(await bytesOf(file)));
     part("disks").querySelector(".stands").replaceChildren(element("h2", `The map of ${file.name}`), map);
-    return null;
   };
   const made = button("Map", () => work("disks", press), { ariaLabel: `Map of ${file.name}` });
   return box("div", "", `${file.name} `, made);
@@ -172,7 +166,7 @@ function deedParts({ deed, donor, signed, rules }, dumps_) {
   const forecasts = dumps_.map((dump) => forecast(dump.files, rulesFor(dump), today()));
   const words = `What they get from today, ${today()}, as this page reckons it from the dumps and these rules:`;
   return [
-    ...[heading, box("ul", "rules", ...(lines.length ? lines : [element("li", "No rule: nobody sees them.")]))],
+    ...[heading, box("ul", "", ...(lines.length ? lines : [element("li", "No rule: nobody sees them.")]))],
     ...[dated("p", words), box("ul", "", ...forecastWords(forecasts).map((text) => element("li", text)))],
   ];
 }

@@ -93,7 +93,6 @@ async function draw() {
   part("eyes").querySelector(".found").hidden = false;
 }
 
-// Saves what is shown as a table for a spreadsheet.
 async function saveShown() {
   const asked = wanted();
   const { day, moment } = seen;
@@ -104,13 +103,11 @@ async function saveShown() {
   save(`${asked.audience}-${day}.csv`, texts, "text/csv");
 }
 
-function look() {
+async function look(tools) {
   const { day, audience } = formOf("eyes").elements;
-  return work("eyes", async (tools) => {
-    await read(day.value, tools);
-    await draw();
-    return `Read: what everybody gets ${onDay(day.value)}. Shown: ${AUDIENCES[audience.value]}.`;
-  });
+  await read(day.value, tools);
+  await draw();
+  return `Read: what everybody gets ${onDay(day.value)}. Shown: ${AUDIENCES[audience.value]}.`;
 }
 
 export function openEyes() {
@@ -122,7 +119,7 @@ export function listenForEyes() {
   const { audience, words, closed, save: button } = form.elements;
   limitFields(form);
   options(audience, AUDIENCES);
-  form.addEventListener("submit", () => look());
+  form.addEventListener("submit", () => work("eyes", look));
   const redraw = () => seen.day && draw();
   [audience, closed, words].forEach((field) => field.addEventListener("change", redraw));
   words.addEventListener("keydown", (event) => {

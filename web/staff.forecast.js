@@ -11,26 +11,26 @@ const MATCHES = {
   type: (type, file) => file.type === type,
 };
 
-function matches(rule, audience, day, file) {
-  const [how, what] = selection(rule);
-  const isOn = (rule.from ?? "") <= day && (rule.until === null || day < rule.until);
-  return isOn && rule.audiences.includes(audience) && MATCHES[how](what, file);
-}
-
 // The effects for each file on a day, by audience: the first rule that matches decides.
 export function forecast(files, rules, day) {
-  const effectOf = (audience, file) =>
-    given(rules.find((rule) => matches(rule, audience, day, file))?.effect ?? "deny", file.isServed);
-  const effects = (audience) => files.map((file) => effectOf(audience, file));
-  return Object.fromEntries(Object.keys(AUDIENCES).map((audience) => [audience, effects(audience)]));
+  const isOn = ({ from, until }) => (from ?? "") <= day && (until === null || day < until);
+  const matches = (rule, file, [how, what] = selection(rule)) => MATCHES[how](what, file);
+  const effectsFor = (audience) => {
+    const mine = rules.filter((rule) => isOn(rule) && rule.audiences.includes(audience));
+    return files.map((file) => given(mine.find((rule) => matches(rule, file))?.effect ?? "deny", file.isServed));
+  };
+  return Object.fromEntries(Object.keys(AUDIENCES).map((audience) => [audience, effectsFor(audience)]));
 }
 
-// How many files of some disks each audience will read, see and not see, in a sentence for each.
-export function forecastWords(forecasts) {
+// How many files each audience may read, see and not see, in a sentence for each.
+export function audienceCounts(countOf) {
   return Object.entries(AUDIENCES).map(([audience, words]) => {
-    const effects = forecasts.flatMap((one) => one[audience]);
-    const counted = (effect) => effects.filter((one) => one === effect).length.toLocaleString("en");
-    const [read, list, deny] = Object.keys(EFFECTS).map(counted);
+    const [read, list, deny] = Object.keys(EFFECTS).map((effect) => countOf(audience, effect).toLocaleString("en"));
     return `${words[0].toUpperCase()}${words.slice(1)}: ${read} to read, ${list} only in the list, ${deny} hidden.`;
   });
+}
+
+export function forecastWords(forecasts) {
+  const effectsOf = (audience) => forecasts.flatMap((one) => one[audience]);
+  return audienceCounts((audience, effect) => effectsOf(audience).filter((one) => one === effect).length);
 }

@@ -10,7 +10,7 @@ import { listenForEyes, openEyes } from "./staff.eyes.js";
 import { listenForJournal, openJournal } from "./staff.journal.js";
 import { listenForKeys, showKeys } from "./staff.keys.js";
 import { listenForRules, openRules } from "./staff.rules.js";
-import { listenForYear, openYear } from "./staff.year.js";
+import { listenForTimeline, openTimeline } from "./staff.timeline.js";
 
 // The views by their sections: the heading, and what each does when it comes before the reader.
 const VIEWS = {
@@ -22,7 +22,7 @@ const VIEWS = {
   checks: { heading: "Checks", open: showChecks },
   disk: { heading: "One disk", of: "Disk", open: openDisk },
   eyes: { heading: "Who sees what", open: openEyes, isLook: true },
-  year: { heading: "The next year", open: openYear, isLook: true },
+  timeline: { heading: "Timeline", open: openTimeline, isLook: true },
   journal: { heading: "Journal", of: "Journal of disk", open: openJournal, isLook: true },
 };
 
@@ -81,16 +81,14 @@ async function useKey(given) {
   showView(false);
 }
 
-// Each view has its form, then what came of its work, then what stands.
-function addPlaces(view) {
-  view.querySelector("form").after(element("div", null, { className: "result", role: "status", tabIndex: -1 }));
-  view.append(element("div", null, { className: "stands" }));
-}
-
 function listen() {
-  Object.keys(VIEWS).map(part).forEach(addPlaces);
+  // each view has its form, then what came of its work, then what stands
+  for (const view of Object.keys(VIEWS).map(part)) {
+    view.querySelector("form").after(element("div", null, { className: "result", role: "status", tabIndex: -1 }));
+    view.append(element("div", null, { className: "stands" }));
+  }
   ["rules", "takedowns"].forEach(listenForRules);
-  const looks = [listenForEyes, listenForYear, listenForJournal];
+  const looks = [listenForEyes, listenForTimeline, listenForJournal];
   const starts = [listenForDeeds, listenForDisks, listenForDisk, listenForKeys, listenForChecks, ...looks];
   starts.forEach((start) => start());
   for (const button of part("sure").querySelectorAll("button")) {

@@ -29,19 +29,13 @@ export async function sendMany(run, { progress, signal }) {
     if (signal.aborted) break;
     progress("Sending", at, left.length);
     item.who = whoNow();
-    const fault = await run.one(item).then(
-      () => null,
-      (came) => came,
-    );
+    const fault = await run.one(item).then(() => null, (came) => came);
     item.outcome = fault === null ? DONE : outcomeWords(fault);
     run.shown?.(item);
     if (fault !== null && isLost(fault)) break;
   }
   if (!run.items.every(isDone)) keepReason();
-  let isOlder = false;
-  await run.after?.({ progress }).catch(() => {
-    isOlder = true;
-  });
+  const isOlder = await Promise.resolve(run.after?.({ progress })).then(() => false, () => true);
   return report(run, isOlder);
 }
 
@@ -51,7 +45,7 @@ function summary({ items, word, verb, said }) {
   const open = items.filter((item) => !item.outcome).length;
   const rest = `${items.length - done - open} failed${open ? `, ${open} not sent yet` : ""}.`;
   if (said) return said(items, done < items.length ? ` ${rest}` : "");
-  return element("p", `${counted(done, word)} ${verb}, ${rest}`, { className: "summary" });
+  return element("p", `${counted(done, word)} ${verb}, ${rest}`, { className: "callout" });
 }
 
 // What became of the items: in short, those that failed, and buttons to go on and to save the report; and whether what
@@ -61,19 +55,15 @@ function report(run, isOlder) {
   const failed = run.items.filter((item) => item.outcome && !isDone(item));
   const isWhole = run.items.every(isDone);
   made.append(summary(run));
-  if (failed.length && !run.shown) made.append(failedTable(run, failed));
+  const columns = [...run.heads, "Outcome"];
+  const rowOf = (item) => row([...run.cells(item), item.outcome].map((text, at) => cell(columns[at], text)));
+  if (failed.length && !run.shown) made.append(table("Failed", columns, failed.map(rowOf)));
   if (run.more && !isWhole && !isOlder) made.append(element("p", run.more()));
   const goOn = () => change(run.section, (tools) => sendMany(run, tools));
   const buttons = isWhole ? [] : [button("Go on with the rest", goOn)];
   made.append(box("p", "choices", ...buttons, button("Save the report", () => saveReport(run))));
   if (isOlder) made.append(older(run.section));
   return made;
-}
-
-function failedTable({ heads, cells }, failed) {
-  const columns = [...heads, "Outcome"];
-  const rowOf = (item) => row([...cells(item), item.outcome].map((text, at) => cell(columns[at], text)));
-  return table("Failed", columns, failed.map(rowOf));
 }
 
 function saveReport({ section, items, heads, cells }) {

@@ -1,10 +1,9 @@
-// The map of a dump: each sector where it is on the disk, the first track outermost; the way of the chosen file, and
-// faults.
+// The map of a dump: each sector where it is on the disk, the first track outermost; the chosen file, and faults.
 import { readDump } from "./dump.js";
 import { shownName } from "./names.js";
 import { box, counted, element, explained } from "./shared.js";
+import { button } from "./staff.desk.js";
 
-// The radius of the disk, and of its middle without sectors.
 const [OUTER, INNER] = [100, 25];
 const WORDS = { chosen: "chosen file", used: "other files", system: "directory", fault: "faults", free: "free" };
 
@@ -25,49 +24,42 @@ function outline(track, tracks, sector) {
   return `M${point(far, from)}${arc(far, to, 1)}L${point(near, to)}${arc(near, from, 0)}Z`;
 }
 
-// The units at which files have a fault: that the drive could not read, that something else has too, or the last one.
-function faultyUnits({ files, taken, isBad }) {
-  const unitsOf = ({ units }) => {
-    const found = units.filter((unit) => isBad(unit) || taken.get(unit) > 1);
-    return found.length ? found : units.slice(-1);
-  };
-  return new Set(files.filter(({ faults }) => faults.length).flatMap(unitsOf));
+// The units at which a file has a fault: that the drive could not read, that something else has too, or the last one.
+function faultyUnits({ faults, units }, { taken, isBad }) {
+  const found = units.filter((unit) => isBad(unit) || taken.get(unit) > 1);
+  return faults.length && found.length === 0 ? units.slice(-1) : found;
 }
 
-function sectors({ tracks, unitAt, taken, system, isBad }, faulty) {
+function sectorsOf(disk) {
+  const faulty = new Set(disk.files.flatMap((file) => faultyUnits(file, disk)));
   const kindOf = (unit) => {
-    if (isBad(unit) || faulty.has(unit)) return "fault";
-    return (system.has(unit) && "system") || (taken.has(unit) && "used") || "free";
+    if (disk.isBad(unit) || faulty.has(unit)) return "fault";
+    return (disk.system.has(unit) && "system") || (disk.taken.has(unit) && "used") || "free";
   };
-  return tracks.flatMap((count, track) =>
-    Array.from({ length: count }, (_, sector) => {
-      const unit = unitAt(track, sector);
-      return { unit, path: svg("path", { d: outline(track, tracks, sector), class: kindOf(unit) }) };
-    }),
-  );
+  const sector = (track, at) => {
+    const unit = disk.unitAt(track, at);
+    return { unit, path: svg("path", { d: outline(track, disk.tracks, at), class: kindOf(unit) }) };
+  };
+  return disk.tracks.flatMap((count, track) => Array.from({ length: count }, (_, at) => sector(track, at)));
 }
 
 export function diskMap(kind, bytes) {
   const disk = readDump(kind, bytes);
-  const cells = sectors(disk, faultyUnits(disk));
+  const cells = sectorsOf(disk);
   const damaged = disk.files.filter(({ faults }) => faults.length).length;
   const summary = `${counted(disk.files.length, "file")}, ${damaged || "none"} of them damaged.`;
   const says = element("figcaption", summary, { role: "status" });
-  const wordsOf = ({ name, units, faults }) => {
-    const words = faults.map(explained).join("; ") || "No fault";
-    return `${shownName(kind, name)}: ${counted(new Set(units).size, "block")}. ${words}.`;
-  };
+  const faultWords = ({ faults }) => faults.map(explained).join("; ") || "No fault";
+  const blocks = ({ units }) => counted(new Set(units).size, "block");
   const choose = (file, pressed) => {
     const isOff = pressed.getAttribute("aria-pressed") === "true";
     for (const one of buttons) one.setAttribute("aria-pressed", String(one === pressed && !isOff));
     for (const { unit, path } of cells) path.classList.toggle("chosen", !isOff && file.units.includes(unit));
-    says.textContent = isOff ? summary : wordsOf(file);
+    says.textContent = isOff ? summary : `${shownName(kind, file.name)}: ${blocks(file)}. ${faultWords(file)}.`;
   };
   const buttons = disk.files.map((file) => {
     const words = `${shownName(kind, file.name)} ${file.type}${file.faults.length ? ", damaged" : ""}`;
-    const made = element("button", words, { type: "button", ariaPressed: "false" });
-    made.addEventListener("click", () => choose(file, made));
-    return made;
+    return button(words, ({ currentTarget }) => choose(file, currentTarget), { ariaPressed: "false" });
   });
   const fields = { class: "map", viewBox: "-100 -100 200 200", role: "img", "aria-label": "Map of the disk's sectors" };
   const legend = Object.entries(WORDS).map(([name, words]) => element("span", words, { className: `key ${name}` }));

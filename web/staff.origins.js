@@ -4,19 +4,11 @@ import { bodyOf, isUnknown, ruleOfBody, timeOf } from "./staff.changes.js";
 import { readBack } from "./staff.journal.js";
 import { ruleWords } from "./staff.words.js";
 
-// What stands: how the paths of the changes begin that put it, and whether the body of one says what stands.
-export const standingKey = ({ digest, audience }) => ({
-  path: `/badges/${digest}`,
-  isSaid: (body) => body.audience === audience,
-});
-export const standingRule = (path, rule) => ({
-  path,
-  isSaid: (body) => ruleWords(ruleOfBody(body)) === ruleWords(rule),
-});
-export const standingDisk = ({ accession, kind, deed }) => ({
-  path: `/accessions/${accession}/${kind}/${deed}/`,
-  isSaid: () => true,
-});
+// What stands: the path of the changes that put it, or how it begins, and whether the body of one says what stands.
+const standing = (path, isSaid) => ({ path, isSaid });
+export const standingRule = (path, rule) => standing(path, (body) => ruleWords(ruleOfBody(body)) === ruleWords(rule));
+export const standingKey = (key) => standing(`/badges/${key.digest}`, ({ audience }) => audience === key.audience);
+export const standingDisk = (disk) => standing(`/accessions/${disk.accession}/${disk.kind}/${disk.deed}/`, () => true);
 
 // Whether a change says what stands: the desk takes no body that is not of its form.
 function isOf({ path, isSaid }, change) {

@@ -3,7 +3,7 @@ import { shownName } from "./names.js";
 import { Refused, counted, element } from "./shared.js";
 import { dated, sure } from "./staff.desk.js";
 import { COLUMNS, given, readVerdicts } from "./staff.verdicts.js";
-import { EFFECTS, audienceWords, dayAfter, listed, today } from "./staff.words.js";
+import { EFFECTS, audienceWords, dayAfter, isOnNoDay, listed, today } from "./staff.words.js";
 import { readTable } from "./stream.js";
 
 const ORDER = ["deny", "list", "read"];
@@ -15,7 +15,7 @@ const DAY_WORDS = { from: "its first day", last: "its last day", until: "the fir
 
 // The days of a rule on which something begins or ends.
 function turningDays({ from, until }) {
-  if (from && until && from >= until) return {};
+  if (isOnNoDay({ from, until })) return {};
   return { from, last: until && dayAfter(until, -1), until };
 }
 

@@ -1,6 +1,6 @@
 // The form for a rule of a deed or a takedown: made, filled with a rule that stands, and read.
 import { element, own, part } from "./shared.js";
-import { AUDIENCES, EFFECTS, LIMITS, RULES, SELECTORS, selection } from "./staff.words.js";
+import { AUDIENCES, EFFECTS, LIMITS, RULES, SELECTORS, isDay, selection } from "./staff.words.js";
 
 export function options(select, words, names = Object.keys(words)) {
   select.append(...names.map((name) => element("option", words[name], { value: name })));
@@ -12,9 +12,17 @@ function audienceBox(name) {
   return made;
 }
 
-// Gives its limits to each field of a form.
+// Gives its limits to each field of a form. A day is typed as it is shown.
 export function limitFields(form) {
-  for (const field of form.elements) Object.assign(field, own(LIMITS, field.name) || {});
+  for (const field of form.elements) {
+    const limits = own(LIMITS, field.name) || {};
+    Object.assign(field, limits);
+    if (limits !== LIMITS.day) continue;
+    field.addEventListener("input", () => {
+      const isFine = field.value === "" || isDay(field.value);
+      field.setCustomValidity(isFine ? "" : "Type a day of the calendar, as in 2026-01-31.");
+    });
+  }
 }
 
 // Adds the fields of a rule to a form.

@@ -1,5 +1,5 @@
 // Rules of deeds, and takedowns: the forms that put and change them, and the tables of those that stand.
-import { longTable } from "./lists.js";
+import { listTable } from "./lists.js";
 import { box, cell, counted, element, part, row } from "./shared.js";
 import { button, change, dated, diskCell, formOf, held, readHeld, rulesOf } from "./staff.desk.js";
 import { send, shownAnew, showsAnew } from "./staff.desk.js";
@@ -17,7 +17,7 @@ const MOST_NOTES = 10;
 const READ = { rules: "deeds", takedowns: "takedowns" };
 
 // All that stand: each with the deed or the accession that it is of.
-function standing(name) {
+export function standing(name) {
   if (name === "rules") return held.deeds.flatMap(({ deed, rules }) => rules.map((rule) => ({ scope: deed, rule })));
   return held.takedowns.flatMap(({ accession, rules }) => rules.map((rule) => ({ scope: accession, rule })));
 }
@@ -43,22 +43,19 @@ async function put(name, scopes, typedRank, rule, tools) {
   const asked = { words: `Put ${words}?`, notes, commands, days, isTakedown: name === "takedowns", go: "Put it" };
   const agreed = await rehearsed(asked, tools);
   if (agreed.length === 0) return `Not put: ${words}.`;
-  if (places.length > 1) return putMany(name, agreed, tools);
+  const cells = (one) => [String(one.scope), String(one.rank)];
+  const more = { after: () => showRules(name), heads: ["Accession", "Rank"], cells };
+  if (places.length > 1) return putMany(name, agreed, more, tools);
   await send("PUT", agreed[0].path, body);
   return shownAnew(name, `Done: ${words}.`);
 }
 
-// Puts the same takedown of many disks.
-function putMany(name, commands, tools) {
+// Puts takedowns one after the other, in a section; `more` has what else its report needs.
+export function putMany(section, commands, more, tools) {
   const run = {
-    section: name,
-    items: commands,
-    word: "takedown",
-    verb: "put",
+    ...{ section, items: commands, word: "takedown", verb: "put" },
     one: ({ method, path, body }) => send(method, path, body),
-    after: () => showRules(name),
-    heads: ["Accession", "Rank"],
-    cells: ({ scope, rank }) => [String(scope), String(rank)],
+    ...more,
   };
   return sendMany(run, tools);
 }
@@ -89,26 +86,29 @@ async function drop(name, scope, rule, tools) {
   return shownAnew(name, `Done: there is no ${said} now.`);
 }
 
+// Shows a form in a dialog, which closes before what is typed there is used.
+export function showChange(heading, form, use) {
+  const dialog = part("change");
+  form.append(button("Leave it as it is", () => dialog.close(), { name: "leave" }));
+  form.addEventListener("submit", () => {
+    dialog.close();
+    use();
+  });
+  part("change-heading").textContent = heading;
+  dialog.querySelector("form").replaceWith(form);
+  dialog.showModal();
+}
+
 // The dialog in which a rule is changed where it stands.
 function changeRule(name, scope, rule) {
-  const dialog = part("change");
   const form = element("form", null, { autocomplete: "off", method: "dialog" });
   makeRuleForm(name, form);
   form.elements.rank.value = rule.rank;
   form.elements.rank.readOnly = true;
   fillRule(form, rule);
-  form.append(leaveButton());
-  form.addEventListener("submit", () => {
-    const changed = ruleIn(form);
-    dialog.close();
-    change(name, (tools) => put(name, [scope], String(rule.rank), changed, tools));
-  });
-  part("change-heading").textContent = `Change ${RULES[name].words(scope, rule.rank)}`;
-  dialog.querySelector("form").replaceWith(form);
-  dialog.showModal();
+  const use = () => change(name, (tools) => put(name, [scope], String(rule.rank), ruleIn(form), tools));
+  showChange(`Change ${RULES[name].words(scope, rule.rank)}`, form, use);
 }
-
-export const leaveButton = () => button("Leave it as it is", () => part("change").close(), { name: "leave" });
 
 // Tables
 
@@ -140,8 +140,12 @@ function draw(name) {
   const things = name === "rules" ? "deed" : "disk";
   const where = typed === "" ? "" : ` of ${things}${scopes.size > 1 ? "s" : ""} ${typed}`;
   const count = element("p", shown.length ? `${counted(shown.length, word)}${where}.` : `There is no ${word}${where}.`);
-  const columns = [of, "Rank", "For whom", "Which files", "They may", "Days", ""];
-  const made = shown.length ? [longTable(`${word}s that stand`, columns, shown, (one) => ruleRow(name, one))] : [];
+  const textOf = (column) => [column, (one) => ruleTexts(one.rule)[column]];
+  const columns = {
+    ...{ [of]: ({ scope: number }) => number, Rank: ({ rule }) => rule.rank },
+    ...{ ...Object.fromEntries(["For whom", "Which files", "They may", "Days"].map(textOf)), "": null },
+  };
+  const made = shown.length ? [listTable(`${word}s that stand`, columns, shown, (one) => ruleRow(name, one))] : [];
   part(name).querySelector(".stands").replaceChildren(count, ...made);
 }
 

@@ -14,7 +14,6 @@ export function readVerdicts(day, take, { progress, signal }) {
   return readTable(`/staff/verdicts/${day}`, { take, signal, progress: (count) => progress(`Reading ${day}`, count) });
 }
 
-// The same of one disk.
 export function readVerdictsOf(accession, day, take, tools) {
   return readVerdicts(day, (record) => record[COLUMNS.accession] === String(accession) && take(record), tools);
 }
@@ -24,18 +23,13 @@ export const given = (effect, isServed) => (effect === "read" && !isServed ? "li
 
 export const effectOf = (record, audience) => given(record[EFFECT_AT[audience]], record[COLUMNS.size] !== "");
 
-export const MAY = { read: "read it", list: "see that it is there", deny: "see nothing of it" };
-
-// Why the desk gives out a file to nobody.
-function whyUnserved(record) {
-  const faults = record[COLUMNS.faults];
-  if (faults === "") return `the desk gives out no file of type ${record[COLUMNS.type]}`;
-  return `damaged: ${faults.split(" ").map(explained).join("; ")}`;
-}
+const MAY = { read: "read it", list: "see that it is there", deny: "see nothing of it" };
 
 // Why a file is only listed that a rule lets them read.
-export function whyListed(record, audience) {
-  return effectOf(record, audience) === record[EFFECT_AT[audience]] ? "" : whyUnserved(record);
+function whyListed(record, audience) {
+  if (effectOf(record, audience) === record[EFFECT_AT[audience]]) return "";
+  const faults = record[COLUMNS.faults].split(" ").map(explained).join("; ");
+  return faults ? `damaged: ${faults}` : `the desk gives out no file of type ${record[COLUMNS.type]}`;
 }
 
 export function mayWords(record, audience) {
@@ -55,10 +49,9 @@ const PAST = "by today's rules, not by those that stood then";
 
 export const onDay = (day) => `on ${day}${day < today() ? `, ${PAST}` : ""}`;
 
-function byWhichRules(day) {
-  if (day < today()) return PAST;
-  return day > today() ? "by today's rules, which may change until then" : "by the rules that stood when it was asked";
-}
+const LATER = "by today's rules, which may change until then";
+const NOW = "by the rules that stood when it was asked";
+const byWhichRules = (day) => (day < today() ? PAST : (day > today() && LATER) || NOW);
 
 export const SAVED_HEADS = [
   ...["day", "by which rules", "asked at", "audience", "they may", "because", "rule", "rule in words"],

@@ -50,7 +50,7 @@ export const SELECTORS = {
 
 // What the fields take, by their names.
 const NUMBER = { pattern: "[1-9][0-9]{0,5}", title: "a number from 1 to 999999", inputMode: "numeric", size: 7 };
-const DAY = { min: "0001-01-01", max: "9999-12-31" };
+const DAY = { pattern: "[0-9]{4}-[0-9]{2}-[0-9]{2}", placeholder: "2026-01-31", title: "as in 2026-01-31", size: 11 };
 export const LIMITS = {
   deed: NUMBER,
   accession: NUMBER,
@@ -80,6 +80,12 @@ export const RULES = {
   },
 };
 
+// Whether a text is a day as the page shows it, and is in the calendar.
+export function isDay(text) {
+  const date = new Date(`${text}T00:00:00Z`);
+  return text > "0001" && !Number.isNaN(date.getTime()) && date.toISOString().slice(0, 10) === text;
+}
+
 // The one entry of a selector: how it selects, and by what.
 export const selection = (rule) => Object.entries(rule.select)[0];
 
@@ -88,8 +94,10 @@ export function filesWords(rule) {
   return SELECTORS[how].shown(what);
 }
 
+export const isOnNoDay = ({ from, until }) => Boolean(from && until && from >= until);
+
 export function daysWords({ from, until }) {
-  if (from && until && from >= until) return `on no day: from ${from}, but until ${until}`;
+  if (isOnNoDay({ from, until })) return `on no day: from ${from}, but until ${until}`;
   if (!from && !until) return "on all days";
   return [from && `from ${from}`, until && `until ${until}`].filter(Boolean).join(", ");
 }

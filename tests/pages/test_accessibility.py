@@ -59,7 +59,7 @@ document.addEventListener("focusin", ({ target }) => {
 });
 return due.length;
 """
-# How often the Tab key is pressed at most: a field for a day has three parts and a button, each of which takes one.
+# How often the Tab key is pressed at most.
 MOST_TABS = 400
 # What has to have a name, by the roles that the browser tells a screen reader.
 NAMED = {*"link button textbox searchbox spinbutton combobox checkbox Date DisclosureTriangle".split(),
@@ -69,7 +69,7 @@ READERS = "", "2001", "2001/0", "2001/1", "1001", "1004", "?q=letter&as=screens"
 VIEWS = [("reader", place, None) for place in READERS]
 VIEWS += [("staff", place, None) for place in ("deeds", "rules", "takedowns", "keys", "journal", "disks")]
 VIEWS += [("staff", *more) for more in [
-    ("eyes", "Look"), ("year", "Look at the next year"), ("checks", "Check disk 1002"), ("disk/1002", "Check it"),
+    ("eyes", "Look"), ("timeline", "Change after"), ("checks", "Check disk 1002"), ("disk/1002", "Check it"),
     ("takedowns", "Change takedown 1000 of disk 1003"), ("takedowns", "Drop takedown 1000 of disk 1003"),
 ]]
 

@@ -101,31 +101,27 @@ def test_dumps_are_described_and_numbered_by_hand(staff, choose):
     staff.push("Number the others from the first")
     asked = staff.push("Put the disks")["sure"]
     assert asked, "a disk goes out without a question"
-    donor = 'C. "Sea" Müller \\ Söhne'
-    rule = "20: all files readable for the public, the reading room and the staff, on all days"
-    reckoned = f"What they get from today, {TODAY}, as this page reckons it from the dumps and these rules:"
-    gets = [f"The {who}: 1 to read, 1 only in the list, 0 hidden." for who in ("public", "reading room", "staff")]
-    assert asked == ["Put 2 disks?", f"2 disks under deed 9, of {donor}, signed on 0001-01-01", rule, reckoned, *gets]
+    assert asked == [
+        "Put 2 disks?", f"2 disks under deed 9, of {samples.DONOR_OF_9}, signed on 0001-01-01",
+        "20: all files readable for the public, the reading room and the staff, on all days",
+        f"What they get from today, {TODAY}, as this page reckons it from the dumps and these rules:",
+        *(f"The {who}: 1 to read, 1 only in the list, 0 hidden." for who in ("public", "reading room", "staff"))]
     assert (staff.answer(False)["result"], staff.door.sent()) == (["Nothing is sent."], [])
     staff.push("Put the disks")
     shown = staff.answer(True)
     assert shown["result"][0] == "2 disks put, 0 failed."
     assert [row[4:] for row in shown["list"]] == [["3001", "9", "done"], ["3002", "9", "done"], ["", "", no_kind]]
 
-def test_map_shows_each_sector_the_way_of_a_file_and_its_faults(staff, choose):
+def test_map_shows_each_sector_the_chosen_file_and_faults(staff, choose):
     choose({"damaged.d64": samples.bytes_of("images", "damaged.d64"), "plain.img": WELCOME})
-    staff.push("Map of plain.img")
-    assert len(staff.texts("#disks .map path")) == 77 * 26
-    staff.push("Map of damaged.d64")
-    assert len(staff.texts("#disks .map path")) == 683
-    assert staff.texts("figcaption") == ["2 files, 1 of them damaged."]
-    assert staff.texts("figure button") == ["LOGBOOK SEQ, damaged", "INDEX SEQ"]
-    assert (len(staff.texts(".map .fault")), staff.texts(".map .chosen")) == (2, [])
-    staff.push("INDEX SEQ")
-    assert (staff.texts("figcaption"), len(staff.texts(".map .chosen"))) == (["INDEX: 1 block. No fault."], 1)
-    staff.push("LOGBOOK SEQ, damaged")
-    words = "LOGBOOK: 3 blocks. read-error (the drive could not read a block of it)."
-    assert (staff.texts("figcaption"), len(staff.texts(".map .chosen"))) == ([words], 3)
+    for name, count in (("plain.img", 77 * 26), ("damaged.d64", 683)):
+        staff.push(f"Map of {name}")
+        assert len(staff.texts("#disks .map path")) == count
+    assert (staff.text("figcaption"), len(staff.texts(".map .fault"))) == ("2 files, 1 of them damaged.", 2)
+    fault = "LOGBOOK: 4 blocks. read-error (the drive could not read a block of it)."
+    for button, words, count in (("INDEX SEQ", "INDEX: 1 block. No fault.", 1), ("LOGBOOK SEQ, damaged", fault, 4)):
+        staff.push(button)
+        assert (staff.text("figcaption"), len(staff.texts(".map .chosen"))) == (words, count)
 
 # A script: what the page reads on the dump beside it, and what it foretells of its files.
 FORETOLD = """
@@ -133,43 +129,37 @@ const [kind, rules, day, done] = arguments;
 const all = [import("/dump.js"), import("/staff.forecast.js"), fetch("/drawn.dump").then((one) => one.arrayBuffer())];
 Promise.all(all).then(([dump, made, bytes]) => {
   const { files } = dump.readDump(kind, new Uint8Array(bytes));
-  const shown = files.map(({ slot, user, name, type, faults, isServed }) => [slot, user, name, type, faults, isServed]);
-  done([shown, made.forecast(files, rules, day)]);
+  const texts = (one) => [one.slot, one.user ?? "", one.name, one.type, one.faults.join(" "), one.isServed].map(String);
+  done([files.map(texts), made.forecast(files, rules, day)]);
 });
 """
 BASES = {"d64": [HELLO, MUSEUM, samples.LOOP_DISK], "d64e": [MARKED, samples.bytes_of("images", "damaged.d64")],
          "cpm8": [RECORD, WELCOME, samples.LONG_DISK, samples.bytes_of("images", "damaged.img")]}
+READ, DAYS = ("slot", "user", "name", "type", "faults"), [None, TODAY, "2026-06-16"]
 SELECTS = [{"all": True}, {"slot": 0}, {"slot": 2}, {"prefix": "W"}, {"prefix": "HE"}, {"user": 0}, {"type": "PRG"}]
 
-def drawn_dump(random_, kind):
+def drawn_dump(one, kind):
     """A dump of which some bytes of the directory, of links and of error bytes are others."""
-    image = bytearray(random_.choice(BASES[kind]))
-    for _ in range(random_.choice([0, 1, 3, 12])):
-        entry = 32 * random_.randrange(3) + random_.choice([0, 1, 2, 3, 4, 5, 12, 15, 16, 17, 21, 22])
-        block = random_.choice([cbm_image.place(18, 0), cbm_image.place(17, 0), 256 * random_.randrange(683)])
-        places = [cbm_image.place(18, 1) + entry, block, block + 1, len(image) - 1 - random_.randrange(683)]
-        at = cpm_image.slot_place(random_.randrange(3)) + entry % 32 if kind == "cpm8" else random_.choice(places)
-        image[at] = random_.choice([0, 1, 2, 16, 17, 18, 128, 130, 132, 255, random_.randrange(256)])
+    image, start = bytearray(one(BASES[kind])), cpm_image.slot_place(0) if kind == "cpm8" else cbm_image.place(18, 1)
+    for _ in range(one([0, 1, 3, 12])):
+        links = [] if kind == "cpm8" else [256 * one(range(683)) + one([0, 1]), -1 - one(range(683))]
+        image[one([start + one(range(96)), *links])] = one([0, 1, 2, 16, 17, 18, 128, 130, 132, one(range(256))])
     return bytes(image)
-
-def drawn_rule(random_, rank):
-    days = [random_.choice([None, None, day]) for day in ("2026-06-15", "2026-06-16")]
-    audiences = random_.sample(AUDIENCES, random_.randint(1, 3))
-    return museums.rule(rank, random_.choice(["deny", "list", "read"]), audiences, random_.choice(SELECTS), *days)
 
 @pytest.mark.parametrize("count", [20, pytest.param(500, marks=pytest.mark.long)])
 def test_page_reads_and_foretells_of_a_dump_what_the_desk_says_of_the_disk(museum, staff, tmp_path, seed, count):
     random_ = random.Random(seed)
+    one, effects = random_.choice, ["deny", "list", "read"]
     for number, kind in itertools.product(range(count), BASES):
-        data, rules = drawn_dump(random_, kind), [drawn_rule(random_, rank) for rank in range(1, random_.randint(1, 6))]
-        (tmp_path / "drawn.dump").write_bytes(data)
-        museums.put(museum, 5000, kind, 9, data)
-        files = museum.files_of(5000)
-        shown = [[int(file["slot"]), int(file["user"]) if file["user"] else None, file["name"], file["type"],
-                  file["faults"].split(), file["size"] != ""] for file in files]
-        given = {word: [] for word in AUDIENCES}
+        audiences = [random_.sample(AUDIENCES, one([1, 2, 3])) for _ in range(one(range(6)))]
+        rules = [museums.rule(rank, one(effects), some, one(SELECTS), one(DAYS), one(DAYS))
+                 for rank, some in enumerate(audiences)]
+        museums.put(museum, 5000, kind, 9, drawn_dump(one, kind))
+        (tmp_path / "drawn.dump").write_bytes(museum.images[5000].bytes)
+        files, given = museum.files_of(5000), {word: [] for word in AUDIENCES}
         for word, file in itertools.product(AUDIENCES, files):
             _, effect = model_rules.verdict([("R9", rules)], word, TODAY, file)
             given[word].append("list" if effect == "read" and file["size"] == "" else effect)
-        came = staff.driver.execute_async_script(FORETOLD, kind, rules, TODAY)
-        assert came == [shown, given], f"dump {number} of kind {kind}"
+        due = [[*map(file.get, READ), str(file["size"] != "").lower()] for file in files]
+        found = staff.driver.execute_async_script(FORETOLD, kind, rules, TODAY)
+        assert found == [due, given], f"what is read and foretold of dump {number} of kind {kind}"

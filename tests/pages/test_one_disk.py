@@ -1,72 +1,69 @@
-"""One disk on one page: what it is, who gets what by which rules, who put these; takedowns of the files that are ticked."""
+"""One disk on one page: what it is, who gets what by which rules, who put these; takedowns of ticked files."""
+
+import csv
 
 import pytest
-from staff_helpers import journal_lines, lost_at, moment, saved_table, takedown
+from staff_helpers import journal_lines, lost_at, moment, takedown
 from support.browser import TODAY
+from support.samples import DONOR_OF_9
 
-START, PATH = 1_800_000_000, "/deeds/9/rules/20"
-EVERYBODY = "the public, the reading room and the staff"
+START, NOT = 1_800_000_000, "not in the journal"
 READ = '{"audiences":["room","public","staff"],"select":{"all":true},"effect":"read"}'
 READS, LISTS = "read it R9.20", "see that it is there (the desk gives out no file of type DEL) R9.20"
-CLOSED, NOT = "see nothing of it T1002.{}", "not in the journal"
+CLOSED = "see nothing of it T1002.{}"
 BY = f"{moment(START + 0.5)[:19].replace('T', ' ')} by Ada: a letter"
 
 @pytest.fixture
 def disk(staff):
     """The page of disk 1002, of whose deed a journal has the rule."""
-    staff.door.journals = {"/journal": journal_lines(1, START, "200", "PUT", PATH, "Ada", "a%20letter", READ)}
+    line = "200", "PUT", "/deeds/9/rules/20", "Ada", "a%20letter", READ
+    staff.door.journals = {"/journal": journal_lines(1, START, *line)}
     staff.go("disk/1002")
     return staff
 
-def tick(disk, *slots):
-    for slot in slots:
-        disk.set(f"#disk [name=slots][value='{slot}']", True)
-    return disk.push("Take down what is ticked")
-
-def test_disk_says_what_it_is_who_gets_what_by_which_rule_and_who_put_it(museum, disk):
+def test_disk_says_what_it_is_and_who_gets_what_by_which_rule(museum, disk):
     museum.rules["T1002"] = takedown(1000, 2)
-    rows = disk.go("disk/1002")["rows"]
+    shown = disk.go("disk/1002")
+    rows, left = shown["rows"], shown["result"]
+    assert left == [], "the page goes on saying that it reads the journal"
     assert disk.texts("#disk dd") == [
         "none", NOT, "1002, Commodore 1541, called \u201cREADING ROOM\u201d",
-        '9, of C. "Sea" Müller \\ Söhne, signed on 0001-01-01', "3 files: 2 can be given out, 0 damaged", "it ends well",
+        f"9, of {DONOR_OF_9}, signed on 0001-01-01", "3 files: 2 can be given out, 0 damaged", "it ends well",
         "0 blocks in use are marked free, 0 unused ones not; 0 tracks have a wrong count",
-        "0 files with another size than the directory says",
-    ]
-    assert [row[1:3] + row[5:] for row in rows[:3]] == [
-        ["0", "TOUR", READS, READS, READS], ["1", "-" * 16, LISTS, LISTS, LISTS],
-        ["2", "GUIDE", CLOSED.format(1000), CLOSED.format(1000), READS],
-    ]
-    assert [[row[0], row[2], row[5]] for row in rows[3:5]] == [
-        ["T1002.1000", "the file at slot 2", NOT], ["R9.20", "all files", BY]]
-    assert rows[5][1:3] == ["Ada", f"Put rule 20 of deed 9: all files readable for {EVERYBODY}, on all days"]
+        "0 files with another size than the directory says"]
+    closed = CLOSED.format(1000)
+    assert [row[2:3] + row[5:] for row in rows[:3]] == [
+        ["TOUR", *[READS] * 3], ["-" * 16, *[LISTS] * 3], ["GUIDE", closed, closed, READS]]
+    assert [[row[0], row[5]] for row in rows[3:5]] == [["T1002.1000", NOT], ["R9.20", BY]]
+    assert rows[5][1].startswith("Ada") and rows[5][2].startswith("Put rule 20 of deed 9: all files readable for")
     disk.push("Save who gets what as CSV")
-    heads, *records = saved_table(disk, f"disk-1002-{TODAY}.csv")
-    saved = [dict(zip(heads, record)) for record in records]
+    saved = list(csv.DictReader(disk.saved(f"disk-1002-{TODAY}.csv").decode().splitlines()))
     keys = "day", "audience", "they may", "rule", "rule put", "name as shown", "size"
     assert [[one[key] for key in keys] for one in saved[6:9:2]] == [
         [TODAY, "the public", "see nothing of it", "T1002.1000", NOT, "GUIDE", "532"],
         [TODAY, "the staff", "read it", "R9.20", BY, "GUIDE", "532"]]
 
-def test_ticked_files_are_taken_down_and_what_fails_is_said(disk):
-    shown = tick(disk, 0, 2)
-    hides = "at rank {}: the file at slot {} hidden from the public and the reading room, on all days."
-    assert shown["sure"][:3] == ["Take down 2 files of disk 1002?", f"TOUR, {hides.format(1000, 0)}",
-                                 f"GUIDE, {hides.format(990, 2)}"]
-    assert disk.answer(False)["result"] == ["Nothing is taken down."]
-    tick(disk, 0, 2)
-    disk.door.before = lost_at(2)
-    words = disk.answer(True)["result"]
-    assert words[:2] == ["1 takedown put, 1 failed.", "These stand: TOUR (takedown 1000). These do not: GUIDE (takedown 990)."]
+def test_ticked_files_are_taken_down_and_what_stands_after_a_failure_is_said(disk):
+    words = "hidden from the public and the reading room, on all days."
+    notes = [f"{name}, at rank {rank}: the file at slot {slot} {words}"
+             for name, rank, slot in (("TOUR", 1000, 0), ("GUIDE", 990, 2))]
+    for is_agreed in (False, True):
+        for slot in (0, 2):
+            disk.set(f"#disk [name=slots][value='{slot}']", True)
+        asked = disk.push("Take down what is ticked")["sure"]
+        assert asked[:3] == ["Take down 2 files of disk 1002?", *notes]
+        disk.door.before = lost_at(2)
+        shown = disk.answer(is_agreed)
+        assert (len(disk.door.sent()), shown["result"][0]) == (
+            (2, "1 takedown put, 1 failed.") if is_agreed else (0, "Nothing is taken down."))
+    assert shown["result"][1] == "These stand: TOUR (takedown 1000). These do not: GUIDE (takedown 990)."
     shown = disk.push("Go on with the rest")
     assert shown["result"][0] == "2 takedowns put, 0 failed."
     assert [row[5] for row in shown["rows"][:3]] == [CLOSED.format(1000), LISTS, CLOSED.format(990)]
 
-@pytest.mark.parametrize("place, button", [("checks", None), ("takedowns", None), ("eyes", "Look"), ("journal", None)])
-def test_number_of_a_disk_leads_to_its_page(museum, disk, place, button):
+def test_each_number_of_a_disk_leads_to_its_page(museum, disk):
     museum.rules["T1002"] = takedown(1000, 2)
     disk.door.journals = {"/journal": journal_lines(1, START, "200", "PUT", "/images/1002/rules/1000", "Ada")}
-    disk.go(place)
-    if button:
-        disk.push(button)
-    disk.named("link", "1002").click()
-    assert disk.read(lambda state: state["here"] == "#/disk/1002")["heading"] == "Disk 1002"
+    for place, button in (("checks", "Check disk 1002"), ("takedowns", None), ("eyes", "Look"), ("journal", None)):
+        shown = disk.go(place)
+        assert "#/disk/1002" in (disk.push(button) if button else shown)["links"], place

@@ -1,7 +1,7 @@
 """What stands at the desk: deeds, rules, takedowns, keys and checks. Each is put, changed and dropped in its row, and
 read anew after each change."""
 
-from staff_helpers import CANNOT_REACH, journal_lines, lost_at, moment, older, put_deed
+from staff_helpers import journal_lines, lost_at, moment, older, put_deed
 from support import museums
 from support.browser import TODAY
 from support.samples import digest
@@ -9,8 +9,8 @@ from support.samples import digest
 EVERYBODY = "the public, the reading room and the staff"
 RULE_20 = ["20", EVERYBODY, "all files", "read them", "on all days", "ChangeDrop"]
 STAFF, OTHER = digest(b"abc"), digest(b"another")
-START, NOBODY = 1_800_000_000, "Nobody can use it any more."
-CHANGED, RESTORE = "1 CHANGED: 1003;", " Restore a backup of what is changed."
+START, NOT, NOBODY = 1_800_000_000, "not in the journal", "Nobody can use it any more."
+RESTORE = " Restore a backup of what is changed."
 
 def put_rule(staff):
     staff.put_rule("rules", "8", "20", "all", None, "public", "room", "staff", effect="read")
@@ -85,6 +85,18 @@ def test_rules_that_are_put_again_stay_as_they_were(museum, staff):
     assert [path for _, path, _, _ in staff.door.sent()] == [f"/deeds/9/rules/{rank}" for rank in range(1, 6)]
     assert museum.shown_rules("R9") == before
 
+def test_long_list_stays_sorted_and_filtered_when_it_is_read_anew(museum, staff):
+    museum.latest |= {acc: ("2026-01-02", "sound") for acc in range(1001, 1004)}
+    for number in range(1, 31):
+        museums.put(museum, number, "cpm8", 9, museum.images[1001].bytes)
+    numbers = lambda: [int(row[0]) for row in staff.go("checks")["rows"]]
+    assert numbers() == [*range(1, 31), *range(1001, 1007)]
+    for button in ("Disk", "Disk"):
+        staff.push(button)
+    assert numbers() == [*range(1006, 1000, -1), *range(30, 0, -1)]
+    staff.type("Only rows with", "2026-01")
+    assert (numbers(), staff.text("#checks label [role=status]")) == ([1003, 1002, 1001], "3 of 36 shown")
+
 def test_key_is_put_given_away_and_dropped(museum, staff):
     rows = staff.go("keys")["rows"]
     assert [row[3] for row in rows] == ["Give it to the staffDrop", "Give it to the reading roomDrop"]
@@ -101,55 +113,30 @@ def test_key_is_put_given_away_and_dropped(museum, staff):
              "Only the staff may do this. Use a key of the staff.", "Refusal: staff-only", "Rule: S0, for the staff"]
     assert staff.of_row(f"key {STAFF}", "Give it to the reading room")["result"] == words
 
-def test_key_says_who_put_it_when_and_why(staff):
-    """Of the key of the room: as the journal says of the latest change that can have put what stands."""
-    key, room, other = digest(b"hello"), '{"audience":"room"}', '{"audience":"staff"}'
-    by, none = f"{moment(START + 0.5)[:19].replace('T', ' ')} by Ada: a letter", "not in the journal"
-    for later, words in [
-        ([], by), ([("200", "PUT", other)], none), ([("200", "DELETE", "")], none), ([("404", "DELETE", "")], by),
-        ([("502", "DELETE", "")], by), ([("200", "PUT", "[")], none),
-    ]:
-        changes = [("200", "PUT", room), *later]
-        lines = [journal_lines(at, START + at, status, method, f"/badges/{key.upper()}", "Ada", "a%20letter", body)
+def test_key_says_who_put_it_when_and_why_as_the_journal_has_it(staff):
+    key, by = f"/badges/{digest(b'hello')}", f"{moment(START + 0.5)[:19].replace('T', ' ')} by Ada: a letter"
+    for later, words in [((), by), (("200", "PUT", '{"audience":"staff"}'), NOT), (("200", "DELETE", ""), NOT),
+                         (("404", "DELETE", ""), by), (("502", "DELETE", ""), by), (("502", "PUT", "["), by)]:
+        changes = [("200", "PUT", '{"audience":"room"}'), *([later] if later else [])]
+        lines = [journal_lines(at, START + at, status, method, key, "Ada", "a%20letter", body)
                  for at, (status, method, body) in enumerate(changes)]
         staff.door.journals = {"/journal": b"".join(lines)}
-        assert [row[2] for row in staff.go("keys")["rows"]] == [words, none], later
+        assert [row[2] for row in staff.go("keys")["rows"]] == [words, NOT], later
 
-def test_check_says_whether_a_disk_has_changed(museum, staff):
+def test_check_says_which_disk_has_changed_in_a_warning_that_stays(museum, staff):
     assert staff.go("checks")["stands"] == ["6 disks: 0 sound; 6 never checked."]
     shown = staff.of_row("disk 1002", "Check")
-    assert shown["result"] == ["Disk 1002. Sound: the disk still has the SHA-256 that came with it."]
+    assert shown["result"] == ["Disk 1002 is sound: it still has the SHA-256 that came with it."]
     assert [row[1:] for row in shown["rows"][:2]] == [["never", "", "Check"], [TODAY, "sound", "Check"]]
     museum.images[1003] = museum.images[1003]._replace(digest="0" * 64)
-    shown = staff.of_row("disk 1003", "Check")
-    words = [f"6 disks: 1 sound, {CHANGED} 4 never checked.{RESTORE}"]
-    assert (shown["stands"], shown["rows"][2][2]) == (words, "changed")
     museum.latest[1002] = "2020-01-01", "sound"
-    assert staff.push("Check all of these")["result"][0] == "5 disks checked: 5 sound."
-    assert [path.split("/")[2] for _, path, _, _ in staff.door.sent()[2:]] == ["1001", "1002", "1004", "1005", "1006"]
-    words = "There is no disk whose latest check is before 2025-06-15."
-    assert staff.push("Check all of these")["result"] == [words]
-
-def test_changed_disk_among_many_checked_is_a_warning_that_stays(museum, staff):
-    museum.images[1003] = museum.images[1003]._replace(digest="0" * 64)
-    staff.go("checks")
     staff.door.before = lost_at(5)
     shown, words = staff.push("Check all of these"), "4 disks checked: 3 sound, 1 CHANGED: 1003."
     assert shown["result"][0].startswith(words), "a changed disk is told as one that is checked"
     assert shown["result"][0] == f"{words} 1 failed, 1 not sent yet.{RESTORE}"
     shown = staff.push("Go on with the rest")
     assert shown["result"][0] == f"6 disks checked: 5 sound, 1 CHANGED: 1003.{RESTORE}"
-    staff.go("deeds")
-    staff.go("checks")
-    stays = [f"6 disks: 5 sound, {CHANGED} 0 never checked.{RESTORE}"]
-    assert staff.texts("#checks .stands > .warning") == stays, "the warning is gone with the view"
-
-def test_change_that_is_done_is_called_done_where_the_list_cannot_be_read(staff):
-    changes = [("deeds", put_deed, "deed 35."), ("rules", put_rule, "rule 20 of deed 8."),
-               ("keys", put_key, f"key of the reading room, SHA-256 {OTHER}.")]
-    for place, change, said in changes:
-        staff.door.before = lambda method, path: None
-        staff.go(place)
-        staff.door.before = lost_at(1, is_done=True)
-        assert change(staff)["result"] == [f"Done: {said}", older(place), CANNOT_REACH]
-        assert len(staff.door.sent()) == 1
+    words = "There is no disk whose latest check is before 2025-06-15."
+    assert staff.push("Check all of these")["result"] == [words]
+    stays = [f"6 disks: 5 sound, 1 CHANGED: 1003; 0 never checked.{RESTORE}"]
+    assert staff.texts("#checks .stands > .refused") == stays, "the warning is gone with the next work"

@@ -1,4 +1,4 @@
-"""A look through others' eyes on a day, and what opens and closes by itself in the next year."""
+"""A look through others' eyes on a day, and the timeline: what opens and closes by itself on which day."""
 
 import collections
 import csv
@@ -11,9 +11,9 @@ from support.browser import TODAY
 DAYS = ["2026-06-25", "2026-07-05", "2027-06-15", "2027-06-16"]
 AUDIENCES = {"public": "the public", "room": "the reading room", "staff": "the staff"}
 EFFECTS = {"read": "read it", "list": "see that it is there", "deny": "see nothing of it"}
-# Why the desk gives out no file of a type, or none of the damaged ones of the museum.
-UNSERVED = {"DEL": "the desk gives out no file of type DEL",
-            "SEQ": "damaged: read-error (the drive could not read a block of it)"}
+# Why the desk gives out a file of the museum to nobody, by its type.
+UNSERVED = {"DEL": " (the desk gives out no file of type DEL)",
+            "SEQ": " (damaged: read-error (the drive could not read a block of it))"}
 PAST, STOOD = "by today's rules, not by those that stood then", "by the rules that stood when it was asked"
 
 def look(staff, day, audience="public", closed=False, words=""):
@@ -27,33 +27,19 @@ def look(staff, day, audience="public", closed=False, words=""):
 def test_each_audience_sees_and_counts_what_the_desk_gives_out(museum, staff, day):
     museum.rules["R9"][10] = museums.rule(10, "list", ["public"], {"slot": 0})
     table = museum.show_verdicts(None, day).reply.decode().splitlines()[-14:]
-    lines = list(csv.DictReader(table, stand_in.VERDICT_COLUMNS))
-    for audience, words in AUDIENCES.items():
+    for audience in AUDIENCES:
         rows, counts = [], collections.Counter()
-        for line in lines:
-            is_unserved = line[audience] == "read" and line["size"] == ""
-            effect = "list" if is_unserved else line[audience]
-            may = f"{EFFECTS[effect]} ({UNSERVED[line['type']]})" if is_unserved else EFFECTS[effect]
+        for line in csv.DictReader(table, stand_in.VERDICT_COLUMNS):
+            is_given = line[audience] != "read" or line["size"] != ""
+            effect, why = (line[audience], "") if is_given else ("list", UNSERVED[line["type"]])
             counts[effect] += 1
-            rows += [[line["accession"], line["slot"], may, line[f"{audience}_rule"]]] if effect != "deny" else []
-        shown = look(staff, day, audience)
+            rows.append([line["accession"], line["slot"], EFFECTS[effect] + why, line[f"{audience}_rule"]])
+        shown = look(staff, day, audience, closed=True)
         summary = "may read {read} of 14 files, only see in the list {list}, and see nothing of {deny}."
         is_honest = shown["stands"][0].endswith(summary.format_map(counts))
         assert is_honest, "files that the desk gives out to nobody count as readable"
         assert [[row[at] for at in (0, 2, 5, 6)] for row in shown["rows"]] == rows
-        assert len(look(staff, day, audience, closed=True)["rows"]) == 14
-
-def test_day_that_is_over_is_said_to_be_by_rules_of_today(staff):
-    """In the view, and in the table that is saved, which has to be true by itself."""
-    look(staff, "1999-01-01", words="TOUR")
-    headings = [f"What the public gets on 1999-01-01, {PAST}"]
-    assert staff.texts("#eyes .stands h2") == headings, "a day that is over is told as if it were known"
-    staff.push("Save what is shown as CSV")
-    heads, row = saved_table(staff, "public-1999-01-01.csv")
-    saved = dict(zip(heads, row))
-    assert (saved["day"], saved["by which rules"], saved["audience"]) == ("1999-01-01", PAST, "the public")
-    assert saved["asked at"].startswith(f"{TODAY}T12:")
-    assert (saved["size"], saved["faults"], saved["rule in words"]) == ("40", "", "rule 20 of deed 9")
+        assert len(look(staff, day, audience)["rows"]) == 14 - counts["deny"]
 
 def test_file_is_found_by_name_disk_or_rule_and_saved_without_formula(museum, staff):
     museums.harmful_disk(museum, 1066, 7)
@@ -66,21 +52,35 @@ def test_file_is_found_by_name_disk_or_rule_and_saved_without_formula(museum, st
     words = ["the staff", "read it", "", "R7.20", "rule 20 of deed 7", "1066", "", "7", "d64", "0", "", "../../X"]
     assert (rows[0][1], rows[0][3:]) == (STOOD, [*words, "../../X", "SEQ", "4", ""])
 
-def test_next_year_names_each_day_on_which_a_rule_begins_or_ends(museum, staff):
+def test_day_that_is_over_is_said_to_be_by_rules_of_today(staff):
+    """In the view, and in the table that is saved, which has to be true by itself."""
+    look(staff, "1999-01-01", words="LOGBOOK")
+    headings = staff.texts("#eyes .stands h2")
+    assert headings == [f"What the public gets on 1999-01-01, {PAST}"], "a day that is over is told as if it were known"
+    staff.push("Save what is shown as CSV")
+    [saved] = csv.DictReader(staff.saved("public-1999-01-01.csv").decode().splitlines())
+    assert [saved[key] for key in ("day", "by which rules", "audience", "they may", "because", "faults")] == [
+        "1999-01-01", PAST, "the public", EFFECTS["list"], UNSERVED["SEQ"][2:-1], "read-error"]
+    assert saved["asked at"].startswith(f"{TODAY}T12:")
+
+def test_timeline_has_the_next_change_first_and_says_what_is_other_on_each_day(museum, staff):
     museum.rules["R9"][5] = museums.rule(5, "deny", ["public"], {"slot": 0}, *DAYS[:2])
     museum.rules["T1002"] = {1: museums.rule(1, "list", ["room", "public"], None, *DAYS[2:])}
-    staff.go("year")
-    shown = staff.push("Look at the next year")
-    assert shown["stands"][0] == "In the next year a rule begins or ends on 3 days."
-    assert shown["result"] == [f"Done: 3 days from {TODAY} on."]
+    rules = [["rule 5 of deed 9", DAYS[0]], ["takedown 1 of disk 1002", DAYS[2]], ["rule 10 of deed 7", "2030-01-01"]]
+    assert [[row[0], row[2]] for row in staff.go("timeline")["rows"]] == rules
     # slot 0 of the disks of deed 9: that of the last is damaged, so nobody is given it, and it is hidden all the same
+    may, see, nothing = "Now they may read them; then they ", "may see that they are there", "see nothing of them."
     two, one = "WELCOME.TXT (disk 1001, slot 0)TOUR (disk 1002, slot 0)", "LOGBOOK (disk 1003, slot 0)"
-    many, few, nothing = "2 files. Now they ", "1 file. Now they ", "see nothing of them"
-    both = f"Closes for the public and the reading room: {many}may read them; then they may see that they are there."
-    assert staff.texts("#year .stands > *")[1:] == [
-        f"On {DAYS[0]}", f"Closes for the public: {many}may read them; then they {nothing}.", two,
-        f"Closes for the public: {few}may see that they are there; then they {nothing}.", one,
-        f"On {DAYS[1]}", f"Opens for the public: {many}{nothing}; then they may read them.", two,
-        f"Opens for the public: {few}{nothing}; then they may see that they are there.", one,
-        f"On {DAYS[2]}", both, "TOUR (disk 1002, slot 0)GUIDE (disk 1002, slot 2)",
-    ]
+    closes = [f"Closes for the public: 2 files. {may}{nothing}", two,
+              f"Closes for the public: 1 file. Now they {see}; then they {nothing}", one]
+    lists = [f"Closes for the public and the reading room: 2 files. {may}{see}.",
+             "TOUR (disk 1002, slot 0)GUIDE (disk 1002, slot 2)"]
+    none = ["Nothing opens, and nothing closes."]
+    for day, counts, turns in zip(DAYS, [(3, 1, 10), (5, 2, 7), (3, 4, 7), (5, 2, 7)], [closes, none, lists, none]):
+        staff.push("Change after")
+        heading, public, _, _, *more = staff.texts("#timeline .day > *")
+        words = "The public: {} to read, {} only in the list, {} hidden.".format(*counts)
+        assert (heading, public, more) == (f"Who gets what on {day}", words, ["What is other than today", *turns])
+    staff.set("#timeline [type=range]", int(staff.one("#timeline [type=range]").get_property("min")))
+    staff.read(lambda state: state["result"] == ["Read: 2025-06-15."])
+    assert staff.text("#timeline .day h2") == f"Who gets what on 2025-06-15, {PAST}"

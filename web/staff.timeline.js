@@ -1,0 +1,152 @@
+// The timeline: the days of each rule that begins or ends by itself, the next change first; a day to drag, and who gets
+// what on it, as the desk's verdicts say.
+import { listTable } from "./lists.js";
+import { shownName } from "./names.js";
+import { box, cell, element, part, row } from "./shared.js";
+import { dated, formOf, readHeld, work } from "./staff.desk.js";
+import { audienceCounts } from "./staff.forecast.js";
+import { Changes, dayParts } from "./staff.rehearsal.js";
+import { limitFields } from "./staff.ruleform.js";
+import { standing } from "./staff.rules.js";
+import { COLUMNS, effectOf, onDay, readVerdicts } from "./staff.verdicts.js";
+import { AUDIENCES, RULES, dayAfter, isOnNoDay, ruleWords, today } from "./staff.words.js";
+
+// How many days the bars show before today and after the last change, and how far from today that one may be.
+const DAYS = 365;
+const MOST_DAYS = 50 * DAYS;
+
+const numberOf = (day) => Date.parse(`${day}T00:00:00Z`) / 86400000;
+const dayOf = (number) => new Date(number * 86400000).toISOString().slice(0, 10);
+
+// The rules that begin or end some day, each with these days; and the first and the last day of the bars.
+let lines = [];
+let range = { first: 0, last: 1 };
+
+const field = () => formOf("timeline").elements.day;
+const stands = () => part("timeline").querySelector(".stands");
+const allTurns = () => lines.flatMap(({ turns }) => turns).sort();
+
+// How far a day is along the bars, in percent.
+function share(day) {
+  const far = (numberOf(day) - range.first) / (range.last - range.first);
+  return `${100 * Math.min(1, Math.max(0, far))}%`;
+}
+
+function lineOf(name, scope, rule) {
+  const turns = isOnNoDay(rule) ? [] : [rule.from, rule.until].filter(Boolean);
+  return { name, scope, rule, turns, next: turns.find((day) => day > today()) ?? "none" };
+}
+
+async function readLines() {
+  for (const what of ["deeds", "takedowns"]) await readHeld(what);
+  const linesOf = (name) => standing(name).map(({ scope, rule }) => lineOf(name, scope, rule));
+  lines = ["rules", "takedowns"].flatMap(linesOf).filter(({ turns }) => turns.length);
+  lines.sort((one, other) => (one.next < other.next ? -1 : 1));
+  const [now, most] = [today(), dayAfter(today(), MOST_DAYS)];
+  const last = [now, ...allTurns().filter((day) => day > now && day < most)].at(-1);
+  range = { first: numberOf(dayAfter(now, -DAYS)), last: numberOf(dayAfter(last, DAYS)) };
+}
+
+const HEADS = {
+  Rule: ({ name, scope, rule }) => RULES[name].words(scope, rule.rank),
+  "What it does": ({ rule }) => ruleWords(rule),
+  "Next change": ({ next }) => next,
+  Days: null,
+};
+
+function lineRow(line) {
+  const { from, until, effect } = line.rule;
+  const bar = box("span", `bar ${effect}`);
+  Object.assign(bar.style, { left: from ? share(from) : 0, right: until ? `calc(100% - ${share(until)})` : 0 });
+  const lane = cell("Days", box("div", "lane", bar));
+  return row(Object.entries(HEADS).map(([head, textOf]) => (textOf ? cell(head, dated("span", textOf(line))) : lane)));
+}
+
+// The day to drag, the table with a bar for each rule, and a place for what the desk says of a day.
+function draw() {
+  const slider = element("input", null, { type: "range", min: range.first, max: range.last, ariaLabel: "The day" });
+  slider.addEventListener("input", () => {
+    field().value = dayOf(Number(slider.value));
+    mark();
+  });
+  slider.addEventListener("change", look);
+  const none = element("p", "No rule begins or ends by itself.");
+  const made = lines.length ? listTable("rules", HEADS, lines, lineRow) : none;
+  stands().replaceChildren(slider, made, box("div", "day"));
+  mark();
+}
+
+// Shows where the day is among the bars.
+function mark() {
+  stands().style.setProperty("--day", share(field().value));
+  const slider = stands().querySelector("[type=range]");
+  Object.assign(slider, { value: numberOf(field().value), ariaValueText: field().value });
+}
+
+function choose(day) {
+  field().value = day ?? field().value;
+  mark();
+  look();
+}
+
+// Reads a day, and gives the effects for each file, how many files are alike, and how they differ from those before.
+async function readDay(day, before, tools) {
+  const [effects, changes, alike] = [new Map(), new Changes(), new Map()];
+  const take = (record) => {
+    const now = Object.keys(AUDIENCES).map((audience) => effectOf(record, audience));
+    const [file, text] = [Number(record[COLUMNS.accession]) * 10000 + Number(record[COLUMNS.slot]), now.join()];
+    if (!alike.has(text)) alike.set(text, { now, count: 0 });
+    alike.get(text).count += 1;
+    effects.set(file, alike.get(text).now);
+    const old = before?.get(file) ?? now;
+    Object.keys(AUDIENCES).forEach((audience, at) => {
+      if (old[at] === now[at]) return;
+      const name = shownName(record[COLUMNS.kind], record[COLUMNS.name]);
+      changes.take([record[COLUMNS.accession], record[COLUMNS.slot], name, audience, old[at], now[at]]);
+    });
+  };
+  await readVerdicts(day, take, tools);
+  changes.close();
+  return { effects, groups: changes.all(), alike: [...alike.values()] };
+}
+
+// Who gets what on a day, and what is other than today.
+async function showDay(day, tools) {
+  const now = await readDay(today(), null, tools);
+  const then = day === today() ? now : await readDay(day, now.effects, tools);
+  const texts = audienceCounts((audience, effect) => {
+    const at = Object.keys(AUDIENCES).indexOf(audience);
+    return then.alike.reduce((sum, one) => sum + (one.now[at] === effect ? one.count : 0), 0);
+  });
+  const more = day === today() ? [] : dayParts({ words: "What is other than today", groups: then.groups });
+  const heading = dated("h2", `Who gets what ${onDay(day)}`);
+  stands().querySelector(".day").replaceChildren(heading, ...texts.map((text) => element("p", text)), ...more);
+}
+
+// The day that was read last. One that is chosen meanwhile comes next.
+let read = "";
+
+async function look() {
+  const doing = async (tools) => {
+    read = field().value;
+    await showDay(read, tools);
+    return `Read: ${read}.`;
+  };
+  if (field().reportValidity() && (await work("timeline", doing)) && field().value !== read) look();
+}
+
+export async function openTimeline() {
+  field().value ||= today();
+  await readLines();
+  draw();
+}
+
+export function listenForTimeline() {
+  const form = formOf("timeline");
+  const { day, earlier, later } = form.elements;
+  limitFields(form);
+  form.addEventListener("submit", look);
+  day.addEventListener("change", () => day.reportValidity() && mark());
+  earlier.addEventListener("click", () => choose(allTurns().findLast((one) => one < day.value)));
+  later.addEventListener("click", () => choose(allTurns().find((one) => one > day.value)));
+}
