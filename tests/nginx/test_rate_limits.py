@@ -5,9 +5,11 @@ import re
 import select
 import socket
 import ssl
+import subprocess
 import time
 
 import pytest
+from support.room import CONFIGURE
 from support.samples import LONG
 from support.server import HOST, LIMIT
 
@@ -38,6 +40,23 @@ def test_address_that_asks_too_often_is_told_so(room, outside, door, path, rate,
 
 def test_staffs_door_has_no_limit_of_rate(staff):
     assert set(visit(staff, FILE, 240)[0]) == {200}
+
+# In a network of its own, this machine has each address of a network of IPv6.
+ADDRESSES = """ip link set lo up; sysctl -qw net.ipv6.ip_nonlocal_bind=1; ip -6 route add local 2001:db8::/32 dev lo
+nginx -p {folder} -c {folder}/nginx.conf 2>/dev/null; curl -s {visits}; nginx -s quit -p {folder} -c {folder}/nginx.conf"""
+
+@pytest.mark.parametrize("host, refuses", [("2001:db8::1:2:3:{:x}", True), ("2001:db8:1:{:x}::1", False)])
+def test_network_of_ipv6_is_an_address_and_speaks_http_2(room, tmp_path, host, refuses):
+    tmp_path.chmod(0o755)
+    places = room.write_places(tmp_path / "places", NGINX_RUN=tmp_path, NGINX_LOG=tmp_path)
+    subprocess.run([CONFIGURE, places, tmp_path], check=True)
+    visit = f"-k -o /dev/null -w '%{{http_version}} %{{http_code}} ' https://[2001:db8::1]:{room.https_port}/images"
+    visits = " --next ".join(f"{visit} -s --interface {host.format(number)}" for number in range(1, 41))
+    words = ["unshare", "--net", "sh", "-c", ADDRESSES.format(folder=tmp_path, visits=visits)]
+    came = subprocess.run(words, capture_output=True, text=True, timeout=LIMIT)
+    statuses = came.stdout.split()
+    assert statuses[::2] == ["2"] * 40, came
+    assert set(statuses[1::2]) == ({"200", "429"} if refuses else {"200"}), "the limit is for another set of addresses"
 
 @contextlib.contextmanager
 def unfinished(door, path, count):
