@@ -56,7 +56,15 @@ def places(path=PLACES):
     found = [PLACE.fullmatch(line) for line in lines]
     if None in found:
         raise Failed(f"{path}: not a place: {lines[found.index(None)]}")
-    return dict(match.groups() for match in found)
+    values = dict(match.groups() for match in found)
+    global UNIT
+    UNIT = values.get("UNIT", UNIT)
+    return values
+
+
+def unit(name):
+    """How a unit of the first desk is called for the desk of these places."""
+    return re.sub("[.]", f"{UNIT.removeprefix('desk').removesuffix('.service')}.", name)
 
 
 def key_in(path):

@@ -44,11 +44,9 @@ for service in "$@"; do
 done
 """
 A_KEY = re.compile(r"--key[ =]|=['\"]?Desk-Key:|-H ['\"]?Desk-Key:|badges/\$\(")
-MADE = ("desk.1", "completion", "completion.zsh")
 # How many commands each page has at least.
-LEAST = {
-    "README.md": 30, "docs/COMMANDS.md": 50, "docs/OPERATING.md": 45, "docs/BY-HAND.md": 90, "docs/DUMPS.md": 15,
-}
+LEAST = {"README.md": 30, "docs/COMMANDS.md": 50, "docs/OPERATING.md": 45, "docs/BY-HAND.md": 90,
+         "docs/DUMPS.md": 15, "docs/MACHINES.md": 15}
 
 @pytest.fixture
 def folder(program):
@@ -95,14 +93,13 @@ def test_commands_give_what_the_page_shows(folder, page):
 def test_each_block_of_a_page_begins_with_a_command(page):
     blocks = re.findall(r"^```.*?\n(.*?)^```", pathlib.Path(ROOT, page).read_text(), re.M | re.S)
     others = [block.split()[0] for block in blocks if not block.startswith(("$ ", "# "))]
-    assert others == (["readers"] if page == "docs/OPERATING.md" else [])
+    assert others == {"docs/OPERATING.md": ["readers"], "docs/MACHINES.md": ["-"]}.get(page, [])
 
 def test_no_command_has_a_key_among_its_words():
-    """Others on a machine can read them. The program's help, of which some files are made, names the option."""
-    found = {f"{page}, line {one[0]}": one[2] for page in LEAST for one in doc_pages.commands(page)}
-    files = [path for path in pathlib.Path(ROOT, "operate").rglob("*") if path.is_file()]
-    found |= {str(path): path.read_text() for path in files if path.name not in MADE}
-    assert not [where for where, words in found.items() if A_KEY.search(words)], "a key stands on a command line"
+    """Others on a machine can read them."""
+    found = [one[2] for page in LEAST for one in doc_pages.commands(page)]
+    found += [path.read_text() for path in pathlib.Path(ROOT, "operate").rglob("*") if path.is_file()]
+    assert not [words for words in found if A_KEY.search(words)], "a key stands on a command line"
 
 def test_tools_and_units_that_commands_of_the_package_name_are_there():
     """These commands are typed on a museum's machine alone."""

@@ -65,7 +65,7 @@ def test_configure_takes_the_rules_of_clocks_that_the_desk_takes(configured, roo
 
 PARTS = ["conf.d/desk.conf", "conf.d/desk-journal.conf", "snippets/desk-server.conf", "sites-available/desk"]
 
-def test_parts_stand_in_debians_nginx(room, tmp_path):
+def test_parts_of_two_desks_stand_in_debians_nginx(room, tmp_path):
     """No file of Debian's configuration is changed, and nginx warns of nothing."""
     etc = tmp_path / "etc"
     shutil.copytree("/etc/nginx", etc, ignore=shutil.ignore_patterns("sites-enabled"))
@@ -76,7 +76,13 @@ def test_parts_stand_in_debians_nginx(room, tmp_path):
     subprocess.run([CONFIGURE, room.folder / "places", tmp_path, *(f"nginx/{part}" for part in PARTS)], check=True)
     shutil.copytree(tmp_path / "nginx", etc, dirs_exist_ok=True)
     (etc / "sites-enabled").mkdir()
-    (etc / "sites-enabled" / "desk").symlink_to(etc / PARTS[-1])
+    for part in PARTS:
+        words = [pathlib.Path(OPERATE, "desk-another"), "--of", "b", etc / part]
+        text = subprocess.run(words, capture_output=True, check=True, text=True).stdout.replace(" localhost;", " b;")
+        another = etc / re.sub("desk(?=[^/]*$)", "desk-b", part)
+        another.write_text(text)
+    for site in (PARTS[-1], f"{PARTS[-1]}-b"):
+        (etc / "sites-enabled" / site.partition("/")[2]).symlink_to(etc / site)
     words = [NGINX, "-t", "-p", tmp_path, "-e", tmp_path / "error.log", "-c", etc / "nginx.conf"]
     tried = subprocess.run(words, capture_output=True, text=True)
     warned = [line for line in re.findall(r"\[(?:warn|emerg)\].*", tried.stderr) if '"user"' not in line]

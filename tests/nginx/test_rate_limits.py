@@ -43,7 +43,7 @@ def test_staffs_door_has_no_limit_of_rate(staff):
 
 # In a network of its own, this machine has each address of a network of IPv6.
 ADDRESSES = """ip link set lo up; sysctl -qw net.ipv6.ip_nonlocal_bind=1; ip -6 route add local 2001:db8::/32 dev lo
-nginx -p {folder} -c {folder}/nginx.conf 2>/dev/null; curl -s {visits}; nginx -s quit -p {folder} -c {folder}/nginx.conf"""
+nginx="nginx -p {folder} -c {folder}/nginx.conf"; $nginx 2>/dev/null; curl -s {visits}; $nginx -s quit 2>/dev/null"""
 
 @pytest.mark.parametrize("host, refuses", [("2001:db8::1:2:3:{:x}", True), ("2001:db8:1:{:x}::1", False)])
 def test_network_of_ipv6_is_an_address_and_speaks_http_2(room, tmp_path, host, refuses):

@@ -46,14 +46,39 @@ def test_package_has_each_file_starts_each_timer_and_reports_its_failure(package
     held = {path.read_bytes() for path in tmp_path.rglob("*") if path.is_file()}
     due = [*MAKE.parent.glob("package/*"), *MAKE.parent.glob("desk-*"), *MAKE.parent.glob("../web/*")]
     due += [MAKE.with_name(name) for name in ("check-all", "museum.py")]
-    # (make-deb writes these two anew)
-    assert {path.name for path in due if path.read_bytes() not in held} == {"control", "desk.1"}
+    # (make-deb writes these anew)
+    assert {path.name for path in due if path.read_bytes() not in held} == {"control", "desk.service"}
     script = (tmp_path / "DEBIAN" / "postinst").read_text()
-    begun, units = re.search('(?m)^units="(.*)"$', script)[1].split(), [*tmp_path.glob("lib/systemd/system/*.timer")]
+    begun, units = re.search('(?m)^units="(.*)"$', script)[1].split(), [*tmp_path.glob("lib/systemd/*/*[!@].timer")]
     assert "desk-key first" in script and len(units) == 3
     for unit in units:
         assert unit.name in begun
         assert "\nOnFailure=desk-alarm@%n.service\n" in unit.with_suffix(".service").read_text(), unit.name
+
+# Commands in a folder of their own, and what they write.
+PARTS = {
+    "a line of the journal is on the disk before the command is done, for its folder has the attribute S": (
+        "mkdir -p etc run var/lib var/log var/backups; printf '%s:x:%s::/:/bin/sh\n' root 0: www-data 33: desk 990: "
+        ">etc/passwd; sed 's/:[^:]*:[^:]*$/:/' etc/passwd >etc/group; systemd-tmpfiles --root=$PWD --create "
+        "$package/tmpfiles.conf; lsattr -d var/log/desk | grep -c '^[^ ]*S'", "1\n"),
+    "a unit of another desk has no path of the first": (
+        "paths() { grep -oE '(/etc|/run|/var/[a-z]+)/desk[a-z%-]*'; }; for unit in $package/desk*[!@].*; do "
+        "paths <$unit | sed s/$/-%i/ >own; $package/../desk-another --of %i $unit | paths | diff own -; done", ""),
+    "the units of each desk may write where its own places say": (
+        "for at in desk desk-b; do mkdir $at; printf 'STORE=/srv/%s/store\nBACKUPS=/mnt/%s\n' $at $at >$at/places; "
+        "done; $package/generator .; cat desk.service.d/* desk-backup@b.service.d/*",
+        "[Unit]\nConditionPathExists=/srv/desk/store\n[Service]\nReadWritePaths=-/srv/desk\n"
+        "[Service]\nReadWritePaths=-/srv/desk-b -/mnt/desk-b\n"),
+    "a renewed certificate goes to the desk of its name": (
+        "for at in desk desk-b; do mkdir $at; echo \"server_name $at.org;\" >$at/site-name; done; touch fullchain.pem "
+        "privkey.pem; systemctl() { echo $*; }; RENEWED_DOMAINS='x desk-b.org' RENEWED_LINEAGE=. . $package/certbot; "
+        "stat -c '%n %a' desk*/site.*", "reload nginx\ndesk-b/site.crt 644\ndesk-b/site.key 600\n"),
+}
+
+@pytest.mark.parametrize("words, wanted", PARTS.values(), ids=PARTS)
+def test_parts_of_the_package(tmp_path, words, wanted):
+    where = {"cwd": tmp_path, "env": {**os.environ, "DESK_ETC": ".", "package": str(MAKE.with_name("package"))}}
+    assert subprocess.run(["bash", "-c", words], **where, capture_output=True, text=True).stdout == wanted
 
 def test_trial_says_that_nothing_is_proved(package):
     assert proof(package) == "This is a trial: nothing is proved of this program."
@@ -103,15 +128,3 @@ def test_later_commit_of_the_same_minute_has_the_higher_version(clone):
 def test_no_package_but_of_the_program_that_was_proved_of_a_commit(clone, change, words):
     change(clone)
     assert make(clone) == words.format(clone)
-
-def test_journals_folder_is_written_at_once(tmp_path):
-    """A line of the journal is on the disk before the command is done: the folder has the attribute S."""
-    for folder in ("etc", "run", "var/lib", "var/log", "var/backups"):
-        (tmp_path / folder).mkdir(parents=True)
-    for name, rest in (("passwd", "0::/:/bin/sh"), ("group", "")):
-        lines = (f"{user}:x:{number}:{rest}\n" for user, number in {"root": 0, "www-data": 33, "desk": 990}.items())
-        (tmp_path / "etc" / name).write_text("".join(lines))
-    words = ["systemd-tmpfiles", f"--root={tmp_path}", "--create", f"{ROOT}/operate/package/tmpfiles.conf"]
-    subprocess.run(words, check=True)
-    ran = subprocess.run(["lsattr", "-d", tmp_path / "var/log/desk"], capture_output=True, text=True, check=True)
-    assert "S" in ran.stdout.split()[0]
