@@ -61,9 +61,6 @@ PARTS = {
         "mkdir -p etc run var/lib var/log var/backups; printf '%s:x:%s::/:/bin/sh\n' root 0: www-data 33: desk 990: "
         ">etc/passwd; sed 's/:[^:]*:[^:]*$/:/' etc/passwd >etc/group; systemd-tmpfiles --root=$PWD --create "
         "$package/tmpfiles.conf; lsattr -d var/log/desk | grep -c '^[^ ]*S'", "1\n"),
-    "a unit of another desk has no path of the first": (
-        "paths() { grep -oE '(/etc|/run|/var/[a-z]+)/desk[a-z%-]*'; }; for unit in $package/desk*[!@].*; do "
-        "paths <$unit | sed s/$/-%i/ >own; $package/../desk-another --of %i $unit | paths | diff own -; done", ""),
     "the units of each desk may write where its own places say": (
         "for at in desk desk-b; do mkdir $at; printf 'STORE=/srv/%s/store\nBACKUPS=/mnt/%s\n' $at $at >$at/places; "
         "done; $package/generator .; cat desk.service.d/* desk-backup@b.service.d/*",
