@@ -95,7 +95,8 @@ function cpmDisk(bytes) {
   const files = Array.from(byName.values(), cpmFile);
   const taken = tally(files.flatMap(({ units }) => units));
   for (const file of files) {
-    const [{ entries, units }, extents] = [file, file.entries.map(extentOf)];
+    const { entries, units } = file;
+    const extents = entries.map(extentOf);
     const reached = entries.flatMap((entry) => Array.from(entry.subarray(16, 16 + Math.ceil(entry[15] / 8))));
     file.faults = faultsOf({
       "bad-count": entries.some((entry) => entry[15] > 128),
@@ -109,6 +110,8 @@ function cpmDisk(bytes) {
     file.isServed = file.faults.length === 0;
   }
   const unitAt = (track, sector) => (track < 2 ? -1 : (26 * (track - 2) + SKEW.indexOf(sector + 1)) >> 3);
+  // an entry would keep the bytes of the whole dump
+  for (const file of files) delete file.entries;
   return { tracks: Array(77).fill(26), unitAt, files, taken, system: new Set([-1, 0, 1]), isBad: () => false };
 }
 

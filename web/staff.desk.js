@@ -97,7 +97,7 @@ export const paragraph = (words) => (words instanceof Node ? words : dated("p", 
 // An element with a text, whose days are not broken at the end of a line, and whose disks lead to their pages.
 export function dated(name, text, fields = {}) {
   const made = element(name, null, fields);
-  const parts = text.split(/([0-9]{4}-[0-9]{2}-[0-9]{2}|(?<=\bdisk )[1-9][0-9]{0,5}\b)/);
+  const parts = text.split(/([0-9]{4}-[0-9]{2}-[0-9]{2}|(?<=\bdisk |CHANGED: (?:[0-9]+, )*)[1-9][0-9]{0,5}\b)/);
   const special = (words) => (words.includes("-") ? element("span", words, { className: "date" }) : diskLink(words));
   made.append(...parts.map((words, at) => (at % 2 ? special(words) : words)));
   return made;

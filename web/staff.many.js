@@ -2,7 +2,7 @@
 // was lost or the reader stopped.
 import { csvText } from "./csv.js";
 import { Refused, box, cell, counted, element, explainRefusal, refusalName, row, table } from "./shared.js";
-import { button, change, isUnsure, keepReason, older, whoNow } from "./staff.desk.js";
+import { button, change, diskCell, isUnsure, keepReason, older, whoNow } from "./staff.desk.js";
 import { today } from "./staff.words.js";
 import { save } from "./stream.js";
 
@@ -51,12 +51,12 @@ function summary({ items, word, verb, said }) {
 // What became of the items: in short, those that failed, and buttons to go on and to save the report; and whether what
 // stands below is older.
 function report(run, isOlder) {
-  const made = element("div", null);
+  const made = box("div", "", summary(run));
   const failed = run.items.filter((item) => item.outcome && !isDone(item));
   const isWhole = run.items.every(isDone);
-  made.append(summary(run));
   const columns = [...run.heads, "Outcome"];
-  const rowOf = (item) => row([...run.cells(item), item.outcome].map((text, at) => cell(columns[at], text)));
+  const cellOf = (column, text) => (/^(Accession|Disk)$/.test(column) ? diskCell(text, column) : cell(column, text));
+  const rowOf = (item) => row([...run.cells(item), item.outcome].map((text, at) => cellOf(columns[at], text)));
   if (failed.length && !run.shown) made.append(table("Failed", columns, failed.map(rowOf)));
   if (run.more && !isWhole && !isOlder) made.append(element("p", run.more()));
   const goOn = () => change(run.section, (tools) => sendMany(run, tools));

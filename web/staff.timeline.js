@@ -17,7 +17,6 @@ const MOST_DAYS = 50 * DAYS;
 
 const numberOf = (day) => Date.parse(`${day}T00:00:00Z`) / 86400000;
 const dayOf = (number) => new Date(number * 86400000).toISOString().slice(0, 10);
-
 // The rules that begin or end some day, each with these days; and the first and the last day of the bars.
 let lines = [];
 let range = { first: 0, last: 1 };

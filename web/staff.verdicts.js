@@ -20,9 +20,7 @@ export function readVerdictsOf(accession, day, take, tools) {
 
 // The desk gives out a file only where it has a size: without one, `read` is no more than `list`.
 export const given = (effect, isServed) => (effect === "read" && !isServed ? "list" : effect);
-
 export const effectOf = (record, audience) => given(record[EFFECT_AT[audience]], record[COLUMNS.size] !== "");
-
 const MAY = { read: "read it", list: "see that it is there", deny: "see nothing of it" };
 
 // Why a file is only listed that a rule lets them read.
