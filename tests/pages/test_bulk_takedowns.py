@@ -3,8 +3,8 @@
 import threading
 
 import pytest
-from staff_helpers import TAKES, lost_at, saved_table, takedown
-from support.browser import LIMIT, TODAY
+from staff_helpers import TAKES, lost_at, takedown
+from support.browser import LIMIT
 
 DISKS = (1001, 1002, 1004, 1005)
 
@@ -55,8 +55,3 @@ def test_takedowns_go_on_where_the_connection_was_lost(museum, takedowns):
     assert ranks(museum) == [[990, 1000], [1000], [], []]
     assert takedowns.push("Go on with the rest")["result"][0] == "4 takedowns put, 0 failed."
     assert ranks(museum) == [[990, 1000], [1000], [1000], [1000]]
-    takedowns.push("Save the report")
-    heads, *rows = saved_table(takedowns, f"takedowns-{TODAY}.csv")
-    assert heads == ["accession", "rank", "outcome", "name", "reason"]
-    assert rows[0] == ["1001", "990", "done", "Ada Archivist", "a letter of today"]
-    assert [row[0] for row in rows] == list(map(str, DISKS))

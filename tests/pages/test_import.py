@@ -83,7 +83,8 @@ def test_dumps_of_a_sheet_are_found_compared_and_put(museum, staff, choose):
     staff.push("Save the report")
     rows = saved_table(staff, f"disks-{TODAY}.csv")
     assert [row[0] for row in rows] == ["accession", "2001", "2002", "2006", "2007"]
-    assert rows[-1][:6] == ["2007", "cpm8", "99", digest(RECORD), "'=1+1", NO_DEED]
+    wanted = ["2007", "cpm8", "99", digest(RECORD), "'=1+1", NO_DEED, "Ada Archivist", "a letter of today"]
+    assert rows[-1] == wanted
     museum.deeds[99] = "Late Donor", "2020-01-01"
     assert staff.push("Go on with the rest")["result"][0] == "4 disks put, 0 failed."
 
@@ -147,8 +148,8 @@ def drawn_dump(one, kind):
     return bytes(image)
 
 @pytest.mark.parametrize("count", [20, pytest.param(500, marks=pytest.mark.long)])
-def test_page_reads_and_foretells_of_a_dump_what_the_desk_says_of_the_disk(museum, staff, tmp_path, seed, count):
-    random_ = random.Random(seed)
+def test_page_reads_and_foretells_of_a_dump_what_the_desk_says_of_the_disk(museum, staff, tmp_path, count):
+    random_ = random.Random(count)
     one, effects = random_.choice, ["deny", "list", "read"]
     for number, kind in itertools.product(range(count), BASES):
         audiences = [random_.sample(AUDIENCES, one([1, 2, 3])) for _ in range(one(range(6)))]
