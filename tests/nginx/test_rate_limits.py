@@ -9,7 +9,7 @@ import subprocess
 import time
 
 import pytest
-from support.room import CONFIGURE
+from support.room import CONFIGURE, OPERATE
 from support.samples import LONG
 from support.server import HOST, LIMIT
 
@@ -54,6 +54,31 @@ def test_network_of_ipv6_is_an_address_and_speaks_http_2(room, tmp_path, host, f
     words = ["unshare", "--net", "sh", "-c", ADDRESSES, "sh", tmp_path, visits]
     came = subprocess.run(words, capture_output=True, text=True, timeout=LIMIT).stdout.split()
     assert len(came) == 40 and set(came) == {f"2:{status}" for status in found}, "for other addresses, or no HTTP/2"
+
+# A machine with the firewall, and one of visitors, who have each address of some networks: how many of 70 get through.
+FIREWALL = """ip link add inside type veth peer name outside; unshare --net sleep 99 & at="nsenter --net --target $!"
+until ip link set outside netns $! && ! ip link show outside; do sleep 0.05; done >/dev/null 2>&1
+ip address add 192.0.2.1/24 dev inside; ip address add 2001:db8::1/64 dev inside nodad; ip link set inside up
+$at ip address add 192.0.2.2/24 dev outside; $at ip address add 2001:db8::2/64 dev outside nodad
+$at ip link set outside up; $at ip link set lo up; $at sysctl -qw net.ipv6.ip_nonlocal_bind=1
+$at ip -6 route add local 2001:db8:1::/48 dev lo; ip -6 route add 2001:db8:1::/48 via 2001:db8::2; nft -f $1
+python3 -c "$2" & until ss -Hltn | grep -q :80; do sleep 0.05; done; $at python3 -c "$3" $4 $5"""
+LISTENS = """import socket, time
+with socket.create_server(("::", 80), family=socket.AF_INET6, backlog=99, dualstack_ipv6=True):
+    time.sleep(99)"""
+VISITS = """import contextlib, socket, sys
+kept = []
+for number in range(70):
+    with contextlib.suppress(ConnectionRefusedError):
+        kept.append(socket.create_connection((sys.argv[1], 80), 9, (sys.argv[2].format(number), 0)))
+print(len(kept))"""
+
+@pytest.mark.parametrize("words, count", [
+    ("192.0.2.1 192.0.2.2", 64), ("2001:db8::1 2001:db8:1::2:3:{:x}", 64), ("2001:db8::1 2001:db8:1:{:x}::1", 70)])
+def test_firewall_takes_64_connections_of_an_address_or_of_a_network_of_ipv6(words, count):
+    own = "unshare --net --pid --fork --kill-child --mount-proc sh -c".split()
+    words = [*own, FIREWALL, "sh", f"{OPERATE}/package/nftables.conf", LISTENS, VISITS, *words.split()]
+    assert subprocess.run(words, capture_output=True, text=True, timeout=LIMIT).stdout == f"{count}\n"
 
 @contextlib.contextmanager
 def unfinished(door, path, count):
