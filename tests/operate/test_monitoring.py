@@ -87,21 +87,25 @@ def test_what_is_missing_old_or_full_is_named(room, name, value, words):
     status, out, errors = look(room, **{name: value.format(room.folder)})
     assert re.fullmatch(words, out) and (status, errors) == (1, ""), out
 
-@pytest.mark.parametrize("name, said, words", [
-    ("clock", "no\n", "the clock is not set by the network: type timedatectl\n"),
+FAILED = "desk-check desk-check@b desk-look desk-look@b desk-alarm@x ".replace(" ", ".service loaded failed failed\n")
+
+@pytest.mark.parametrize("name, said, words, places", [
+    ("clock", "no\n", "the clock is not set by the network: type timedatectl\n", {}),
     ("dates", "notBefore=Jan  1 00:00:00 2999 GMT\nnotAfter=Feb  1 00:00:00 2999 GMT\n",
-     "the clock is behind: the certificate begins on Jan  1 00:00:00 2999 GMT\n"),
+     "the clock is behind: the certificate begins on Jan  1 00:00:00 2999 GMT\n", {}),
     *(("units", RUN.replace(f"{unit} loaded active", f"{unit} loaded inactive"),
-       f"{unit} does not run: type systemctl status {unit}\n") for unit in UNITS),
-    ("units", f"{RUN}desk-alarm@x.service loaded failed failed\ndesk-look.service loaded failed failed\n",
-     "desk-alarm@x.service has failed: type journalctl -u desk-alarm@x.service\n"),
+       f"{unit} does not run: type systemctl status {unit}\n", {}) for unit in UNITS),
+    *(("units", re.sub(r"(desk-\w+)", rf"\1{at}", RUN) + FAILED,
+       f"desk-check{at}.service has failed: type journalctl -u desk-check{at}.service\n"
+       "desk-alarm@x.service has failed: type journalctl -u desk-alarm@x.service\n", {"UNIT": f"desk{at}.service"})
+      for at in ("", "@b")),
 ])
-def test_what_systemd_says_of_units_or_the_clock_is_named(room, name, said, words):
+def test_what_systemd_says_of_units_or_the_clock_is_named(room, name, said, words, places):
     file = room.folder / name
     before = file.read_text() if file.exists() else ""
     file.write_text(said)
     try:
-        assert look(room) == (1, words, "")
+        assert look(room, **places) == (1, words, "")
         assert name != "clock" or look(room, CLOCK="alone") == (0, "", "")
     finally:
         file.write_text(before) if before else file.unlink()
@@ -110,9 +114,10 @@ def test_look_that_finds_nothing_is_told_elsewhere(room):
     """Somebody there notices where none comes. What it found is there for Prometheus, too."""
     metrics, path = room.folder / "desk.prom", "/room.css?all-is-well"
     told = {"PING": f"http://127.0.0.1:{room.staff_port}{path}", "METRICS": metrics}
-    for status, places in ((0, told), (1, {**told, "BACKUPS": room.folder / "old"})):
+    another = {**told, "BACKUPS": room.folder / "old", "UNIT": "desk@b.service"}
+    for status, places, unit in ((0, told, ""), (1, another, ',unit="desk@b.service"')):
         assert look(room, **places)[0] == status
-        assert f'\ndesk_faults{{look="backup"}} {status}\n' in metrics.read_text()
+        assert f'\ndesk_faults{{look="backup"{unit}}} {status}\n' in metrics.read_text()
         subprocess.run(["promtool", "check", "metrics"], input=metrics.read_bytes(), check=True)
     wait_until(lambda: room.logs().count(path.encode()) == 1)
 
