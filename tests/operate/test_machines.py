@@ -119,7 +119,7 @@ BEHIND = [
     (f"""cd /var/lib/desk; systemctl stop desk; mkdir right; cp -p museum.sqlite* right
      runuser -u desk -- desk check --store {STORE} --acc 13 --at $(date -d '3 days' +%s) --key \\
          $(sed 's/^Desk-Key: //' /etc/desk/staff-key); systemctl start desk 2>/dev/null; echo $?
-     for _ in $(seq 1800); do [ $(systemctl show -P NRestarts desk) -lt 11 ] || break; sleep 0.1; done
+     for _ in $(seq 180); do [ $(systemctl show -P NRestarts desk) -lt 11 ] || break; sleep 1; done
      until [ $(systemctl show -P SubState desk) != start-post ]; do sleep 0.1; done
      mv right/* .; rmdir right; {HEALTHY}""", f"13 sound\n1\n{DONE}"),
 ]
