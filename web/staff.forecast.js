@@ -1,5 +1,4 @@
-// What each audience will get of a disk that is not sent yet: reckoned on this page from its dump and the rules that
-// stand, before the desk's verdicts can say it.
+// What each audience will get of a disk that is not sent yet: reckoned on this page from its dump and the rules.
 import { given } from "./staff.verdicts.js";
 import { AUDIENCES, EFFECTS, selection } from "./staff.words.js";
 

@@ -12,6 +12,9 @@ export const MONTHS = 120;
 
 const LINE_FEED = 10;
 
+// The months without a file of which none comes any more: they are not asked for again.
+const absent = new Set();
+
 // Some bytes behind others.
 function joined(parts) {
   const bytes = new Uint8Array(parts.reduce((sum, one) => sum + one.length, 0));
@@ -114,7 +117,9 @@ export class Lines {
   }
 
   async readFile(take, tools) {
+    if (absent.has(this.month)) return false;
     const reply = await unless(404, ask(`/journal-${this.month}`, { signal: tools.signal }));
+    if (reply === null && this.month < monthBefore(today().slice(0, 7))) absent.add(this.month);
     if (reply === null) return false;
     const { bytes, isCut } = await bytesOf(reply, tools);
     this.isCut ||= isCut;

@@ -1,5 +1,4 @@
-// Many changes, one after the other: with progress, a report that can be saved, and a way to go on where the connection
-// was lost or the reader stopped.
+// Many changes, one after the other: with progress, a report that can be saved, and a way to go on where they stopped.
 import { csvText } from "./csv.js";
 import { Refused, box, cell, counted, element, explainRefusal, refusalName, row, table } from "./shared.js";
 import { button, change, diskCell, isUnsure, keepReason, older, whoNow } from "./staff.desk.js";
@@ -22,7 +21,8 @@ const isLost = (fault) => fault instanceof Refused && [0, 401, 403, 429, 502, 50
 export const isDone = (item) => item.outcome === DONE;
 
 // Sends what is left of some items by `one`, and gives a report. `run` has the section, the items, a word for them,
-// what sends one, and the columns of the report with an item's texts in them; `after` comes when it ends, in any case.
+// what sends one, and the columns of the report with an item's texts in them; `after` comes when it ends, in any case,
+// and may have words: `said` in the place of how many are done, `more` where not all are.
 export async function sendMany(run, { progress, signal }) {
   const left = run.items.filter((item) => !isDone(item));
   for (const [at, item] of left.entries()) {

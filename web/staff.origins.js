@@ -19,8 +19,8 @@ function isOf({ path, isSaid }, change) {
   }
 }
 
-// The latest change that put what stands; null where a later one put or dropped something else there. Where nobody
-// knows what became of one, it counts if it says what stands.
+// The latest change that put what stands; null where a later one did something else there. One of which nobody knows
+// what became counts if it says what stands.
 function originOf(thing, changes) {
   const isHere = ({ target }) => (thing.path.endsWith("/") ? target.startsWith(thing.path) : target === thing.path);
   const counts = (change) => change.status === "200" || (isUnknown(change) && isOf(thing, change));

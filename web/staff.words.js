@@ -56,11 +56,7 @@ export const LIMITS = {
   accession: NUMBER,
   scope: NUMBER,
   rank: { ...NUMBER, pattern: "[1-9][0-9]{0,3}", title: "a number from 1 to 9999" },
-  signed: DAY,
-  from: DAY,
-  until: DAY,
-  day: DAY,
-  before: DAY,
+  ...Object.fromEntries(["signed", "from", "until", "day", "before"].map((name) => [name, DAY])),
   digest: { pattern: "[0-9A-Fa-f]{64}", title: "64 hexadecimal digits" },
 };
 
