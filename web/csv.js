@@ -38,8 +38,7 @@ export class Records {
 }
 
 // The records of a table that somebody wrote by hand or with a spreadsheet: lines may end with CR LF, a byte order mark
-// may stand in front, and the last line may lack its end. Empty lines count for nothing. Null where a quote stands
-// wrong.
+// may stand in front, the last line may lack its end, and empty lines count for nothing. Null where a quote is wrong.
 export function recordsOf(text) {
   const lines = `${text.replace(/^\ufeff/, "").replaceAll("\r\n", "\n").trimEnd()}\n`;
   const reader = new Records();

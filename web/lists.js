@@ -134,8 +134,7 @@ export function listTable(caption, columns, items, rowOf) {
   return made;
 }
 
-// The cell of a file's name: as the machine showed it, as a link where there is an address, and the printed name below
-// where that is another.
+// The cell of a file's name: as the machine showed it, as a link where there is an address; below it one printed else.
 export function nameCell(kind, printed, address = null) {
   const shown = shownName(kind, printed);
   const made = element("div", null);

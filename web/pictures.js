@@ -46,8 +46,7 @@ function signsOf(bytes) {
   return made;
 }
 
-// The picture in a file of the 1541: words for it, what makes its dots, and whether it is one for sure; null where it
-// is none.
+// The picture in a file of the 1541: words for it, what makes its dots, and whether it is surely one; null for none.
 export function pictureIn(bytes) {
   const [at, data] = [bytes[0] + 256 * bytes[1], bytes.subarray(2)];
   const format = FORMATS.find((one) => one.at === at && one.sizes.includes(data.length));

@@ -12,8 +12,7 @@ import { cbmText, cpmText, hexText, isInSmall, petsciiText, wordStarText } from 
 // A window in which a line of bytes is short.
 const NARROW = matchMedia("(max-width: 42rem)");
 
-// The bytes on show, as a download, until the view changes; and what shows them anew where the window gets another
-// width.
+// The bytes on show, as a download, until the view changes; and what shows them anew at another width of the window.
 let download = null;
 let showAnew = () => {};
 
@@ -142,8 +141,7 @@ function factsOf({ kind, accession, file, bytes, digest, files }) {
   return box("dl", "facts", ...said.flatMap(([term, text]) => [element("dt", term), box("dd", "", text)]));
 }
 
-// The listing says how to read the bytes, and comes first. A file that comes though the listing lacks it was opened in
-// between.
+// The listing says how to read the bytes, and comes first. A file that it lacks, and that comes, was opened in between.
 export async function showFile(number, slot) {
   const accession = Number(number);
   const listing = await askObject(`/images/${accession}`);

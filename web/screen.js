@@ -1,5 +1,4 @@
-// Screens of the machines that the disks are of, dot by dot: a directory as a C64 lists it or as CP/M does, and texts
-// with their colours.
+// Screens of the machines of the disks, dot by dot: a directory as a C64 or CP/M lists it, and texts in their colours.
 import { codesOf, hasShifted, shownName } from "./names.js";
 import { picture } from "./pictures.js";
 import { mayRead } from "./room.lists.js";

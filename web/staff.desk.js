@@ -129,8 +129,7 @@ const again = async (name) => shows[name]?.({ progress: progresses[name] });
 export const older = (name) =>
   paragraph(`The ${name} could not be read anew after that: the list below may be older. Open this view again.`);
 
-// The words of a change that is done, once its section is shown anew; where it cannot be, also what was not read, and
-// why.
+// The words of a change that is done, once its section is shown anew; where that fails, also what was not read and why.
 export async function shownAnew(name, words) {
   const fault = await again(name).then(() => null, (came) => came);
   return fault === null ? words : [words, older(name), refusal(fault)];

@@ -23,8 +23,7 @@ async function read(day, tools) {
   seen = { day, moment, files };
 }
 
-// Says of a file whether it is looked for: by a part of its name or of its disk's title, by its disk's number, or by
-// the rule that decides.
+// Says of a file whether it is looked for: by a part of its name or its disk's title, by the disk's number or its rule.
 function finder(words, audience) {
   if (words === "") return () => true;
   const [rule, ruleAt] = [words.toUpperCase(), EFFECT_AT[audience] + 1];

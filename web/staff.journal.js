@@ -77,8 +77,7 @@ function draw() {
   form.elements.older.disabled = lines.isWhole || isFull();
 }
 
-// Reads it anew, so far back that it is enough, or else all. Gives the changes and, where it may have older ones, since
-// when it has them.
+// Reads it anew, so far back that it is enough, or else all. Gives the changes and, if there may be more, since when.
 export async function readBack(isEnough, tools) {
   [lines, read, changes] = [new Lines(), new AllChanges(), []];
   while (!isEnough(changes) && !lines.isWhole && !isFull()) {

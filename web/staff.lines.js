@@ -1,5 +1,4 @@
-// The lines of the journal, from its end: what is written now comes in pieces, and what was rotated away in a month
-// comes as one file.
+// The lines of the journal, from its end: what is written now comes in pieces, each older month comes as one file.
 import { Refused, ask, fields } from "./shared.js";
 import { breather } from "./stream.js";
 import { dayAfter, monthBefore, today } from "./staff.words.js";

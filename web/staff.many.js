@@ -48,8 +48,7 @@ function summary({ items, word, verb, said }) {
   return element("p", `${counted(done, word)} ${verb}, ${rest}`, { className: "callout" });
 }
 
-// What became of the items: in short, those that failed, and buttons to go on and to save the report; and whether what
-// stands below is older.
+// What became of the items: in short, those that failed, buttons to go on or save it; and whether the list is older.
 function report(run, isOlder) {
   const made = box("div", "", summary(run));
   const failed = run.items.filter((item) => item.outcome && !isDone(item));
