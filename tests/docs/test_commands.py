@@ -8,10 +8,12 @@ import os
 import pathlib
 import re
 import shlex
+import shutil
 import subprocess
 import tempfile
 
 import pytest
+from operate.test_package import made
 from support import doc_pages
 from support.server import ROOT
 
@@ -29,7 +31,7 @@ for folder in etc usr var; do
 done
 install -m 755 docs/systemctl /usr/bin/systemctl; set +e"""
 SYSTEMCTL = """#!/bin/sh
-ends() { [ ! -e $pid ] || { kill $(cat $pid); tail -f --pid=$(cat $pid) /dev/null; }; }
+ends() { [ ! -e $pid ] || { kill $(cat $pid); tail -f --pid=$(cat $pid) /dev/null; rm $pid; }; }
 answers() { curl -so /dev/null --unix-socket /run/desk${at:+-$at}/socket http://desk/health; }
 begins() {
     set -a; places=/etc/desk${at:+-$at}/places; [ ! -e $places ] || . $places; set +a
@@ -44,15 +46,15 @@ for service in "$@"; do
     staff="nginx -c /etc/desk${at:+-$at}/staff-nginx.conf"
     case $word-$service in
     start-desk | enable-desk@*) begins ;; stop-desk) ends ;; restart-desk) ends; begins ;; status-desk) answers ;;
-    start-desk-staff | restart-desk-staff | enable-desk-staff@*) $staff ;; status-desk-staff) ss -ltn | grep -q :8043 ;;
+    start-desk-staff | restart-desk-staff | enable-desk-staff@*) $staff ;;
+    stop-desk-staff) $staff -s stop ;; status-desk-staff) ss -ltn | grep -q :8043 ;;
     show-*) echo LoadState=loaded; echo ActiveState=active ;;
     restart-nginx) nginx ;; reload-nginx) nginx -s reload 2>/dev/null || echo failed ;; status-nginx) nginx -t -q ;;
     esac
 done
 """
-# How many commands each page has at least.
 LEAST = {"README.md": 30, "docs/COMMANDS.md": 50, "docs/OPERATING.md": 45, "docs/BY-HAND.md": 90,
-         "docs/DUMPS.md": 15, "docs/MACHINES.md": 15}
+         "docs/DUMPS.md": 15, "docs/MACHINES.md": 15}  # commands of each
 
 @pytest.fixture
 def folder(program):
@@ -94,6 +96,22 @@ def test_commands_give_what_the_page_shows(folder, page):
         if not re.fullmatch(re.sub(r"(\\\.){3}\\\n\Z", ".+", re.escape(wanted)), gives, re.S):
             wrong += f"\n{page}, line {number}: {words}\nshows:\n{wanted}gives:\n{gives}"
     assert not wrong and len(found) >= LEAST[page], wrong
+
+# What runs in a container, as the user desk, on a machine where the package has nothing running.
+CONTAINER = ("nginx -s stop 2>/dev/null; systemctl stop desk desk-staff; cp -r operate /usr/share/desk; cd /; "
+             "runuser -u desk -- /usr/share/desk/operate/container/start >/dev/null 2>&1 & for _ in {1..600}; do "
+             "curl -sfko /dev/null https://localhost:8443/health && break; sleep 0.1; done; "
+             "curl -s -H @/var/lib/desk/staff-key 127.0.0.1:8043/staff/keys | cut -c 10-29", '{"audience":"staff",\n')
+
+@pytest.mark.long
+@pytest.mark.timeout(900)
+def test_package_gives_what_the_page_on_machines_shows(folder, program):
+    shutil.move(made(folder / "made", program), folder / "desk.deb")
+    found = [one[2:] for one in doc_pages.commands("docs/MACHINES.md") if one[1] == "package"]
+    found = [one for one in found if not re.match("cert|apt-|cat|ANSI|grep", one[0])] + [CONTAINER]
+    begins = "export LC_ALL=C.UTF-8 HOME=/srv; dpkg --no-triggers -i desk.deb >&2; systemctl start desk desk-staff; nginx"
+    wrong = [(one, gives) for one, gives in zip(found, typed(folder, f"{LAYERS}\n{begins}", found)) if gives != one[1]]
+    assert not wrong and len(found) > 8, "\n".join(map(str, wrong))
 
 @pytest.mark.parametrize("page", LEAST)
 def test_each_block_of_a_page_begins_with_a_command(page):
