@@ -4,8 +4,7 @@ import collections
 
 from support import cpm_image, server, trials
 from support.samples import (
-    ALL, EVERY, LOOP_DISK, MARKED_DISK, PROGRAM_DISK, RECORD_DISK, badge, digest, drop, put, put_image, put_rule, raw
-)
+    ALL, EVERY, LOOP_DISK, MARKED_DISK, PROGRAM_DISK, RECORD_DISK, badge, digest, drop, put, put_image, put_rule, raw)
 
 # Words, a part of what they write, and the status; the store before them and after them, or with rows after each line;
 # and the request of a visitor.
@@ -29,15 +28,13 @@ TEXTS = [(b"A       TXT", cpm_image.text("HELLO\n"), [2]), (b"B       TXT", cpm_
 GIVEN = {
     "record.img": RECORD_DISK, "program.d64": PROGRAM_DISK, "marked.d64": MARKED_DISK, "loop.d64": LOOP_DISK,
     "mixed.d64": trials.image("mixed.image"), "damaged.img": server.bytes_of("images", "damaged.img"),
-    "one.img": cpm_image.of_entries(TEXTS[:1]), "two.img": cpm_image.of_entries(TEXTS), "key": b"abc\n",
-}
+    "one.img": cpm_image.of_entries(TEXTS[:1]), "two.img": cpm_image.of_entries(TEXTS), "key": b"abc\n"}
 # Of each sheet its rows: the accession, the kind, the file, and another SHA-256 where it is not that of the file.
 SHEETS = {
     "record": [(12, "cpm8", "record.img")], "marked": [(13, "d64e", "marked.d64")],
     "program": [(12, "d64", "program.d64")], "second": [(13, "d64", "program.d64")],
     "four": [("", "", "key"), (12, "d64", "program.d64"), (12, "d64", "program.d64", b"x"), (13, "d64", "program.d64")],
-    "holed": [(13, "d64", "nothing.d64", b"x"), (12, "d64", "program.d64")],
-}
+    "holed": [(13, "d64", "nothing.d64", b"x"), (12, "d64", "program.d64")]}
 
 def row_of(work, acc, kind, name, other=None):
     return f"{acc},{kind},7,{digest(other or GIVEN[name])},{work / name}"
@@ -68,15 +65,13 @@ STORES = {
     "keyed": ("filled", STAFF_KEY),
     "closed": ("filled", "INSERT INTO rule VALUES (0, 12, 1, 3, NULL, NULL, 0, 0, '', 0)"),
     "one-file": ("none", TO_FOLDER % "one"),
-    "two-files": ("none", TO_FOLDER % "two"),
-}
+    "two-files": ("none", TO_FOLDER % "two")}
 ROW, FILE_LINE = b"12 done\n", b"12,7,cpm8,0,0,HELLO.TXT,TXT,128,,R7.20,read\n"
 TWO_LINES = b"12,7,d64,0,,HELLO,PRG,258,,R7.20,read\n13,7,d64,0,,HELLO,PRG,258,,R7.20,read\n"
 FILLED = ("filled", "filled")
 SHOWN = {
     "takedowns": b'{"takedowns":[]}\n', "checks": b'"day":null,"outcome":null}]}',
-    "keys": b'{"keys":[{"audience":"staff",', "verdicts --on 2030-01-01": b"12,7,cpm8,0,0,HELLO.TXT",
-}
+    "keys": b'{"keys":[{"audience":"staff",', "verdicts --on 2030-01-01": b"12,7,cpm8,0,0,HELLO.TXT"}
 # Visits that change a store, by the stores before and after them.
 VISITS = {
     ("made", "deeded"): put("/deeds/7", {"donor": "A. Curator", "signed": "2019-05-04"}),
@@ -84,8 +79,7 @@ VISITS = {
     ("ruled", "deeded"): drop("/deeds/7/rules/20"), ("ruled", "program"): put_image(12, "d64", 7, PROGRAM_DISK),
     ("filled", "keyed"): put(badge("def"), {"audience": "staff"}), ("keyed", "filled"): drop(badge("def")),
     ("filled", "closed"): put_rule("/images/12/rules/1", "deny", EVERY, "public", "room"),
-    ("closed", "filled"): drop("/images/12/rules/1"),
-}
+    ("closed", "filled"): drop("/images/12/rules/1")}
 OVER_STORES = {
     "init": Command(INIT, b"done\n", 0, ("none", "made")),
     "init-sums": Command(f"{INIT} --sums", b"done\n", 0, ("none", "made")),
@@ -95,8 +89,7 @@ OVER_STORES = {
     "import-marked": Command(f"{IMPORT}marked.csv", b"13 done\n", 0, ("ruled", "marked")),
     "import-four": Command(
         f"{IMPORT}four.csv", b"row 1 bad-row\n12 done\n12 digest-differs\n13 done\n", 1,
-        ("ruled", "ruled", "program", "program", "programs"),
-    ),
+        ("ruled", "ruled", "program", "program", "programs")),
     "import-by-files": Command(BY_FILES, ROW, 0, ("ruled", "filled")),
     "import-dry-run": Command(f"{IMPORT}four.csv --dry-run", b"13 would-be-done\n", 1, 5 * ("ruled",)),
     "import-keep-going": Command(f"{IMPORT}holed.csv --keep-going", ROW, 3, ("ruled", "ruled", "program")),
@@ -106,8 +99,7 @@ OVER_STORES = {
     "check-changed": Command(CHECK, b"12 changed\n", 1, ("harmed", "told")),
     "serve": Command(f"{SERVE}0", b"served 0\n", 0, FILLED),
     **{f"show-{name.split()[0]}": Command(SHOW.format(name), part, 0, FILLED) for name, part in SHOWN.items()},
-    **{"-".join(pair): Command(f"{SERVE}1", b"served 1\n", 0, pair, raw(one)) for pair, one in VISITS.items()},
-}
+    **{"-".join(pair): Command(f"{SERVE}1", b"served 1\n", 0, pair, raw(one)) for pair, one in VISITS.items()}}
 
 # Commands that have no store, of which some fail as ever. Their input is the image of record.img.
 WITHOUT_STORE = {
@@ -123,5 +115,4 @@ WITHOUT_STORE = {
     "show-long-key": Command("desk show keys --store f --key-file {work}/loop.d64 --explain", b"desk: device\n  ", 3),
     "show-no-store": Command(SHOW.format("keys"), b"desk: not-a-desk\n", 3),
     "files": Command(TO_FOLDER % "two", b"\t128\n", 0, ("none", "one-file", "two-files")),
-    "help": Command("desk --help", b"desk cat cpm8 disk.img 0"),
-}
+    "help": Command("desk --help", b"desk cat cpm8 disk.img 0")}

@@ -14,8 +14,7 @@ import pytest
 from refusals import LONG, reply_to
 from support.clients import noon_zone
 from support.samples import (
-    ALL, DONE, FIRST, MARKED_DISK, PROGRAM_DISK, ROOM, SOUND, STAFF, check, get, put, put_image, put_rule, raw, survey
-)
+    ALL, DONE, FIRST, MARKED_DISK, PROGRAM_DISK, ROOM, SOUND, STAFF, check, get, put, put_image, put_rule, raw, survey)
 from support.server import Serving
 
 FILE, LOG, PAGE, HEADER = "", "-wal", 4096, 100
@@ -26,8 +25,7 @@ PARTS = 16  # in so many all bits are tried, side by side
 RULES = [
     put_rule("/deeds/8/rules/1", "list", {"user": 0}, "public", **{"from": "2000-01-01"}),
     put_rule("/deeds/8/rules/2", "read", {"type": "PRG"}, *ALL),
-    put_rule("/deeds/8/rules/3", "deny", {"prefix": "GAME"}, *ALL),
-]
+    put_rule("/deeds/8/rules/3", "deny", {"prefix": "GAME"}, *ALL)]
 COMMANDS = [*(asked for _, asked, _ in FIRST if len(asked.body) < 1000), *RULES]
 TAKEDOWN = put_rule("/images/12/rules/1", "deny", {"slot": 0}, "public")
 SMALL = [*COMMANDS, put_image(12, "d64e", 7, MARKED_DISK), TAKEDOWN, check(12)]

@@ -15,7 +15,6 @@ KEY, SERVE, DONE = ["--key", "abc"], ["serve", "--count", "0"], (0, "done\n", ""
 EXISTS, USAGE = (1, "", "desk: exists\n"), (2, "", "desk: usage\n")
 STORE, DEVICE, NO_DESK = ((3, "", f"desk: {name}\n") for name in ("store", "device", "not-a-desk"))
 
-
 @pytest.fixture
 def plain(ends, tmp_path):
     """A new store without sums, beside a second one and all else that a path can lead to."""
@@ -27,13 +26,11 @@ def plain(ends, tmp_path):
     (tmp_path / "link").symlink_to("plain")
     return tmp_path / "plain"
 
-
 def keys(ends, name):
     """What shows that a store opens as the desk that it was."""
     status, told, errors = ends("show", "keys", "--store", name, *KEY)
     assert (status, told.count('"audience"'), errors) == (0, 1, "")
     return told
-
 
 @pytest.mark.parametrize("words, wanted", [
     (["cat", "cpm8", WELCOME, 0], (0, model_disks.read("cpm8", WELCOME.read_bytes()).files[0].data.decode(), "")),
@@ -43,17 +40,14 @@ def keys(ends, name):
 def test_status_and_streams(ends, words, wanted):
     assert ends(*words) == wanted
 
-
 def test_help_is_output_and_a_mistake_an_error(ends):
     status, output, errors = ends("list", "d65", WELCOME)
     assert (status, output, "d65" in errors) == (2, "", True)
     assert ends("--help")[::2] == (0, "")
 
-
 @pytest.mark.parametrize("stream, told", [
     ("full", "the disk is full"), ("unread", "nobody reads what is written there"),
-    ("closed", "the system failed, and says no more"),
-])
+    ("closed", "the system failed, and says no more")])
 def test_output_that_cannot_be_written(desk, stream, told):
     reading, writing = os.pipe()
     os.close(reading)
@@ -63,17 +57,14 @@ def test_output_that_cannot_be_written(desk, stream, told):
         ran = desk("list", "cpm8", WELCOME, "--explain", capture_output=False, stderr=subprocess.PIPE, **how)
     assert (ran.returncode, ran.stderr.decode()) == (3, f"desk: device\n  standard output: {told}\n")
 
-
 def test_store_is_not_taken_for_a_closed_stream(desk, ends, tmp_path):
     how = {"capture_output": False, "stdin": None, "preexec_fn": lambda: os.closerange(0, 3)}
     assert desk("init", "--store", tmp_path / "store", *KEY, **how).returncode == 3
     keys(ends, "store")
 
-
 def test_image_by_a_pipe(ends):
     told = ends("list", "cpm8", WELCOME)
     assert (told[0], ends("list", "cpm8", "-", input=WELCOME.read_bytes())) == (0, told)
-
 
 @pytest.mark.parametrize("words, paths, wanted", [
     (["init", *KEY, "--store"], [":memory:", "file:desk", "", "none/new", "folder"], STORE),
@@ -91,15 +82,12 @@ def test_store_is_made_in_a_new_file_and_opened_in_a_file_alone(ends, plain, wor
     assert seen() == before
     keys(ends, "plain")
 
-
 @pytest.mark.parametrize("words", [
     ["show", "keys", *KEY], ["export"], ["check", "--acc", "12", *KEY], ["import", "--sheet", "none.csv", *KEY],
-    ["staff-key", *KEY], [*SERVE, "--socket", "socket"], ["copy", "--to", "new"],
-], ids=lambda words: words[0])
+    ["staff-key", *KEY], [*SERVE, "--socket", "socket"], ["copy", "--to", "new"]], ids=lambda words: words[0])
 def test_no_command_but_init_makes_a_store(ends, tmp_path, words):
     assert ends(*words, "--store", "none") == NO_DESK
     assert list(tmp_path.iterdir()) == []
-
 
 def test_explanation_has_what_the_system_said(ends, serving, plain):
     """What to do next the trials show. The store that is in use stays locked for each command."""
@@ -113,12 +101,10 @@ def test_explanation_has_what_the_system_said(ends, serving, plain):
             ("not-a-desk", "none: there is no such file", "export", "--store", "none"),
             ("store", "text: it is no store of a desk", "export", "--store", "text"),
             ("store", in_use[1], "copy", "--store", "plain", "--to", "new"),
-            ("store", in_use[1], *SERVE, "--store", "plain", "--socket", "new"),
-        ]:
+            ("store", in_use[1], *SERVE, "--store", "plain", "--socket", "new")]:
             status, output, errors = ends(*words, "--explain")
             assert (status, output, errors.splitlines()[:2]) == (3, "", [f"desk: {name}", f"  {why}"])
     assert not plain.with_name("new").exists()
-
 
 @pytest.mark.parametrize("words, bytes_of_sums", [(["--sums"], 8), ([], 0)], ids=["sums", "no-sums"])
 def test_sums_are_where_they_are_asked_for(ends, plain, words, bytes_of_sums):
@@ -131,13 +117,11 @@ def test_sums_are_where_they_are_asked_for(ends, plain, words, bytes_of_sums):
     assert {stat.filemode(plain.with_name(name).stat().st_mode) for name in ("copy", "copy-wal")} == {"-rw-------"}
     assert keys(ends, "copy") == keys(ends, "back") == keys(ends, "plain")
 
-
 def test_no_sums_where_a_database_is_already(ends, plain):
     assert ends("init", "--sums", "--store", "plain", *KEY) == EXISTS
     assert ends("show", "keys", "--store", "empty", *KEY) == NO_DESK
     assert ends("init", "--sums", "--store", "empty", *KEY) == STORE
     assert ends("init", "--store", "empty", *KEY) == DONE
-
 
 def test_files_of_an_image_are_its_bytes_and_follow_no_link(ends, tmp_path):
     files = [file for file in model_disks.read("d64", MUSEUM.read_bytes()).files if file.data is not None]
@@ -148,7 +132,6 @@ def test_files_of_an_image_are_its_bytes_and_follow_no_link(ends, tmp_path):
     assert ends(*words)[0] == 0
     wanted = {f"{int(file.fields['slot']):05}-{file.fields['name']}": file.data for file in files}
     assert {path.name: path.read_bytes() for path in tmp_path.iterdir()} == wanted
-
 
 def test_socket_is_of_one_desk_and_that_of_a_killed_one_gives_way(ends, serving, plain):
     path, words = plain.with_name("socket"), [*SERVE, "--store", "other", "--socket", "socket"]

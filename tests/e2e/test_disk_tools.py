@@ -13,7 +13,6 @@ FORMAT = ["-f", "ibm-3740"]
 LETTERS = "ABCDEFGHIJKLMNOPQRSTUVWXYZ0123456789$#@!-_"
 DISKS = [pytest.param(number, marks=[pytest.mark.long] if number > 3 else []) for number in range(24)]
 
-
 @pytest.fixture
 def run(tmp_path):
     """Runs a command in the test's folder, and gives its output, or None where it fails by these words."""
@@ -27,7 +26,6 @@ def run(tmp_path):
 
     return begin
 
-
 def found(desk, kind, path):
     """The files that `list` finds without a fault, each with its user, name, type, and what `cat` gives of it."""
     *lines, end = desk("list", kind, path).stdout.decode().splitlines()
@@ -37,7 +35,6 @@ def found(desk, kind, path):
         given = (0, str(len(ran.stdout)), "") if type_ != "DEL" or kind == "cpm8" else (1, "", "")
         assert (ran.returncode, size, faults) == given, name
         yield user, name, type_, ran.stdout
-
 
 def fill_cpm(chance, run, folder):
     """Adds files of several users and sizes, deletes some, adds others, and sets attributes. Where the disk is full in
@@ -57,7 +54,6 @@ def fill_cpm(chance, run, folder):
         if held and chance.random() < 0.2:
             run("cpmchattr", *FORMAT, path, chance.choice("rs"), chance.choice(held))
     return path
-
 
 @pytest.mark.parametrize("number", DISKS)
 def test_cpm_disk_beside_cpmtools(desk, run, seed, tmp_path, number):
@@ -79,7 +75,6 @@ def test_cpm_disk_beside_cpmtools(desk, run, seed, tmp_path, number):
     # there are three blocks with records on track 76
     assert len(unread) <= 3, unread
 
-
 def fill_cbm(chance, run, folder):
     """Adds files of each type that cc1541 writes, some long, and scratches the first of some."""
     path = folder / "image.d64"
@@ -93,7 +88,6 @@ def fill_cbm(chance, run, folder):
     image[cbm_image.place(18, 1) + 2] *= chance.choice([0, 1])
     path.write_bytes(image)
     return path
-
 
 @pytest.mark.parametrize("number", DISKS)
 def test_1541_disk_beside_cc1541_and_cbmconvert(desk, run, seed, tmp_path, number):

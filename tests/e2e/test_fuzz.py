@@ -23,9 +23,7 @@ CHANGED = samples.PROGRAM_DISK[:86018] + b"B" + samples.PROGRAM_DISK[86019:]
 # Visits at the end of each story, so that each name comes whatever is drawn.
 LAST = [
     *(samples.get(path) for path in ("/catalogue", "/images/16/files/1", "/images/14/files/0")), samples.check(12),
-    *(samples.put_image(12, "d64", 7, data, samples.digest(b"another")) for data in (samples.PROGRAM_DISK, b"")),
-]
-
+    *(samples.put_image(12, "d64", 7, data, samples.digest(b"another")) for data in (samples.PROGRAM_DISK, b""))]
 
 def name_of(reply):
     """What a reply is called: the name of the refusal or of the outcome, or the sort of the answer."""
@@ -35,19 +33,16 @@ def name_of(reply):
     sorts = (sort for sort in ("done", "images", "directory", "files", kind) if sort in keys)
     return keys.get("error") or keys.get("outcome") or next(sorts)
 
-
 def send(port, visit):
     """The bytes that come, and how they end. Where the desk waits for more, the sending is ended."""
     step = -(-len(visit.data) // visit.parts) or 1
     parts = [visit.data[at : at + step] for at in range(0, len(visit.data), step)]
     return clients.by_socket(port, parts, model_requests.is_waited_for(visit.data), pause=0)
 
-
 def rows_of(store):
     with contextlib.closing(sqlite3.connect(store)) as connection:
         assert connection.execute("PRAGMA integrity_check").fetchall() == [("ok",)]
         return list(connection.iterdump())
-
 
 class Story(stateful.RuleBasedStateMachine):
     """Visits to a desk, with its model beside it."""
@@ -82,7 +77,6 @@ class Story(stateful.RuleBasedStateMachine):
                 send(served.port, visit)
         assert rows_of(self.store) == rows_of(store)
 
-
 @pytest.fixture
 def machine(serving, store, tmp_path):
     """Stories over copies of the filled store in which a byte of an image is changed. All have the same day."""
@@ -96,7 +90,6 @@ def machine(serving, store, tmp_path):
 
     shared = {"names": collections.Counter(), "disks": model.Disks(), "begun": staticmethod(begun), "today": today}
     return type("Machine", (Story,), shared)
-
 
 @pytest.mark.parametrize("stories", [40, pytest.param(2000, marks=pytest.mark.long)])
 @pytest.mark.timeout(3600)

@@ -24,29 +24,24 @@ DISKS = st.tuples(
     st.tuples(st.sampled_from(["d64", "d64e"]), CBM_FILES) | st.tuples(st.just("cpm8"), CPM_FILES),
     st.integers(0, 999), st.text("ab ,\"'=", min_size=1, max_size=9))
 
-
 def image_of(kind, files, seed):
     if kind == "cpm8":
         return cpm_image.filled((name.encode(), bytes(128 * records)) for name, records in files)
     marks = cbm_image.marks_by_chance(random.Random(seed), (40, 100)) if kind == "d64e" else b""
     return cbm_image.filled(b"MUSEUM", [(type_, name.encode(), data) for type_, name, data in files]) + marks
 
-
 def write_by_python(path, rows):
     with open(path, "w", newline="", encoding="utf-8") as file:
         csv.writer(file).writerows([SHEET, *rows])
-
 
 def write_by_sqlite3(path, rows):
     texts = [", ".join("'" + str(value).replace("'", "''") + "'" for value in row) for row in rows]
     made = f"CREATE TABLE sheet ({', '.join(SHEET)}); INSERT INTO sheet VALUES ({'), ('.join(texts)});"
     path.write_bytes(shell(":memory:", f"{made} SELECT * FROM sheet", "-csv", "-header").encode())
 
-
 def read_by_sqlite3(path):
     words = ["-cmd", f".import --csv \"{path}\" t", "-json"]
     return json.loads(shell(":memory:", "SELECT * FROM t ORDER BY rowid", *words) or "[]")
-
 
 @pytest.fixture(scope="module")
 def folder(desk, serving, tmp_path_factory):
@@ -59,7 +54,6 @@ def folder(desk, serving, tmp_path_factory):
     with serving(made / "store") as served:
         assert [by_client(served.port, one) for one in asked] == 3 * [DONE]
     return made
-
 
 # What fails is not shrunk, which takes longer than a test may.
 @settings(max_examples=12, derandomize=True, deadline=None, phases=[Phase.generate],

@@ -18,7 +18,6 @@ STAYS, SOON = 20, 0.4
 QUESTION = head("GET /images HTTP/1.1")
 pytestmark = pytest.mark.alone
 
-
 def with_two_bytes_more(port):
     """A long file for a client that sends an empty line after its question, and reads late."""
     with connected(port) as client:
@@ -30,11 +29,9 @@ def with_two_bytes_more(port):
         time.sleep(0.1)
         return read_all(client)[0]
 
-
 def with_too_long_a_body(port):
     """A refusal for a client that sends all of its body before it reads, and fails where it cannot."""
     return by_client(port, put_image(30, "cpm8", 9, bytes(819200)))
-
 
 @pytest.mark.parametrize("visits", [30, pytest.param(1000, marks=pytest.mark.long)])
 @pytest.mark.parametrize("come", [with_two_bytes_more, with_too_long_a_body])
@@ -42,16 +39,13 @@ def test_reply_is_whole_though_more_was_sent(long_server, come, visits):
     due = content(LONG_FILE) if come == with_two_bytes_more else FRAMING
     assert collections.Counter(come(long_server.port) for _ in range(visits)) == {due: visits}
 
-
 def silent(client, ended):
     ended.wait(LIMIT)
-
 
 def sending(client, ended):
     """Sends a byte every hundredth of a second."""
     while not ended.wait(0.01):
         client.sendall(b"x")
-
 
 @pytest.mark.parametrize("stays", [silent, sending])
 def test_next_client_waits_briefly_for_one_that_stays(server, stays):

@@ -14,7 +14,6 @@ TABLE = """accession,deed,kind,slot,user,name,type,size,faults,rule,effect
 """
 DECLARED = "SELECT name, sql FROM sqlite_master ORDER BY name"
 
-
 def statements(folder):
     """The statements that make the store, with the file of an image in the place of ?1."""
     lines = trials.lines_of("first-version.trial")
@@ -25,7 +24,6 @@ def statements(folder):
         if word in ("sql", "sql-idle"):
             yield f"{text};"
 
-
 @pytest.fixture(scope="module")
 def first(tmp_path_factory):
     """A store of version 1."""
@@ -34,21 +32,17 @@ def first(tmp_path_factory):
     assert shell(folder / "store", "SELECT version FROM desk") == "1\n"
     return folder / "store"
 
-
 @pytest.fixture
 def store(first, tmp_path):
     return shutil.copy(first, tmp_path / "store")
-
 
 def rows(store):
     tables = ("deed", "image", "rule", "badge", "found", "checked")
     return {table: sorted(shell(store, f".dump {table}").splitlines()) for table in tables}
 
-
 @pytest.mark.parametrize("words, output", [
     (["export", "--key", STAFF], TABLE), (["copy", "--to", "copy"], "done\n"),
-    (["serve", "--count", "0", "--socket", "socket"], "listening socket\nserved 0\n"),
-], ids=["export", "copy", "serve"])
+    (["serve", "--count", "0", "--socket", "socket"], "listening socket\nserved 0\n")], ids=["export", "copy", "serve"])
 def test_command_migrates_a_store_to_the_tables_of_a_new_desk(ends, store, first, filled, words, output):
     assert ends(*words, "--store", store) == (0, output, "")
     assert shell(store, "SELECT version FROM desk; SELECT count(*) FROM marks; PRAGMA integrity_check") == "2\n0\nok\n"
@@ -56,10 +50,8 @@ def test_command_migrates_a_store_to_the_tables_of_a_new_desk(ends, store, first
     assert ends("export", "--key", STAFF, "--store", "copy" if words[0] == "copy" else store) == (0, TABLE, "")
     assert rows(store) == rows(first)
 
-
 @pytest.mark.parametrize("change, name", [
-    ("DELETE FROM found", "inconsistent"), ("DROP TABLE checked", "store"), ("UPDATE desk SET version = 3", "version"),
-])
+    ("DELETE FROM found", "inconsistent"), ("DROP TABLE checked", "store"), ("UPDATE desk SET version = 3", "version")])
 def test_what_is_no_desk_of_version_1_stays_as_it_is(ends, store, change, name):
     shell(store, change)
     before = shell(store, ".dump")

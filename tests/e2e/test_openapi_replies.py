@@ -11,8 +11,7 @@ from support.samples import DEED, EVERY, NOBODY, ROOM, STAFF, badge, check, drop
 DOCUMENT = json.loads(samples.bytes_of("web", "openapi.json"))
 OPERATIONS = {
     f"{method.upper()} " + re.sub(r"\{\w+\}", "[^/]+", path): operation
-    for path, methods in DOCUMENT["paths"].items() for method, operation in methods.items() if method != "parameters"
-}
+    for path, methods in DOCUMENT["paths"].items() for method, operation in methods.items() if method != "parameters"}
 HOW = {"resolver": jsonschema.RefResolver("", DOCUMENT), "format_checker": jsonschema.FormatChecker()}
 DAY = "2001-01-01"
 RULE = {"audiences": ["public"], "effect": "list", "select": {"prefix": "H"}, "from": DAY, "until": None}
@@ -32,9 +31,7 @@ ASKED = {
     403: [survey(12, ROOM), get("/images/12/files/0"), put("/deeds/10", DEED, None)],
     404: [get("/images/99"), get("/images/15/files/9"), put_rule("/deeds/99/rules/1", "read", EVERY, "room")],
     409: [drop(badge(STAFF)), put_image(12, "d64", 9, samples.PROGRAM_DISK)],
-    422: [get("/images/14/files/0"), get("/images/16/files/1"), put_image(30, "d64", 9, b"")],
-}
-
+    422: [get("/images/14/files/0"), get("/images/16/files/1"), put_image(30, "d64", 9, b"")]}
 
 def test_replies_are_as_the_document_describes(server):
     answered = set()

@@ -12,15 +12,12 @@ LITTLE_ROOM, MORE_TIME = 4096, 2
 QUESTION = head("GET /images HTTP/1.1")
 pytestmark = pytest.mark.alone
 
-
 @pytest.fixture(params=["port", "socket"])
 def place(request, tmp_path):
     return free_port() if request.param == "port" else tmp_path / "socket"
 
-
 def sends_nothing(client, ended):
     ended.wait(LIMIT)
-
 
 def sends_a_byte_a_second(client, ended):
     for byte in QUESTION[:-2] + b"Field: " + b"x" * 10000:
@@ -28,17 +25,14 @@ def sends_a_byte_a_second(client, ended):
         if ended.wait(1):
             return
 
-
 def takes_nothing(client, ended):
     client.sendall(LONG_QUESTION)
     ended.wait(LIMIT)
-
 
 def takes_a_byte_a_second(client, ended):
     client.sendall(LONG_QUESTION)
     while not ended.wait(1) and client.recv(1):
         pass
-
 
 # Clients, the options of their desk, and how many seconds they hold it: at the least, and at the most. A reply may have
 # several writes, each of which waits for its limit: ten seconds is the usual one.
@@ -47,8 +41,7 @@ def takes_a_byte_a_second(client, ended):
     (takes_nothing, ["--write-timeout", "1"], 0.8, 3),
     (takes_a_byte_a_second, ["--reply-timeout", "4", "--write-timeout", "3"], 2.4, 4),
     pytest.param(sends_nothing, [], 8, 10, marks=pytest.mark.long),
-    pytest.param(takes_nothing, [], 8, 50, marks=pytest.mark.long),
-])
+    pytest.param(takes_nothing, [], 8, 50, marks=pytest.mark.long)])
 def test_slow_client_holds_the_desk_for_its_limit(serving, long_store, place, visitor, options, least, most):
     with serving(long_store, *options, place=place):
         due = by_socket(place, [QUESTION])
@@ -58,7 +51,6 @@ def test_slow_client_holds_the_desk_for_its_limit(serving, long_store, place, vi
             came, taken = by_socket(place, [QUESTION]), time.monotonic() - begun
     assert came == due
     assert least < taken < most + MORE_TIME
-
 
 def test_reply_taken_slowly_but_in_time_is_whole(serving, long_store, place):
     """Each part is taken in time; all of them take longer than a write may."""

@@ -23,9 +23,7 @@ ROWS = {
     "SELECT slot, name, ty, quote(user_no), served, size, faults, hex(units), last_len FROM found WHERE acc = 12":
         "0|HELLO|PRG|NULL|1|258|0|0150015A|4\n",
     "SELECT (SELECT count(*) FROM checked), (SELECT count(*) FROM marks)": "0|1\n",
-    "PRAGMA integrity_check": "ok\n",
-}
-
+    "PRAGMA integrity_check": "ok\n"}
 
 def is_as_filled(serving, store):
     """Looks whether sqlite3 reads the rows of a store, and a desk gives the replies that are due."""
@@ -33,12 +31,10 @@ def is_as_filled(serving, store):
     with serving(store) as served:
         assert [by_client(served.port, asked) for _, asked, _ in READ_BACK] == [due for *_, due in READ_BACK]
 
-
 def test_vacuum_changes_no_row_and_no_reply(serving, store):
     is_as_filled(serving, store)
     shell(store, "VACUUM")
     is_as_filled(serving, store)
-
 
 @pytest.mark.parametrize("change, opening, making", [
     ("UPDATE desk SET version = 7", "version", "exists"),
@@ -47,15 +43,13 @@ def test_vacuum_changes_no_row_and_no_reply(serving, store):
     ("CREATE TRIGGER noted AFTER UPDATE ON desk BEGIN SELECT 1; END", "store", "exists"),
     ("ANALYZE", "store", "exists"),
     # what sqlite3 lets stand against a foreign key is no database to the desk
-    ("UPDATE image SET deed = 99 WHERE acc = 12", "store", "store"),
-])
+    ("UPDATE image SET deed = 99 WHERE acc = 12", "store", "store")])
 def test_changed_store_is_refused_and_stays(ends, store, change, opening, making):
     shell(store, change)
     before = shell(store, ".dump")
     assert ends("serve", "--count", "0", "--store", store) == (3, "", f"desk: {opening}\n")
     assert ends("init", *KEY, "--store", store) == (1 if making == "exists" else 3, "", f"desk: {making}\n")
     assert shell(store, ".dump") == before
-
 
 def test_sqlite3_reads_a_store_with_sums_and_writes_none(ends, serving, store, tmp_path):
     summed = tmp_path / "summed"
@@ -67,13 +61,11 @@ def test_sqlite3_reads_a_store_with_sums_and_writes_none(ends, serving, store, t
     for name in ("summed", "backup", "vacuumed"):
         assert ends("export", "--store", tmp_path / name) == NOT_OPENED, name
 
-
 def test_store_that_another_process_writes_is_not_opened(ends, store):
     with contextlib.closing(sqlite3.connect(store, isolation_level=None)) as connection:
         connection.execute("BEGIN EXCLUSIVE")
         assert ends("export", "--store", store) == NOT_OPENED
     assert ends("export", "--store", store)[0] == 0
-
 
 def test_store_of_a_desk_that_serves_is_locked_for_sqlite3(serving, store):
     with serving(store) as served, contextlib.closing(sqlite3.connect(store, timeout=0)) as connection:

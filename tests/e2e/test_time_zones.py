@@ -25,19 +25,15 @@ PLACES = {
     "America/Santiago": ("<-04>4<-03>,M9.1.6/24,M4.1.6/24", "1989-04-02", "2026-09-06"),
     "Africa/Cairo": ("EET-2EEST,M4.5.5/0,M10.5.4/24", "1989-04-28", "2026-10-30"),
     "Asia/Jerusalem": ("IST-2IDT,M3.4.4/26,M10.5.0", "1989-03-24", "2026-10-25"),
-    "Australia/Lord_Howe": ("<+1030>-10:30<+11>-11,M10.1.0,M4.1.0", "1989-04-02", "2026-10-04"),
-}
-
+    "Australia/Lord_Howe": ("<+1030>-10:30<+11>-11,M10.1.0,M4.1.0", "1989-04-02", "2026-10-04")}
 
 def date_at(moment):
     return time.strftime("%Y-%m-%d", time.localtime(moment))
-
 
 def first_of(date):
     """The first moment of a day, which is near the C library's midnight. No rule changes a clock within a minute."""
     about = int(time.mktime(time.strptime(date, "%Y-%m-%d")))
     return next(moment for moment in range(about - 4 * HOUR, about + 4 * HOUR, 60) if date_at(moment) >= date)
-
 
 @pytest.fixture(params=PLACES.values(), ids=PLACES)
 def place(request, monkeypatch):
@@ -50,7 +46,6 @@ def place(request, monkeypatch):
     monkeypatch.undo()
     time.tzset()
 
-
 def commands(dates):
     """What brings in a disk with a file for each date, which the public may read from that date on."""
     yield put("/deeds/7", {"donor": "A. Curator", "signed": "1969-05-04"})
@@ -58,7 +53,6 @@ def commands(dates):
     for slot, date in enumerate(dates):
         yield put_rule(f"/deeds/7/rules/{slot + 1}", "deny", {"slot": slot}, "public", until=date)
     yield put_rule("/deeds/7/rules/9999", "read", EVERY, *ALL)
-
 
 def test_day_begins_when_the_c_library_says(place, desk, serving, tmp_path):
     """An hour and a second before a day begins, at that moment and an hour later: the public finds the days that have

@@ -28,8 +28,7 @@ COMMANDS = {
     "check": ("POST", "/images/15/check", b"", 200, ""),
     "donor of 1,000 bytes in codes": ("PUT", "/deeds/71", CODED_DEED, 200, None),
     "bytes that are no UTF-8": ("PUT", "/deeds/72", b'{"donor":"\xff\xfe"}', 400, None),
-    "control character": ("PUT", "/deeds/72", b'{"donor":"\x00"}', 400, ""),
-}
+    "control character": ("PUT", "/deeds/72", b'{"donor":"\x00"}', 400, "")}
 
 @pytest.mark.parametrize("method, path, body, status, written", COMMANDS.values(), ids=COMMANDS)
 def test_command_has_both_lines_whole(staff, journal, method, path, body, status, written):
@@ -51,8 +50,7 @@ def test_command_in_chunks_of_a_client_that_leaves_stands_whole(staff, journal):
 
 NO_CHANGES = [
     ("GET", "/images"), ("HEAD", "/images"), ("GET", "/staff/keys"), ("GET", "/staff.html"), ("GET", "/journal"),
-    ("DELETE", "/journal"), ("PUT", "/journal-2026-11?x"), ("PUT", "/staff/rehearsals/2030-01-01/images/15/rules/1"),
-]
+    ("DELETE", "/journal"), ("PUT", "/journal-2026-11?x"), ("PUT", "/staff/rehearsals/2030-01-01/images/15/rules/1")]
 
 def test_what_changes_nothing_has_no_line(staff, outside, journal):
     for method, path in NO_CHANGES:
@@ -88,8 +86,7 @@ TOO_LONG = {
     "note": (400, LONG_PATH, [LONG_NAMES[0], ("Desk-Note", "n" * 1002)], LONG_BODY),
     "quote in a note": (400, LONG_PATH, [("Desk-Note", '"mine"')], LONG_BODY),
     "body": (413, LONG_PATH, LONG_NAMES, LONG_BODY + b"\n"),
-    "body in chunks": (413, "/deeds/75", [("Transfer-Encoding", "chunked")], b"2328\r\n%9000d\r\n0\r\n\r\n" % 7),
-}
+    "body in chunks": (413, "/deeds/75", [("Transfer-Encoding", "chunked")], b"2328\r\n%9000d\r\n0\r\n\r\n" % 7)}
 
 def test_longest_command_stands_whole_in_a_short_line(staff, journal):
     assert staff.ask("PUT", LONG_PATH, *LONG_NAMES, body=LONG_BODY, key=STAFF).status == 200
@@ -170,9 +167,7 @@ LINES = {
     "no requests": [
         NUMBER, KEY_PATH, f" {KEY_PATH} HTTP/1.1", f"get {KEY_PATH} HTTP/1.1", f"PUT\t{KEY_PATH} HTTP/1.1",
         f"P-UT {KEY_PATH} HTTP/1.1", f"GET  {KEY_PATH} HTTP/1.1", f"GET {KEY_PATH}", f"GET {KEY_PATH} HTTP/9.9",
-        f"GET {KEY_PATH}{'/' * 9000} HTTP/1.1", f"{'A' * 3000} {KEY_PATH} HTTP/1.1", f"\x16\x03 {KEY_PATH}",
-    ],
-}
+        f"GET {KEY_PATH}{'/' * 9000} HTTP/1.1", f"{'A' * 3000} {KEY_PATH} HTTP/1.1", f"\x16\x03 {KEY_PATH}"]}
 # Each half of the number, in small and capital letters and in codes.
 HALVES = (half.replace("%", "%(25)*") for half in (NUMBER[:32], NUMBER[32:], CODED[:96], CODED[96:]))
 FRAGMENTS = re.compile("|".join(HALVES).encode(), re.IGNORECASE)

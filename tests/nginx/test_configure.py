@@ -19,8 +19,7 @@ BAD_PLACES = {
     "ZONE=UTC0\nA=": "not a place: A=", "ZONE=UTC0\nA=/a\nA=/a": "given twice: A",
     "ZONE=CET": f"not the rule of a clock: CET; ZONE takes one, {EXAMPLES}",
     "OFFSET=CET": f"OFFSET is now ZONE, which takes the rule of your own clock, {EXAMPLES}",
-    **{f"OFFSET={offset}": BECOMES.format(offset, rule) for offset, rule in OFFSETS.items()},
-}
+    **{f"OFFSET={offset}": BECOMES.format(offset, rule) for offset, rule in OFFSETS.items()}}
 # Texts that are the rule of a clock, and texts that are none.
 RULES = """
     CET-1CEST,M3.5.0,M10.5.0/3 NST3:30NDT,M3.2.0,M11.1.0 EST+5 <-02>2<-01>,M3.5.0/-1,M10.5.0/0 EST5EDT,0,365 <--->0

@@ -10,27 +10,23 @@ FILE, DENIED, LONG = "/images/15/files/0", "/images/13/files/0", "/images/16/fil
 # What the pages may do. What may have a page in a frame is said by the field alone, and not by the page itself.
 POLICY = (
     "default-src 'none'; script-src 'self'; style-src 'self'; connect-src 'self'; base-uri 'none'; form-action 'none'; "
-    "frame-ancestors 'none'; require-trusted-types-for 'script'; trusted-types 'none'"
-)
+    "frame-ancestors 'none'; require-trusted-types-for 'script'; trusted-types 'none'")
 ADDED = {
     "Content-Security-Policy": POLICY, "X-Content-Type-Options": "nosniff", "Referrer-Policy": "no-referrer",
-    "Cross-Origin-Resource-Policy": "same-origin", "Cross-Origin-Opener-Policy": "same-origin",
-}
+    "Cross-Origin-Resource-Policy": "same-origin", "Cross-Origin-Opener-Policy": "same-origin"}
 # What comes at each door, and the types.
 OF_DESK = {FILE: "application/octet-stream"} | dict.fromkeys([DENIED, "/images", "/none"], "application/json")
 OF_PAGE = {
     "/": "text/html; charset=utf-8", "/room.css": "text/css; charset=utf-8",
     "/room.js": "text/javascript; charset=utf-8", "/robots.txt": "text/plain; charset=utf-8",
-    "/favicon.ico": "image/vnd.microsoft.icon", "/openapi.json": "application/json",
-}
+    "/favicon.ico": "image/vnd.microsoft.icon", "/openapi.json": "application/json"}
 
 @pytest.mark.parametrize("path", [*OF_DESK, *OF_PAGE])
 def test_each_reply_has_the_fields_of_nginx(door, path):
     wanted = ADDED | {
         "Strict-Transport-Security": "max-age=31536000" if door.name == "outside" else None,
         "Cache-Control": "no-cache" if path in OF_PAGE else "no-store", "Content-Type": (OF_DESK | OF_PAGE)[path],
-        "Content-Disposition": 'attachment; filename="15-0.bin"' if path == FILE else None,
-    }
+        "Content-Disposition": 'attachment; filename="15-0.bin"' if path == FILE else None}
     reply = door.get(path)
     assert {name: reply.getheader(name) for name in wanted} == wanted
 
@@ -80,8 +76,7 @@ ORIGINS = {
     "a key": ("/images", "GET", [("Desk-Key", STAFF)], 200, None), "a deed": ("/deeds/7", "GET", [], 405, None),
     "an empty key": ("/images", "GET", [("Desk-Key", "")], 401, "*"),
     "a range that is none": (FILE, "GET", [("Range", "bytes=500-")], 416, "*"),
-    "before a key": ("/images", "OPTIONS", [("Access-Control-Request-Headers", "desk-key")], 403, "*"),
-}
+    "before a key": ("/images", "OPTIONS", [("Access-Control-Request-Headers", "desk-key")], 403, "*")}
 
 @pytest.mark.parametrize("path, method, fields, status, allowed", ORIGINS.values(), ids=ORIGINS)
 def test_page_of_another_site_reads_what_the_public_reads(outside, staff, path, method, fields, status, allowed):

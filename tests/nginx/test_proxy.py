@@ -5,16 +5,14 @@ import socket
 import pytest
 from support.samples import (
     BAD_HEAD, DEED, EVERY, FRAMING, NOBODY, RECORD, RECORD_DISK, ROOM, STAFF, UNKNOWN_KEY, badge, check, drop, get, put,
-    put_image, put_rule,
-)
+    put_image, put_rule)
 from support.server import HOST, LIMIT
 
 FILE, DENIED = "/images/15/files/0", "/images/13/files/0"
 BYTES = RECORD.partition(b"\r\n\r\n")[2]
 QUESTIONS = [
     *(("/images", key) for key in (None, ROOM, STAFF, NOBODY, "")), ("/catalogue", STAFF), (FILE, None),
-    (DENIED, STAFF), ("/images/99", None), (f"{FILE}?/files/1", None), ("/deeds/7", None), (badge("x"), None),
-]
+    (DENIED, STAFF), ("/images/99", None), (f"{FILE}?/files/1", None), ("/deeds/7", None), (badge("x"), None)]
 
 @pytest.mark.parametrize("path, key", QUESTIONS)
 def test_reply_of_the_desk_comes_as_it_is(room, door, path, key):
@@ -31,8 +29,7 @@ def test_questions_of_the_staff_are_answered_at_their_door(room, staff, key):
 
 COMMANDS = [
     put("/deeds/77", DEED), put_rule("/deeds/9/rules/1", "deny", EVERY, "public"), drop("/deeds/9/rules/1"),
-    put_image(77, "cpm8", 9, RECORD_DISK), put(badge("x"), {"audience": "staff"}), drop(badge("x")), check(15),
-]
+    put_image(77, "cpm8", 9, RECORD_DISK), put(badge("x"), {"audience": "staff"}), drop(badge("x")), check(15)]
 
 def test_commands_are_done_at_the_staffs_door_alone(room, outside, staff):
     def stored():
@@ -55,8 +52,7 @@ def test_head_is_get_without_a_body(door, path):
 
 RANGES = {
     (FILE, "bytes=0-4"): (206, BYTES[:5], "bytes 0-4/128"), (FILE, "bytes=-5"): (206, BYTES[-5:], "bytes 123-127/128"),
-    (FILE, "bytes=500-"): (416, b'{"error":"server-416"}', "bytes */128"),
-}
+    (FILE, "bytes=500-"): (416, b'{"error":"server-416"}', "bytes */128")}
 NO_RANGES = [(FILE, "bytes=0-4,8-9"), (FILE, "lines=1-2"), (DENIED, "bytes=0-4"), ("/images/15/survey", "bytes=0-4")]
 
 @pytest.mark.parametrize("path, words", [*RANGES, *NO_RANGES])
@@ -75,8 +71,7 @@ BAD = {
     "a command with 300,000 bytes": ("PUT", "/deeds/7", [], bytes(300000), 403),
     "OPTIONS": ("OPTIONS", "/images", [], b"", 403), "TRACE": ("TRACE", "/", [], b"", 405),
     "a body in another code": ("GET", "/images", [("Transfer-Encoding", "gzip")], b"", 501),
-    **{path: ("GET", path, [], b"", 404) for path in ("/none", "/.refused/404", "/.healthy")},
-}
+    **{path: ("GET", path, [], b"", 404) for path in ("/none", "/.refused/404", "/.healthy")}}
 
 @pytest.mark.parametrize("method, path, fields, body, status", BAD.values(), ids=BAD)
 def test_nginx_refuses_as_the_desk_does(outside, method, path, fields, body, status):
@@ -85,8 +80,7 @@ def test_nginx_refuses_as_the_desk_does(outside, method, path, fields, body, sta
     assert reply.getheader("Allow") == ("GET, HEAD" if status == 405 else None)
 
 @pytest.mark.parametrize("line, status", [
-    ("hello", 400), ("GET / HTTP/3.0\r\nHost: localhost", 505), ("GET / HTTP/1.1\r\nHost: a b", 400),
-])
+    ("hello", 400), ("GET / HTTP/3.0\r\nHost: localhost", 505), ("GET / HTTP/1.1\r\nHost: a b", 400)])
 def test_bytes_that_are_no_request_are_refused(outside, line, status):
     assert outside.reply_to(f"{line}\r\n\r\n".encode()).is_refusal(status)
 
@@ -100,8 +94,7 @@ def test_plain_http_is_sent_on_to_tls(room, redirecting):
 HEADS = {
     "key twice": (2 * [("Desk-Key", STAFF)], FRAMING), "key in UTF-8": ([("Desk-Key", "\xc3\xbc")], UNKNOWN_KEY),
     "70 fields": (70 * [("A", "b")], BAD_HEAD),
-    **{f"{count} kB": (count * [("A", "b" * 1015)], BAD_HEAD) for count in (12, 20)},
-}
+    **{f"{count} kB": (count * [("A", "b" * 1015)], BAD_HEAD) for count in (12, 20)}}
 
 @pytest.mark.parametrize("fields, due", HEADS.values(), ids=HEADS)
 def test_head_reaches_the_desk_or_gets_its_refusal(door, fields, due):

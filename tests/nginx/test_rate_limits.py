@@ -118,8 +118,7 @@ def test_desk_has_so_many_visits_at_a_time_and_no_address_takes_them_all(room, o
         assert [status_within(connection, LIMIT) for connection in came[:-1]] == [200] * of_all
 
 @pytest.mark.parametrize("path, most, same, other", [
-    (FILE, 20, FILE, None), ("/images", 1, "/catalogue", FILE), ("/images/15", 2, "/images/15", FILE),
-])
+    (FILE, 20, FILE, None), ("/images", 1, "/catalogue", FILE), ("/images/15", 2, "/images/15", FILE)])
 def test_address_has_a_number_of_requests_at_a_time(outside, path, most, same, other):
     with unfinished(outside, path, most - 1):
         assert outside.get(same).status == 200
@@ -131,8 +130,7 @@ def test_address_has_a_number_of_requests_at_a_time(outside, path, most, same, o
 SLOW = {
     "head": (b"GET /images/15/fil", b"G", 15),
     "body": (f"GET {FILE} HTTP/1.1\r\nHost: localhost\r\nContent-Length: 5\r\n\r\n".encode(), b"", 10),
-    "reader": (f"GET {LONG[1][1].path} HTTP/1.1\r\nHost: localhost\r\n\r\n".encode(), b"", 30),
-}
+    "reader": (f"GET {LONG[1][1].path} HTTP/1.1\r\nHost: localhost\r\n\r\n".encode(), b"", 30)}
 
 @pytest.mark.alone
 def test_slow_visitors_stop_nobody_and_are_ended(room, outside):

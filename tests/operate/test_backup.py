@@ -188,8 +188,7 @@ def test_latest_backups_of_days_weeks_and_months_are_kept_and_all_of_a_day_or_wi
     assert [name.removesuffix("T031000Z") for name in names[1:-4]] == [
         "2025-02-28", "2025-03-31", "2025-04-30", "2025-05-31", "2025-06-30", "2025-07-30", "2025-08-31", "2025-09-30",
         "2025-10-31", "2025-11-30", "2025-12-14", "2025-12-20", "2025-12-26", "2025-12-27", "2025-12-28", "2025-12-29",
-        "2025-12-30", "2025-12-31",
-    ]
+        "2025-12-30", "2025-12-31"]
     house.restored(named)
     assert [house.back_up("--keep", name)[0] for name in ("", "a/b", "..", "-x", "a b")] == [2] * 5
 

@@ -28,8 +28,7 @@ REPLIES = {
     "other": reply(200, '{"outcome":"odd"}'), "array": reply(200, "[]"), "done": reply(200, '{"done":true}'),
     "page": reply(502, "<html>Bad Gateway</html>"), "silent": b"", "cut": reply(200, '{"outcome":"sound"}')[:-10],
     "stalls": None, **{name: reply(status, json.dumps({"error": name})) for name, status in {
-        "unavailable": 503, "staff-only": 403, "no-accession": 404, "no-route": 404, "unknown-key": 401}.items()},
-}
+        "unavailable": 503, "staff-only": 403, "no-accession": 404, "no-route": 404, "unknown-key": 401}.items()}}
 
 class Visit(socketserver.StreamRequestHandler):
     """A visit, which gets a list, or the next reply of its accession; the last one is repeated."""
@@ -91,12 +90,10 @@ CASES = {
     "replies of no outcome": (
         {12: "unavailable", 13: "page", 14: "other", 15: "changed"}, 2, told(4, 0, [15], 3), ["12: unavailable",
         "13: a reply with status 502 that is none of a desk", "14: a reply that is no outcome of a check"],
-        [12, 13, 14, 15],
-    ),
+        [12, 13, 14, 15]),
     "a key of the reading room": ({12: "staff-only", 13: "staff-only"}, 2, told(2, left=2), ["12: staff-only"], [12]),
     "a key dropped on the way": ({12: "sound", 13: "unknown-key", 14: "sound"}, 2, told(3, 1, left=2),
-                                 ["13: unknown-key"], [12, 13]),
-}
+                                 ["13: unknown-key"], [12, 13])}
 
 @pytest.mark.parametrize("replies, status, output, errors, asked", CASES.values(), ids=CASES)
 def test_each_disk_is_asked_and_each_fault_named(desk_that, key, replies, status, output, errors, asked):
@@ -106,8 +103,7 @@ def test_each_disk_is_asked_and_each_fault_named(desk_that, key, replies, status
 
 @pytest.mark.parametrize("kind, words", [
     ("done", "a reply that is no list of accessions"), ("array", "a reply with status 200 that is none of a desk"),
-    ("page", "a reply with status 502 that is none of a desk"), ("unavailable", "unavailable"),
-])
+    ("page", "a reply with status 502 that is none of a desk"), ("unavailable", "unavailable")])
 def test_without_a_list_nothing_is_asked(desk_that, key, kind, words):
     desk = desk_that({12: "sound"}, {"/staff/checks": REPLIES[kind]})
     assert (run(key, desk.place), desk.asked) == ((2, "", [f"{LIST}: {words}"]), [])
@@ -124,8 +120,7 @@ def test_disks_that_an_older_desk_does_not_list_are_named_by_hand(desk_that, key
 @pytest.mark.parametrize("line, words", [
     (b"Desk-Key: \topen sesame \xc3\xbc \t\r\n", None), (b"desk-key:open sesame \xc3\xbc", None),
     (b"Desk-Key: another\n", f"{LIST}: unknown-key"), (b"Desk-Key:\n", f"{LIST}: unknown-key"),
-    *((line, "not one line") for line in (b"", b"open sesame\n", b"Desk-Key: a\nDesk-Key: b\n", b"Cookie: a\n")),
-])
+    *((line, "not one line") for line in (b"", b"open sesame\n", b"Desk-Key: a\nDesk-Key: b\n", b"Cookie: a\n"))])
 def test_key_is_one_line_of_a_file(desk_that, key, line, words):
     key.write_bytes(line)
     status, output, errors = run(key, f"{desk_that({12: 'sound'}).place}/")

@@ -75,16 +75,14 @@ INSTALLED = [
     ("dpkg --verify nginx-common nginx desk; echo $?", "0"),
     ("systemd-analyze verify --man=no /lib/systemd/system/desk*.service /lib/systemd/system/desk*.timer; echo $?", "0"),
     (f"stat -c '%U:%G %a' /var/lib/desk {BACKUPS} /var/log/desk /etc/desk/site.key /etc/desk/staff-key",
-     "desk:desk 700\nroot:root 700\nroot:www-data 750\nroot:root 600\nroot:root 600"),
-]
+     "desk:desk 700\nroot:root 700\nroot:www-data 750\nroot:root 600\nroot:root 600")]
 FILLED = [
     (f"sed -i 's/server_name _;/server_name {SITE};/' /etc/desk/site-name; systemctl reload nginx; {HEALTHY}",
      DONE),
     (f"""{STAFF} -H 'Desk-Staff: anna' -X PUT {DOOR}/deeds/7 -d '{{"donor":"A","signed":"2019-05-04"}}'""", DONE),
     put_rule("/deeds/7/rules/20", "public room staff", {"all": True}, "read"),
     (f"{STAFF} -X PUT --data-binary @/root/museum.d64 "
-     f"{DOOR}/accessions/13/d64/7/$(sha256sum </root/museum.d64 | cut -c1-64)", DONE),
-]
+     f"{DOOR}/accessions/13/d64/7/$(sha256sum </root/museum.d64 | cut -c1-64)", DONE)]
 DAY = [
     *FILLED, (f"{VISIT}/images", '{"images":[{"accession":13,"deed":7,"files":3,"kind":"d64"}]}'),
     put_rule("/images/13/rules/1", "public", {"all": True}, "deny"), TAKEDOWN,
@@ -99,21 +97,18 @@ DAY = [
      "wc -l </var/log/desk/journal", "2"),
     (f"desk-restore {NEWEST} >/root/restored; echo $?; grep -c '^only' /root/restored", "0\n0"), TAKEDOWN,
     (f"stat -c '%U:%G %a' {STORE}; {SUMS}; ls /var/lib/desk | grep -vc '^museum.sqlite\\|^set-aside'",
-     "desk:desk 600\n8\n0"),
-]
+     "desk:desk 600\n8\n0")]
 # A bit of the store flips, and the desk does not start again, until the backup is restored.
 FLIPPED = [
     (f"byte=$(od -An -tu1 -j 22528 -N 1 {STORE}); printf \"\\\\x$(printf %02x $((byte ^ 1)))\" | "
      f"dd of={STORE} bs=1 seek=22528 conv=notrunc status=none; systemctl restart desk 2>/dev/null; echo $?; "
      "systemctl is-active desk", "1\nactivating"),
-    (f"desk-restore {NEWEST} >/root/restored; echo $?; {HEALTHY}; {SUMS}", f"0\n{DONE}8"), TAKEDOWN,
-]
+    (f"desk-restore {NEWEST} >/root/restored; echo $?; {HEALTHY}; {SUMS}", f"0\n{DONE}8"), TAKEDOWN]
 OUT = [
     (f"systemctl stop desk; mkdir /root/out; mv {STORE}* /root/out; sha256sum /etc/desk/staff-key >/root/key; "
      f"dpkg -i $(ls -v /root/desk_*.deb | tail -n 1) 2>&1 | grep -c 'there is no store: put it back'; ls {STORE}* "
      "2>/dev/null; sha256sum -c --quiet /root/key; echo $?", "1\n0"),
-    ("mv /root/out/* /var/lib/desk; systemctl start desk; echo $?", "0"), TAKEDOWN,
-]
+    ("mv /root/out/* /var/lib/desk; systemctl start desk; echo $?", "0"), TAKEDOWN]
 # A disk was checked on a later day, so that the clock is behind; after many starts it is right.
 BEHIND = [
     (f"""cd /var/lib/desk; systemctl stop desk; mkdir right; cp -p museum.sqlite* right
@@ -129,22 +124,19 @@ ALARM = [
      "for _ in $(seq 100); do grep -qs 'does not answer' /srv/mail && break; sleep 0.1; done; "
      "sed -n '1,2p; s/.*\\(the desk does not answer\\).*/\\1/p' /srv/mail; desk-alarm --test; echo $?",
      "-t\nTo: anna@museum.example\nthe desk does not answer\n0"),
-    ("rm /srv/mail; systemctl start desk-look; echo $?; ls /srv/mail 2>/dev/null; systemctl start desk", "0"),
-]
+    ("rm /srv/mail; systemctl start desk-look; echo $?; ls /srv/mail 2>/dev/null; systemctl start desk", "0")]
 CHANGED = [
     ("sed -i 's|^ZONE=.*|ZONE=CET-1CEST,M3.5.0,M10.5.0/3|' /etc/desk/places; systemctl restart desk; echo $?", "0"),
     (f"umask 022; echo imprint >/etc/desk/web/imprint.html; {VISIT}/imprint.html", "imprint"),
     (f"umask 022; echo name,value >/etc/desk/web/about.csv; {VISIT}/about.csv", "name,value"),
-    ("sed -i 's/rate=20r/rate=25r/' /etc/nginx/conf.d/desk.conf; systemctl reload nginx; echo $?", "0"),
-]
+    ("sed -i 's/rate=20r/rate=25r/' /etc/nginx/conf.d/desk.conf; systemctl reload nginx; echo $?", "0")]
 REMOVED = [
     (f"{APT} remove desk >/dev/null 2>&1; systemctl is-active desk desk-backup.timer", "inactive\ninactive"),
     (f"systemctl is-active nginx; nginx -t 2>&1 | tail -n 1 | grep -c successful; {VISIT}/; echo $?", "active\n1\n7"),
     (f"{APT} purge desk 2>&1 | grep -c 'stay; remove them by hand'", "1"),
     ("ls -d /etc/desk/* /etc/nginx/*/desk* /etc/logrotate.d/desk /usr/bin/desk /usr/libexec/desk "
      "/etc/systemd/system/*/desk* /var/lib/desk* /var/log/desk /var/backups/desk 2>/dev/null",
-     "/etc/desk/staff-key\n/etc/desk/web\n/var/backups/desk\n/var/lib/desk\n/var/log/desk"),
-]
+     "/etc/desk/staff-key\n/etc/desk/web\n/var/backups/desk\n/var/lib/desk\n/var/log/desk")]
 
 def test_life_of_a_museums_machine(machine, packages):
     _, package = packages
@@ -164,13 +156,11 @@ BEFORE = [
      f"$(sed 's/^Desk-Key: //' /etc/desk/staff-key); systemctl start desk; {SUMS}", "done\n0"), *FILLED,
     put_rule("/deeds/7/rules/10", "public", {"prefix": "TOUR"}, "deny", "2099-01-01"),
     ("systemctl start desk-check desk-backup; echo $?", "0"),
-    put_rule("/images/13/rules/1", "public", {"slot": 2}, "deny"), *CHANGED,
-]
+    put_rule("/images/13/rules/1", "public", {"slot": 2}, "deny"), *CHANGED]
 STANDS = [
     TAKEDOWN, (f"{VISIT}/images/13/files/0", '{"error":"denied","rule":"R7.10"}'), (f"{VISIT}/imprint.html", "imprint"),
     (f"{VISIT}/about.csv", "name,value"),
-    (f"grep -c rate=25r /etc/nginx/conf.d/desk.conf; grep -c {SITE} /etc/desk/site-name", "1\n1"),
-]
+    (f"grep -c rate=25r /etc/nginx/conf.d/desk.conf; grep -c {SITE} /etc/desk/site-name", "1\n1")]
 
 def test_upgrade_keeps_the_store_and_what_is_the_museums_own(machine, packages):
     before, package = packages

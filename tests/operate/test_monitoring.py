@@ -80,8 +80,7 @@ def look(room, *words, before=(), **values):
     ("ALARM", "anna@museum.example", r"ALARM is an address, and there is no mail program, .*\n"),
     ("ALARM", "{}/none", r"ALARM is no program: .*/none\n"),
     ("PING", "http://127.0.0.1:1/", r"PING gives no reply: .*\n"),
-    ("METRICS", "{}/none/metrics", r"METRICS cannot be written: .*\n"),
-])
+    ("METRICS", "{}/none/metrics", r"METRICS cannot be written: .*\n")])
 def test_what_is_missing_old_or_full_is_named(room, name, value, words):
     assert look(room) == (0, "", "")
     status, out, errors = look(room, **{name: value.format(room.folder)})
@@ -98,8 +97,7 @@ FAILED = "desk-check desk-check@b desk-look desk-look@b desk-alarm@x ".replace("
     *(("units", re.sub(r"(desk-\w+)", rf"\1{at}", RUN) + FAILED,
        f"desk-check{at}.service has failed: type journalctl -u desk-check{at}.service\n"
        "desk-alarm@x.service has failed: type journalctl -u desk-alarm@x.service\n", {"UNIT": f"desk{at}.service"})
-      for at in ("", "@b")),
-])
+      for at in ("", "@b"))])
 def test_what_systemd_says_of_units_or_the_clock_is_named(room, name, said, words, places):
     file = room.folder / name
     before = file.read_text() if file.exists() else ""
@@ -169,8 +167,7 @@ NOBODY, MAIL = "names nobody to report it to", "anna@museum.example"
 @pytest.mark.parametrize("alarm, unit, status, words", [
     ("{}/own", "a.service", 0, ""), ("{}/own", "--test", 0, ""), (MAIL, "a.service", 0, ""), (MAIL, "--test", 0, ""),
     ("{}/bad", "a.service", 1, "/bad has not taken the report"), ("b@x", "a.service", 1, "no mail went to b@x"),
-    (None, "a.service", 0, NOBODY), (None, "--test", 1, NOBODY), ("none", "--test", 1, "no mail program for none: "),
-])
+    (None, "a.service", 0, NOBODY), (None, "--test", 1, NOBODY), ("none", "--test", 1, "no mail program for none: ")])
 def test_alarm_reports_by_a_command_or_by_mail_or_says_why_it_cannot(room, tmp_path, alarm, unit, status, words):
     takes = f'{{ echo "word $*"; cat; }} >{tmp_path}/report'
     for name, script in {"journalctl": 'echo "the journal of $7"', "hostname": "echo museum", "own": takes,

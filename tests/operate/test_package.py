@@ -69,8 +69,7 @@ PARTS = {
     "a renewed certificate goes to the desk of its name": (
         "for at in desk desk-b; do mkdir $at; echo \"server_name $at.org;\" >$at/site-name; done; touch fullchain.pem "
         "privkey.pem; systemctl() { echo $*; }; RENEWED_DOMAINS='x desk-b.org' RENEWED_LINEAGE=. . $package/certbot; "
-        "stat -c '%n %a' desk*/site.*", "reload nginx\ndesk-b/site.crt 644\ndesk-b/site.key 600\n"),
-}
+        "stat -c '%n %a' desk*/site.*", "reload nginx\ndesk-b/site.crt 644\ndesk-b/site.key 600\n")}
 
 @pytest.mark.parametrize("words, wanted", PARTS.values(), ids=PARTS)
 def test_parts_of_the_package(tmp_path, words, wanted):

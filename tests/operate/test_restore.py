@@ -43,8 +43,7 @@ NOTES = [
     r"PUT /images/13/rules/9: nobody knows its outcome; done",
     r"DELETE /images/15/rules/1: nobody knows its outcome; left out",
     r"DELETE /images/13/rules/5: nobody knows its outcome; left out",
-    r"checks since the backup are lost, of the disks 13",
-]
+    r"checks since the backup are lost, of the disks 13"]
 
 @pytest.mark.parametrize("house", [True, False], indirect=True, ids=["sums", "no-sums"])
 def test_week_is_restored_while_readers_ask(house, tmp_path):

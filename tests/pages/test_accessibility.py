@@ -70,8 +70,7 @@ VIEWS = [("reader", place, None) for place in READERS]
 VIEWS += [("staff", place, None) for place in ("deeds", "rules", "takedowns", "keys", "journal", "disks")]
 VIEWS += [("staff", *more) for more in [
     ("eyes", "Look"), ("timeline", "Change after"), ("checks", "Check disk 1002"), ("disk/1002", "Check it"),
-    ("takedowns", "Change takedown 1000 of disk 1003"), ("takedowns", "Drop takedown 1000 of disk 1003"),
-]]
+    ("takedowns", "Change takedown 1000 of disk 1003"), ("takedowns", "Drop takedown 1000 of disk 1003")]]
 
 @pytest.fixture(scope="module", params=VIEWS, ids=lambda view: " ".join(filter(None, view)))
 def view(request, driver, tmp_path_factory):

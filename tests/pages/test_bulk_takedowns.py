@@ -23,8 +23,7 @@ def ranks(museum):
 def test_free_rank_is_before_those_in_use(museum, takedowns):
     wanted = [
         ([], 1000), ([1000], 990), ([30], 20), ([21], 11), ([20], 10), ([10, 20], 5), ([3], 1), ([2, 1000], 1),
-        ([1], 2), ([1, 2, 5], 3), ([1, 9999], 2), (list(range(1, 10000)), None), ([9999], 9989),
-    ]
+        ([1], 2), ([1, 2, 5], 3), ([1, 9999], 2), (list(range(1, 10000)), None), ([9999], 9989)]
     free = "const [all] = arguments; return import('/staff.ranks.js').then((made) => all.map(made.freeRank))"
     assert takedowns.script(free, [used for used, _ in wanted]) == [rank for _, rank in wanted]
     museum.rules["T1006"] = {rank: takedown(rank, 0)[rank] for rank in range(1, 10000)}

@@ -21,8 +21,7 @@ COMMANDS = {
     Command.NEW_SESSION: "NewSession", Command.GET: "Navigate", Command.FIND_ELEMENTS: "FindElements",
     Command.CLICK_ELEMENT: "ElementClick", Command.SEND_KEYS_TO_ELEMENT: "ElementSendKeys",
     Command.GET_ELEMENT_PROPERTY: "GetElementProperty", Command.W3C_EXECUTE_SCRIPT: "ExecuteScript",
-    Command.W3C_EXECUTE_SCRIPT_ASYNC: "ExecuteAsyncScript", Command.REFRESH: "Refresh",
-}
+    Command.W3C_EXECUTE_SCRIPT_ASYNC: "ExecuteAsyncScript", Command.REFRESH: "Refresh"}
 # It saves files without a word, and asks nobody else for anything.
 OFF = ["browser.download.always_ask_before_handling_new_types", "datareporting.policy.dataSubmissionEnabled",
        "app.update.enabled", "extensions.systemAddon.update.enabled", "network.captive-portal-service.enabled"]

@@ -19,21 +19,18 @@ NOT_NAMED, NO_FILE = "The sheet does not name it: left out.", "No file of this n
 # The dumps by their names; the rows of the sheet; and the accession, deed and result of each, before anything is sent.
 DUMPS = {
     LONG: RECORD, "hello.d64": HELLO, "marked.d64": MARKED, "other.d64": samples.LOOP_DISK, "extra.d64": MUSEUM,
-    "..%2f..%2fX": WELCOME, "=1+1": RECORD,
-}
+    "..%2f..%2fX": WELCOME, "=1+1": RECORD}
 ROWS = [
     ("2001", "cpm8", "9", digest(RECORD), f'"box 1/{LONG}"'),
     ("2002", "d64", "9", digest(HELLO).upper(), "C:\\dumps\\hello.d64"),
     ("2003", "d64", "9", digest(MARKED), "marked.d64"), ("2004", "d64", "9", digest(HELLO), "other.d64"),
     ("2005", "d64", "9", digest(HELLO), "gone.d64"), ("2006", "cpm8", "9", digest(WELCOME), "..%2f..%2fX"),
-    ("2007", "cpm8", "99", digest(RECORD), "=1+1"),
-]
+    ("2007", "cpm8", "99", digest(RECORD), "=1+1")]
 FOUND = {
     LONG: ("2001", "9", ""), "hello.d64": ("2002", "9", ""), "..%2f..%2fX": ("2006", "9", ""),
     "=1+1": ("2007", "99", ""), "extra.d64": ("", "", NOT_NAMED), "gone.d64": ("2005", "9", NO_FILE),
     "marked.d64": ("2003", "9", "The sheet says Commodore 1541, and the length is another. The page does not send it."),
-    "other.d64": ("2004", "9", "The sheet says another SHA-256. The page does not send it."),
-}
+    "other.d64": ("2004", "9", "The sheet says another SHA-256. The page does not send it.")}
 
 @pytest.fixture
 def choose(staff, tmp_path):
@@ -58,8 +55,7 @@ def test_sheet_that_is_wrong_says_where(choose):
         f"{HEADS}\n01,d64,1,{zeros},x\n": f"{row}accession has to be a number from 1 to 999999.",
         f"{HEADS}\n1,d71,1,{zeros},x\n": f"{row}kind has to be cpm8, d64 or d64e.",
         f"{HEADS}\n1,d64,1,{zeros[1:]},x\n": f"{row}sha256 has to be 64 hexadecimal digits.",
-        f'{HEADS}\n1,d64,1,{zeros},"x\n': "A quote in the sheet does not end.",
-    }
+        f'{HEADS}\n1,d64,1,{zeros},"x\n': "A quote in the sheet does not end."}
     assert {text: choose({"wrong.csv": text.encode()})["result"][0] for text in wanted} == wanted
 
 def test_dumps_of_a_sheet_are_found_compared_and_put(museum, staff, choose):
@@ -95,8 +91,7 @@ def test_dumps_are_described_and_numbered_by_hand(staff, choose):
     assert shown["list"] == [
         ["one.d64 Map", "174,848", "Commodore 1541", digest(HELLO), "", "", ""],
         ["two <b>.d64 Map", "175,531", "Commodore 1541 with error bytes", digest(MARKED), "", "", ""],
-        ["short.d64", "100", "", "", "", "", no_kind],
-    ]
+        ["short.d64", "100", "", "", "", "", no_kind]]
     staff.type("Accession of one.d64", "3001")
     staff.type("Deed of one.d64", "9")
     staff.push("Number the others from the first")

@@ -29,8 +29,7 @@ CHANGES = [
     (None, ("DELETE", f"/badges/{KEY}", "bob"), f"bob|Drop the key with SHA-256 {KEY}|{UNKNOWN}|"),
     ("400", ("PUT", "/images/1002/rules/1", HARM, "", "7"), f"{HARM}|Put takedown 1 of disk 1002|{BAD_BODY}|"),
     ("405", ("DELETE", f"/deeds/7/{'x' * 400}"), f"|DELETE /deeds/7/{'x' * 291} ..|{NOT_THERE}|"),
-    ("408", ("PUT", "/deeds/8", "", "", "{"), f"|Put deed 8|{UNKNOWN} (408)|"),
-]
+    ("408", ("PUT", "/deeds/8", "", "", "{"), f"|Put deed 8|{UNKNOWN} (408)|")]
 LINES = [journal_lines(number, START + 60 * number, status, *came) for number, (status, came, _) in enumerate(CHANGES)]
 # All changes in a file whose last line was cut off.
 JOURNAL = b"".join(LINES) + b'{"id":"torn","moment":"2027-01-15T09:0'
@@ -69,8 +68,7 @@ def test_what_is_looked_for_is_found_and_saved_without_a_formula(staff):
     cases = [
         ({"deed": "9"}, [3]), ({"words": "BOB"}, [2, 4, 6, 7]), ({"words": "müller"}, [0]), ({"words": "3 may"}, [0]),
         ({"day": "2020-02-29"}, []), ({"deed": "7", "words": "bob", "day": moment(START)[:10]}, [2]),
-        ({"accession": "99"}, [4]), ({"accession": "1002"}, [3, 8]), ({"accession": "1002", "checks": True}, [3, 5, 8]),
-    ]
+        ({"accession": "99"}, [4]), ({"accession": "1002"}, [3, 8]), ({"accession": "1002", "checks": True}, [3, 5, 8])]
     for typed, found in cases:
         staff.fill("journal", **{"accession": "", "deed": "", "words": "", "day": "", "checks": False, **typed})
         shown = staff.read()
@@ -119,8 +117,7 @@ def test_journal_that_cannot_be_read_says_why(staff):
     wanted = [
         (refused_by_nginx(404, "X"), "There is no journal here: nginx has no file of it. "), (b"", CANNOT_REACH),
         (refused_by_nginx(500, "X"), "nginx cannot read its journal. Most likely its group may not: "),
-        (refused(403, "staff-only"), "Only the staff may do this. Use a key of the staff."),
-    ]
+        (refused(403, "staff-only"), "Only the staff may do this. Use a key of the staff.")]
     for reply, words in wanted:
         staff.door.before = lambda method, path: reply if path == "/journal" else None
         shown = read(staff, JOURNAL)

@@ -66,8 +66,7 @@ def test_refusal_says_why_whom_to_ask_and_where_to_go_on(reader):
     wanted = {
         "1003/0": (["Refusal: faulty", f"Faults: {DAMAGED}"], others), "1002/1": (["Refusal: listed-only"], others),
         "1001/9": (["Refusal: no-file"], others), "99": (["Refusal: no-accession"], "All disks"),
-        **dict.fromkeys(["012", "12/0/0", "%3Cb%3E"], (["Refusal: no-route"], "All disks")),
-    }
+        **dict.fromkeys(["012", "12/0/0", "%3Cb%3E"], (["Refusal: no-route"], "All disks"))}
     for place, (refusal, way) in wanted.items():
         assert reader.go(place)["refusal"][1:] == refusal, place
         assert (staff in reader.text("#view")) == (refusal != ["Refusal: no-route"]), place

@@ -36,19 +36,15 @@ CONVERTED = {
     "texts.cpmText(data)": {
         b"\tA\x0c\r\nB\rC\nD\x1a": "\tA\x0c\nB\nC\nD", b"A\x1a" + b"\xff" * 127: "A", b"A" + b"\x1a" * 300: "A",
         b"A\x1a" + bytes(300): "A",
-        **dict.fromkeys([b"A\x1a" + b"\xff" * 128, b"A\xc1", b"A\x00", b"\x1a" * 128, b""]),
-    },
+        **dict.fromkeys([b"A\x1a" + b"\xff" * 128, b"A\xc1", b"A\x00", b"\x1a" * 128, b""])},
     "texts.wordStarText(data)": {
         b"\x02Th\xe5\x02\xa0la\xf3t\x8d\n\x1flin\xe5\x1e.\r\n\x1a": "The last\nline.\n",
-        **dict.fromkeys([b"plain", b"\xe1\x00", b""]),
-    },
+        **dict.fromkeys([b"plain", b"\xe1\x00", b""])},
     "texts.cbmText(data)": {
         b"A TEXT.\r\\ ^ _\xa0.": "A TEXT.\n£ ↑ ← .", b"\xc1 TEXT.\x8dB": "A text.\nb",
-        **dict.fromkeys([b"A\nB", b"A\x1a", b"\x05A", b""]),
-    },
+        **dict.fromkeys([b"A\nB", b"A\x1a", b"\x05A", b""])},
     "texts.petsciiText(data, false)": {
-        b"\xa6\xb0\xc0\xae\r\xdd\x61\x7e\xff": "▒┌─┐\n│♠ππ", b"AB\x0eAB\xc1\x8eAB": "ABabAAB", b"A\x02": None,
-    },
+        b"\xa6\xb0\xc0\xae\r\xdd\x61\x7e\xff": "▒┌─┐\n│♠ππ", b"AB\x0eAB\xc1\x8eAB": "ABabAAB", b"A\x02": None},
     "texts.petsciiText(data, true)": {b"\xc8ELLO \x93\x05\xba": "Hello ✓"},
     "basic.basicListing(data, false)?.text ?? null": {
         program((1, bytes(range(0x80, 0xCC))), start=0x0401): f"1 {''.join(WORDS)}\n",
@@ -56,18 +52,15 @@ CONVERTED = {
             '5 A=π:B=↑£\n10 PRINT CHR$(I);\n63999 PRINT"{clear}{white}{reverse on}▒♥{$02}"\n',
         # no line, no end, a wrong link, numbers that fall, no byte
         **dict.fromkeys([b"\1\x08\0\0", program((10, b"\x80"))[:-2], b"\1\x08\x09\x08\x0a\0\x80\0\0\0",
-                         program((20, b"\x80"), (10, b"\x80")), b""]),
-    },
+                         program((20, b"\x80"), (10, b"\x80")), b""])},
     "basic.basicListing(data, true).text": {program((10, b'\x99"\xc8I"')): '10 print"Hi"\n'},
-    "basic.basicListing(data, true).rest": {program((10, b"\x9e2061"), rest=b"\xa9\x00"): 2, program((10, b"\x80")): 0},
-}
+    "basic.basicListing(data, true).rest": {program((10, b"\x9e2061"), rest=b"\xa9\x00"): 2, program((10, b"\x80")): 0}}
 CONVERT = """return Promise.all([import("/basic.js"), import("/texts.js")]).then(([basic, texts]) =>
   arguments[0].map((bytes) => new Uint8Array(bytes)).map((data) => %s));"""
 NAMES = {
     "../../X": "____X", "CON": "_CON", "con.txt": "_con.txt", "aux .txt": "_aux .txt", "=1+1": "_1_1", "...": "file",
     "<img src=x onerror=..>": "_img src_x onerror___", "-rf": "_rf", ".profile": "_profile", "A/B\\C:D": "A_B_C_D",
-    "": "file", "£": "file", "A (1).TXT": "A (1).TXT", "a. ": "a", "COM0.X": "_COM0.X", "x" * 80: "x" * 60,
-}
+    "": "file", "£": "file", "A (1).TXT": "A (1).TXT", "a. ": "a", "COM0.X": "_COM0.X", "x" * 80: "x" * 60}
 
 def test_bytes_are_converted(reader):
     for call, wanted in CONVERTED.items():
@@ -115,8 +108,7 @@ SHOWN = {
     "2002/0": ("LETTER.TXT", "Shown as text of WordStar, without its marks for print.", "The last\nwords.\n",
                "LETTER.TXT", STAR),
     "2001/3": ("../../X", "Shown as text.", "<IMG SRC=X ONERROR=1>\n", "____X.usr", b"<IMG SRC=X ONERROR=1>\r"),
-    "2001/8": ("DATA", "Shown as bytes: the place, hexadecimal digits, and ASCII.", hexed(DATA), "DATA.prg", DATA),
-}
+    "2001/8": ("DATA", "Shown as bytes: the place, hexadecimal digits, and ASCII.", hexed(DATA), "DATA.prg", DATA)}
 
 @pytest.mark.parametrize("place", SHOWN)
 def test_file_comes_in_the_way_that_suits_it_and_is_saved_by_a_safe_name(reader, place):
@@ -220,8 +212,7 @@ def test_file_says_what_is_known_of_it_and_how_to_cite_it(reader):
     assert dict(zip(reader.texts("dt"), reader.texts("dd"))) == {
         "Disk": "Disk 2001", "Place": "file 1 of 9 on its list, at slot 0 of the directory",
         "Type": "PRG, program, of Commodore 1541", "Size": f"{len(BASIC)} bytes, 1 block",
-        "Load address": "$0801 (2049)", "SHA-256": digest(BASIC), "Open by": "rule 20 of deed 9 (R9.20)",
-    }
+        "Load address": "$0801 (2049)", "SHA-256": digest(BASIC), "Open by": "rule 20 of deed 9 (R9.20)"}
     of = f", file “HELLO” (slot 0, PRG, {len(BASIC)} bytes, SHA-256 {digest(BASIC)})"
     cite = lambda more: f"The reading room: “Disk 2001”{more}. %s (read on 15 June 2026)."
     for place, name, words in (("2001", "Cite", cite("")), ("2001/0", "Copy link", "%s"), ("2001/0", "Cite", cite(of))):

@@ -53,8 +53,7 @@ def test_fields_take_what_the_desk_takes(staff):
         ("rules", "rank", ["1", "9999"], ["0", "10000"]),
         ("keys", "digest", ["", "0" * 64, "A" * 64], ["0" * 63, "g" * 64]),
         ("slot", "what", ["0", "9999"], ["00", "10000", ""]), ("user", "what", ["0", "15"], ["16", ""]),
-        ("type", "what", ["", "A" * 16], ["A" * 17]), ("prefix", "what", [" ", "~" * 64], ["", "A" * 65, "\u00e4"]),
-    ]
+        ("type", "what", ["", "A" * 16], ["A" * 17]), ("prefix", "what", [" ", "~" * 64], ["", "A" * 65, "\u00e4"])]
     for section, name, right, wrong in wanted:
         if name == "what":
             staff.fill("rules", how=section)
@@ -74,8 +73,7 @@ def test_reply_to_a_change_is_explained(staff):
         (refused_by_nginx(413, "X"), "That is longer than the desk takes. It takes at most 262,144 bytes."),
         (refused_by_nginx(429, "X"), "You ask too often. Wait a little, and try again."), (b"", UNSURE),
         (reply(200, b"<html>"), "This page cannot read the desk's answer."),
-        (reply(200, b'{"done":1}'), "This page cannot read the desk's answer."),
-    ]
+        (reply(200, b'{"done":1}'), "This page cannot read the desk's answer.")]
     for instead, words in wanted:
         staff.door.before = lambda method, path: None if method == "GET" else instead
         assert put_deed(staff)["result"][0] == words

@@ -13,8 +13,7 @@ WORDS = {
     "premise": "says",
     "definitions": "file",
     "way": "step coded note",
-    "change": "look note",
-}
+    "change": "look note"}
 
 class Record:
     """A record: what it is of, its title, and its other lines, each a word and a text."""

@@ -36,8 +36,7 @@ def test_paths_and_methods_are_those_of_the_page_and_the_code():
     rows = formats.rows("## A visit over HTTP")
     pairs = [(path, methods) for paths, methods, _ in rows for path in re.findall(r"`([^`]*)`", paths)]
     assert {in_braces(path): set(methods.lower().split(", ")) for path, methods in pairs} == {
-        path: set(item) for path, item in HERE.items()
-    }
+        path: set(item) for path, item in HERE.items()}
     assert set(HERE) == set(re.findall(r'"(/[^"]*)",\s*Pattern::', text_of("crates/rd_messages/src/pattern.rt")))
 
 @pytest.mark.parametrize("path", HERE)

@@ -12,8 +12,7 @@ from static.rattle import ROOT, parts_of, text_of
 DUE = {
     "rule": ["defined", "coded", "tested", "refused note"],
     "promise": ["clause note", "tested note"],
-    "unproved": ["coded", "tested note"],
-}
+    "unproved": ["coded", "tested note"]}
 # The crates whose src/ is tests, and nothing else; and what makes a function a test.
 TESTS = ("rd_disk_tests", "rd_policy_tests", "rd_tests", "rd_stop_runs")
 TEST = r"#\[test\](?:\s*(?:#\[.*\]|//.*))*\s*(?:pub(?:\([^)]*\))? )?fn {}\b"
@@ -31,8 +30,7 @@ THERE = {
     "coded": ("src", is_coded),
     "refused": ("must-fail more-edits", lambda path, name: text_of(path) and not name),
     "file": ("specs", lambda path, name: text_of(path) and path.endswith(".antt") and not name),
-    "look": ("", lambda path, name: (ROOT / path).exists() and not name),
-}
+    "look": ("", lambda path, name: (ROOT / path).exists() and not name)}
 
 def is_in_python(path, name):
     """Whether a file of tests/ is one that pytest runs, with a test of this name, or any where none is named."""

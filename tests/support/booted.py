@@ -21,10 +21,8 @@ NSPAWN = "systemd-nspawn --quiet --boot --private-network --register=no --keep-u
 ENDS_TOO = ["setpriv", "--pdeathsig"]
 SETTINGS = ["PATH=/usr/local/sbin:/usr/local/bin:/usr/sbin:/usr/bin:/sbin:/bin", "HOME=/root", "LANG=C"]
 
-
 def command(*words):
     subprocess.run(words, check=True, stdin=subprocess.DEVNULL, stdout=subprocess.DEVNULL)
-
 
 def make_debian():
     """Makes the Debian that is kept, where none has what is wanted. It has its name only when it is whole."""
@@ -40,7 +38,6 @@ def make_debian():
         (made / "root" / "fetched").write_text(FETCH)
         made.rename(KEPT)
 
-
 @functools.cache
 def own_mounts():
     """Gives this process mounts of its own (CLONE_NEWNS), which all its machines share, and which end with it."""
@@ -49,7 +46,6 @@ def own_mounts():
     command("mount", "--make-rprivate", "/")
     command("mount", "-t", "tmpfs", "tmpfs", "/run")
     command("mount", "-t", "cgroup2", "cgroup2", CGROUPS)
-
 
 class Machine:
     """Layers over the Debian in a folder, and what was booted from them."""

@@ -65,7 +65,6 @@ if (field.type === "checkbox") field.checked = value; else field.value = value;
 for (const name of ["input", "change"]) field.dispatchEvent(new Event(name, { bubbles: true }));
 """
 
-
 def chromium(downloads, headed=False):
     """Chromium of one's own, which saves files in a folder, and whose clock begins at noon of the day of the tests."""
     options = webdriver.ChromeOptions()
@@ -82,11 +81,9 @@ def chromium(downloads, headed=False):
     begun.downloads = downloads
     return begun
 
-
 def wait_for(what, find):
     """What `find` gives, as soon as that is something; a wait that is in vain fails the test."""
     return WebDriverWait(None, LIMIT, 0.03, [WebDriverException]).until(lambda _: find(), what)
-
 
 class Page:
     """A page of a door, in the browser. Each call waits until the page is done, or asks something."""
@@ -189,7 +186,6 @@ class Page:
         finally:
             self.cdp("Emulation.clearDeviceMetricsOverride")
 
-
 class ReadersPage(Page):
     """The page for readers."""
 
@@ -203,7 +199,6 @@ class ReadersPage(Page):
         self.one("#caller").click()
         self.type("Your key, from the museum's staff", key)
         return self.push("Use it")
-
 
 class StaffPage(Page):
     """The staff's page. A change that is done empties the reason, and a click types it again."""

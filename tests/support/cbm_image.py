@@ -15,20 +15,16 @@ ENTRY_BLOCKS = [(18, sector) for sector in range(1, SECTORS[18])]
 # Where the map of free blocks begins: for each track how many sectors are free, and three bytes with a bit for each.
 MAP = 256 * ALL_BLOCKS.index((18, 0)) + 4
 
-
 def place(track, sector):
     """The byte of the image at which a block begins."""
     return 256 * ALL_BLOCKS.index((track, sector))
 
-
 def block_of(image, block):
     return image[place(*block) : place(*block) + 256]
-
 
 def mark_place(track, sector):
     """The byte of an image with error bytes that is the block's."""
     return SIZE + place(track, sector) // 256
-
 
 def marks_by_chance(random_, counts):
     """The error bytes of a disk, of which one of these counts report an error."""
@@ -36,7 +32,6 @@ def marks_by_chance(random_, counts):
     for block in random_.sample(range(BLOCKS), random_.choice(counts)):
         marks[block] = random_.randint(2, 255)
     return bytes(marks)
-
 
 def put_chain(image, blocks, data):
     """Writes bytes to the first of some blocks, which link each to the next and the last to how far it is used, and
@@ -46,7 +41,6 @@ def put_chain(image, blocks, data):
         link = bytes(after) if after else bytes([0, len(part) + 1])
         image[place(*here) : place(*here) + 2 + len(part)] = link + part
     return len(parts)
-
 
 def put_directory(image, free, label, entries):
     """Writes a directory of entries, each a type, a first block, a name and a size, and the map of the free blocks,
@@ -59,7 +53,6 @@ def put_directory(image, free, label, entries):
     head = b"\x12\x01A\x00" + b"".join(struct.pack("<I", one.bit_count() | (one << 8)) for one in bits)
     image[MAP - 4 : MAP + 163] = head + label.ljust(16, b"\xa0") + b"\xa0\xa0RR\xa02A"
 
-
 def filled(label, files):
     """An image with files, each the byte of its type, its name and its bytes: block after block, and at most 144."""
     image, free, entries = bytearray(SIZE), DATA_BLOCKS, []
@@ -68,7 +61,6 @@ def filled(label, files):
         free = free[entries[-1][3] :]
     put_directory(image, {*free, *ENTRY_BLOCKS}, label, entries)
     return bytes(image)
-
 
 def free_blocks(image):
     counted = [one for (one,) in struct.iter_unpack("<I", image[MAP : MAP + 140])]

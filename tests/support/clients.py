@@ -15,12 +15,10 @@ from support.samples import head, raw
 PAUSE, OPEN_FILES = 0.3, 32
 Serving = functools.partial(server.Serving, few_files=OPEN_FILES)
 
-
 def curl(port, path, *words):
     """The words of a visit by curl, without the settings of its user."""
     always = "curl -q -sS -i --raw -g --path-as-is --noproxy * --max-time 60".split()
     return [*always, *words, f"http://{server.HOST}:{port}{path}"]
-
 
 def by_client(place, asked):
     """The bytes of what http.client tells of a reply."""
@@ -30,7 +28,6 @@ def by_client(place, asked):
         response = connection.getresponse()
         lines = [f"{name}: {value}" for name, value in response.getheaders()]
         return head(f"HTTP/{response.version / 10} {response.status} {response.reason}", *lines) + response.read()
-
 
 def connected(place, room=None):
     """A plain socket to a port or a Unix socket, that sends at once. Its system keeps so much that it has not read."""
@@ -47,7 +44,6 @@ def connected(place, room=None):
     connection.connect((server.HOST, place) if is_port else str(place))
     return connection
 
-
 def read_all(connection):
     """The bytes that come, and how they end: with an end or a reset."""
     came = b""
@@ -56,7 +52,6 @@ def read_all(connection):
             came += part
         return came, "an end"
     return came, "a reset"
-
 
 def by_socket(place, parts, ends=False, pause=PAUSE):
     """The bytes that come, and how they end. A desk that closes early is heard all the same."""
@@ -69,13 +64,11 @@ def by_socket(place, parts, ends=False, pause=PAUSE):
             connection.shutdown(socket.SHUT_WR)
         return read_all(connection)
 
-
 def ask(place, asked):
     """The bytes of the reply to a request, which have to end with an end."""
     came, ending = by_socket(place, [raw(asked)])
     assert ending == "an end", came[:1000]
     return came
-
 
 @contextlib.contextmanager
 def beside(act, client):
@@ -94,11 +87,9 @@ def beside(act, client):
             ended.set()
         running.result(server.LIMIT)
 
-
 def zone_of(seconds):
     """The rule of clocks that are so many seconds ahead of UTC; a rule counts how far they are behind it."""
     return f"<DAY>{'-' if seconds >= 0 else ''}{datetime.timedelta(seconds=abs(seconds))}"
-
 
 def noon_zone():
     """The rule of a clock that shows about noon of the day that UTC has, so one day for eleven hours and more."""

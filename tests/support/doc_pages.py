@@ -9,7 +9,6 @@ from support.server import ROOT
 PART = re.compile(r"^#+ (.*)$|^```.*\n((?s:.*?))^```$", re.M)
 COMMAND = re.compile(r"^([$#]) (.*(?:\n> .*)*)\n((?:(?![$#] ).*\n)*)", re.M)
 
-
 def commands(page):
     """The commands of a page in their order: the line of each, its prompt, its words, and what it gives. In a section
     that shows what the package does, "package" stands in the place of the prompt."""

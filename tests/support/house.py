@@ -42,7 +42,6 @@ start)
 esac
 """
 
-
 class House:
     """A room with its tools. Its store has sums, as the package makes it, or none, as older ones made it."""
 
@@ -187,7 +186,6 @@ class House:
         with beside(ask) as work:
             yield turn
 
-
 @contextlib.contextmanager
 def beside(work):
     """While this is entered, work is done again and again. What breaks it is raised."""
@@ -202,7 +200,6 @@ def beside(work):
         finally:
             is_over.set()
         running.result()
-
 
 def takedown(accession, rank, slot, key=STAFF):
     return put_rule(f"/images/{accession}/rules/{rank}", "deny", {"slot": slot}, *READERS)._replace(key=key)

@@ -9,8 +9,7 @@ from support import cbm_image, cpm_image, model_disks, model_rules
 from support.model_requests import DEED, KEY, ROUTES, Refused, asked_by, object_of, refuse_if, rule_of
 from support.samples import (
     BAD_BODY, DONE, NO_ACCESSION, NO_DEED, STAFF, STAFF_ONLY, UNKNOWN_KEY, content, denied, digest, refused, table,
-    told,
-)
+    told)
 
 SIZES = {"cpm8": cpm_image.SIZE, "d64": cbm_image.SIZE, "d64e": cbm_image.MARKED_SIZE}
 AUDIENCES = ("public", "room", "staff")
@@ -22,7 +21,6 @@ Image = collections.namedtuple("Image", "kind deed digest bytes")
 # What is due to a visit: a reply, and what is to be done where it comes, or None.
 Due = collections.namedtuple("Due", "reply change", defaults=(None,))
 
-
 class Disks:
     """Disks by the bytes of their images: those that were made, and those that are read when they are asked for."""
 
@@ -33,7 +31,6 @@ class Disks:
         if image not in self.disks:
             self.disks[image] = model_disks.read(kind, image)
         return self.disks[image]
-
 
 class Desk:
     """What a desk holds, and the day that it is there."""
@@ -99,8 +96,7 @@ class Desk:
         files = [
             {**file, **{name: int(file[name]) if file[name] else None for name in ("slot", "size", "user")},
              "faults": file["faults"].split(), "rule": label, "effect": effect}
-            for file, label, effect in self.lines(acc, audience)
-        ]
+            for file, label, effect in self.lines(acc, audience)]
         return Due(told(files=files, **self.heading(acc)))
 
     def ask_catalogue(self, audience):

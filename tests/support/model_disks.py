@@ -14,27 +14,22 @@ File = collections.namedtuple("File", "fields data")
 # A disk: its files, and what a survey says of it.
 Disk = collections.namedtuple("Disk", "files report")
 
-
 def read(kind, image):
     return cpm_disk(image) if kind == "cpm8" else cbm_disk(image)
-
 
 def printed(data, others=b"%"):
     """Bytes as the desk prints them."""
     return "".join(chr(byte) if 32 <= byte < 127 and byte not in others else f"%{byte:02X}" for byte in data)
 
-
 def known(slot, user, type_, name, data, faults=()):
     size, words = "" if data is None else str(len(data)), " ".join(faults)
     return File({"slot": str(slot), "user": user, "type": type_, "size": size, "faults": words, "name": name}, data)
-
 
 def disk_of(files, directory="end", label="", blocks=None, size_differs=0):
     """A disk of files, with what a survey says of it."""
     served, faulty = sum(file.data is not None for file in files), sum(file.fields["faults"] != "" for file in files)
     about = {"directory": directory, "label": label, "map": blocks, "size_differs": size_differs}
     return Disk(files, {**about, "files": len(files), "served": served, "faulty": faulty})
-
 
 def chain(image, block):
     """The blocks from one on along their links, and how they end."""
@@ -48,13 +43,11 @@ def chain(image, block):
             return [*blocks], "end"
     return [*blocks], "off"
 
-
 def claimed(image, type_, kind, first, side):
     """The blocks that a file claims, and how its chains end: none where it was never closed."""
     starts = {"REL": [first, side], **dict.fromkeys(GIVEN, [first])}.get(type_, [])
     chains = [chain(image, tuple(start)) for start in starts if kind & 128]
     return [block for blocks, _ in chains for block in blocks], [end for _, end in chains]
-
 
 def cbm_disk(image):
     directory, end = chain(image, (18, 1))
@@ -70,8 +63,7 @@ def cbm_disk(image):
         holds = {
             "not-closed": not kind & 128, "off-disk": "off" in ends, "loop": "loop" in ends,
             "crossed": any(taken[block] > 1 for block in blocks),
-            "read-error": any(marks[cbm_image.place(*block) // 256] > 1 for block in blocks),
-        }
+            "read-error": any(marks[cbm_image.place(*block) // 256] > 1 for block in blocks)}
         faults, data = [word for word in holds if holds[word]], None
         if type_ in GIVEN and not faults:
             *whole, last = [cbm_image.block_of(image, block) for block in blocks]
@@ -82,10 +74,8 @@ def cbm_disk(image):
     marked = collections.Counter(track for track, _ in free)
     about = {
         "claimed_free": len(free & {*taken}), "unclaimed_used": len({*cbm_image.ALL_BLOCKS} - free - {*taken}),
-        "wrong_counts": sum(count != marked[track] for track, count in enumerate(counts, 1)),
-    }
+        "wrong_counts": sum(count != marked[track] for track, count in enumerate(counts, 1))}
     return disk_of(files, end, printed(label.rstrip(b"\xa0")), about, differ)
-
 
 def cpm_disk(image):
     found, files = {}, []
@@ -104,8 +94,7 @@ def cpm_disk(image):
             "short": any(count < 128 and extent < extents[-1] for extent, count, _ in entries),
             "hole": any(0 in blocks[: (count + 7) // 8] for _, count, blocks in entries),
             "off-disk": max(pointers, default=0) > 242,
-            "crossed": any(block == 1 or taken[block] > 1 for block in pointers),
-        }
+            "crossed": any(block == 1 or taken[block] > 1 for block in pointers)}
         faults, data = [word for word in holds if holds[word]], None
         if not faults:
             records = [8 * blocks[n // 8] + n % 8 for _, count, blocks in sorted(entries) for n in range(count)]

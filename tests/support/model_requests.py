@@ -11,8 +11,7 @@ HEAD_LIMIT, BODY_LIMIT = 8192, 262144
 TOKEN = rb"[!#$%&'*+.^_`|~0-9A-Za-z-]+"
 # A head with the empty lines before it: its method, its target, and its fields.
 HEAD = re.compile(
-    rb"(?:\r?\n)*(%b) ([!-~\x80-\xff]+) HTTP/1\.[01]\r?\n((?:%b:[\t -~\x80-\xff]*\r?\n){0,64})\r?\n" % (TOKEN, TOKEN)
-)
+    rb"(?:\r?\n)*(%b) ([!-~\x80-\xff]+) HTTP/1\.[01]\r?\n((?:%b:[\t -~\x80-\xff]*\r?\n){0,64})\r?\n" % (TOKEN, TOKEN))
 # The bytes of a visit in their parts, with what follows the head.
 Parts = collections.namedtuple("Parts", "method target fields rest")
 # What is asked: a word for it, the parts of the path, the key's bytes or None, and the body.
@@ -27,18 +26,14 @@ ROUTES = [(re.compile(path), methods) for path, methods in [
     (f"/accessions/{NUMBER}/{KIND}/{NUMBER}/{DIGEST}", {"PUT": "put image"}),
     (f"/(deeds|images)/{NUMBER}/rules/{RANK}", {"PUT": "put rule", "DELETE": "drop rule"}),
     (f"/deeds/{NUMBER}", {"PUT": "put deed"}),
-    (f"/badges/{DIGEST}", {"PUT": "put key", "DELETE": "drop key"}),
-]]
-
+    (f"/badges/{DIGEST}", {"PUT": "put key", "DELETE": "drop key"})]]
 
 class Refused(Exception):
     """The reply that is due in place of an answer."""
 
-
 def refuse_if(holds, reply):
     if holds:
         raise Refused(reply)
-
 
 def parted(data):
     """The parts of the bytes of a visit; None where they begin with no head."""
@@ -51,17 +46,14 @@ def parted(data):
     fields = [(name.lower(), value.strip(b" \t")) for name, _, value in lines]
     return Parts(method, target, fields, data[found.end() :])
 
-
 def values(parts, name):
     return [value for one, value in parts.fields if one == name]
-
 
 def length_of(parts):
     """The length of the body that the fields tell, or None where they tell none."""
     found = re.fullmatch(b"0*([0-9]{1,6})", b" ".join(values(parts, b"content-length") or [b"0"]))
     is_length = found and int(found[1]) <= BODY_LIMIT and not values(parts, b"transfer-encoding")
     return int(found[1]) if is_length else None
-
 
 def is_waited_for(data):
     """Whether a desk that has these bytes waits for more."""
@@ -70,7 +62,6 @@ def is_waited_for(data):
         return len(data) < HEAD_LIMIT and not re.search(rb"\n\r?\n", data.lstrip(b"\r\n"))
     length = length_of(parts)
     return length is not None and length > len(parts.rest)
-
 
 def asked_by(data, routes):
     """What the bytes of a visit ask of some routes. Raises the reply that is due where they ask nothing."""
@@ -84,7 +75,6 @@ def asked_by(data, routes):
     refuse_if(parts.method not in methods, refused(405, "method", f"Allow: {', '.join(methods)}"))
     return Asked(methods[parts.method], found.groups(), keys[0] if keys else None, parts.rest[:length])
 
-
 # Bodies: patterns of their objects, as they are written without blanks and with their keys in order
 
 DAY, AUDIENCE, PRINTED = '"[0-9]{4}-[0-9]{2}-[0-9]{2}"', '"(?:public|room|staff)"', r'(?:[ !#-\[\]-~]|\\["\\])'
@@ -93,13 +83,11 @@ RULE = r'{"audiences":\[%s(?:,%s)*\],"effect":"(?:deny|list|read)"(?:,"from":(?:
 RULE = RULE % (AUDIENCE, AUDIENCE, DAY, SELECT % (PRINTED, PRINTED)) + '(?:,"until":(?:%s|null))?}' % DAY
 DEED, KEY = r'{"donor":"(?:[^"\\]|\\["\\])+","signed":%s}' % DAY, '{"audience":"(?:room|staff)"}'
 
-
 def number(text):
     """A number; one that is not of digits alone gets a point, which no body may have."""
     if len(text) > 300 or not abs(float(text)) < float("inf"):
         raise ValueError(text)
     return int(text) if text.isdigit() else float(text)
-
 
 def object_of(body, pattern):
     """The object of a body, which has to be as a pattern says, and its days to be some."""
@@ -115,7 +103,6 @@ def object_of(body, pattern):
         raise Refused(BAD_BODY) from fault
     refuse_if(not re.fullmatch(pattern, text), BAD_BODY)
     return value
-
 
 def rule_of(body, rank, effects):
     """A rule as a table; without its rank it is the body's own keys."""

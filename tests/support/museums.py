@@ -12,15 +12,12 @@ DONORS = ("A. Curator", "B. Donor", "The Sea Club", "E. Müller", "C. Nowak")
 # Names that are paths, devices, markup and formulas.
 HARMFUL = ["../../X", "CON", "<img src=x onerror=window.harmed=1>", "=1+1", 'A "quoted", name']
 
-
 def rule(rank, effect, audiences, select=None, start=None, until=None):
     rule_ = {"rank": rank, "audiences": [*audiences], "effect": effect, "select": select or {"all": True}}
     return {**rule_, "from": start, "until": until}
 
-
 def put(museum, acc, kind, deed, data):
     museum.images[acc] = model.Image(kind, deed, digest(data), data)
-
 
 def put_files(museum, acc, kind, deed, files):
     """Puts a disk of files of names, types and bytes, or None in their place where the desk does not give them out."""
@@ -29,10 +26,8 @@ def put_files(museum, acc, kind, deed, files):
     museum.disks.disks[key] = disk_of(made)
     put(museum, acc, kind, deed, key)
 
-
 def harmful_disk(museum, acc, deed):
     put_files(museum, acc, "d64", deed, [(name, "SEQ", b"TEXT") for name in HARMFUL])
-
 
 def short_text(kind, number, slot):
     """A short text; the names of every third disk of the 1541 are in the other set of letters."""
@@ -42,13 +37,11 @@ def short_text(kind, number, slot):
     shown = [f"%{ord(sign) + 128:02X}" if sign.isalpha() and number % 3 == 0 else sign for sign in f"{word} {slot}"]
     return "".join(shown), "SEQ", f"{word} {slot} OF DISK {number}\r".encode()
 
-
 def empty(day=None):
     """A museum with a key of the room, and no disk."""
     museum = stand_in.Museum(day)
     museum.badges[digest(b"hello")] = "room"
     return museum
-
 
 def many(disks, files, deeds=1000, day=None):
     """A museum of so many disks, each with so many files, under deeds of three rules each; every hundredth disk has a
@@ -58,8 +51,7 @@ def many(disks, files, deeds=1000, day=None):
         museum.deeds[deed] = DONORS[deed % len(DONORS)], f"19{80 + deed % 20}-05-04"
         museum.rules[f"R{deed}"] = {
             10: rule(10, "deny", ["public"], {"slot": 3}, None, f"2030-01-{1 + deed % 28:02}"),
-            20: rule(20, "list", ["public"], {"prefix": "GAME"}), 30: rule(30, "read", model.AUDIENCES),
-        }
+            20: rule(20, "list", ["public"], {"prefix": "GAME"}), 30: rule(30, "read", model.AUDIENCES)}
     for number in range(1, disks + 1):
         kind = ("cpm8", "d64")[number % 2]
         put_files(museum, number, kind, 1 + number % deeds, [short_text(kind, number, slot) for slot in range(files)])
@@ -68,7 +60,6 @@ def many(disks, files, deeds=1000, day=None):
         if number % 100 == 0:
             museum.rules[f"T{number}"] = {1000: rule(1000, "deny", ["public", "room"])}
     return museum
-
 
 def small(day=None):
     """A museum of six disks under three deeds, one of them without rules."""

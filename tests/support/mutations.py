@@ -8,8 +8,7 @@ from hypothesis import strategies as st
 from support import trials
 from support.samples import (
     ALL, DONOR_OF_9, EVERY, IMAGES, LONG_DISK, MARKED_DISK, badge, check, digest, drop, get, put, put_image, put_rule,
-    raw, survey,
-)
+    raw, survey)
 
 DISKS = [("d64", trials.image("full.image")), ("cpm8", LONG_DISK), ("d64e", MARKED_DISK)]
 DISKS += [(kind, image) for kind, _, image in IMAGES.values()]
@@ -17,13 +16,11 @@ DATES = ["2019-05-04", "0001-01-01", "9999-12-31", "2020-02-29"]
 AUDIENCES = [ALL, ["public"], ["room"], ["staff"], ["staff", "public"], ["room", "public"]]
 SELECTORS = [EVERY, {"slot": 0}, {"slot": 1}, {"user": 0}, {"prefix": "H"}, {"type": "TXT"}]
 
-
 class Visit(collections.namedtuple("Visit", "data parts", defaults=(1,))):
     """The bytes of a visit, and in how many parts they are sent."""
 
     def __repr__(self):
         return f"Visit of {len(self.data)} bytes in {self.parts} parts: {self.data[:2000]!r}"
-
 
 def request(one):
     """A good request, by one that draws of options. Some ask for what is not there, or may not be done."""
@@ -49,7 +46,6 @@ def request(one):
         asked = put_rule(path, effect, one(*SELECTORS), *one(*AUDIENCES), **days) if effect else drop(path)
     return asked._replace(key=one(*["abc"] * 12, "second", None, "hello"))
 
-
 # Mutations. Words of a head or of a body stand in the place of others, or beside them
 
 NUMBERS = "0 00 1 012 15 16 -1 +1 1.0 1e3 9999 10000 999999 1000000 262144 262145 18446744073709551616 \uff11".split()
@@ -71,7 +67,6 @@ BODY_WORDS += [b'"\\u0061bc"', b'"\\ud800"', b'"\\x61"', b'"\xff"', b"\xef\xbb\x
 BODY_WORDS += [b",", b"}", b"[" * 200, b"9" * 301, b'"more":1,', b'"until":null,', b'"donor":"x",', b'"audience":"",']
 WORD = re.compile(rb'"(?:[^"\\]|\\.)*"|[\w.+-]+|\r\n|.', re.S)
 
-
 def reworded(one, text, words):
     """A text of which one word is another, is missing, comes twice or in other letters, or has a word before it."""
     found, word = WORD.findall(text), one(*words)
@@ -79,7 +74,6 @@ def reworded(one, text, words):
     at = one(*some * 3, *range(len(found)))
     changed = [[word], [word], [], [found[at]] * 2, [found[at].swapcase()], [found[at] + b"0"], [word, found[at]]]
     return b"".join([*found[:at], *one(*changed), *found[at + 1 :]])
-
 
 @st.composite
 def visits(draw):

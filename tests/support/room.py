@@ -20,13 +20,11 @@ OPERATE = os.environ.get("DESK_OPERATE", os.path.join(ROOT, "operate"))
 CONFIGURE = os.path.join(OPERATE, "configure")
 SITE = "localhost"
 
-
 def give_to_nginx(path, mode):
     """Makes what is at a path nginx's group's, where this process may, and sets its mode."""
     if os.geteuid() == 0:
         shutil.chown(path, group="www-data")
     path.chmod(mode)
-
 
 def wait_until(holds, seconds=LIMIT):
     """Waits until something holds, and fails where it does not in time."""
@@ -35,7 +33,6 @@ def wait_until(holds, seconds=LIMIT):
         if time.monotonic() > end:
             raise TimeoutError(f"not within {seconds} s: {holds}")
         time.sleep(0.02)
-
 
 class Room(contextlib.AbstractContextManager):
     """A folder with a store, a certificate, the page and the places, and what it has started. The desk is at a Unix
@@ -111,8 +108,7 @@ class Room(contextlib.AbstractContextManager):
             "JOURNAL": folder / "journal", "GATE": folder / "gate", "SPACE": folder / "space",
             "BACKUPS": folder / "backups", "STAFF_KEY": folder / "staff-key", "WEB": folder / "web",
             "OWN_WEB": folder / "own", "NGINX_RUN": folder, "NGINX_WORK": folder / "work", "NGINX_LOG": folder,
-            "NGINX_USER": "www-data" if os.geteuid() == 0 else getpass.getuser(), **values,
-        }
+            "NGINX_USER": "www-data" if os.geteuid() == 0 else getpass.getuser(), **values}
         path.write_text("".join(f"{name}={value}\n" for name, value in places.items()))
         return path
 
@@ -171,7 +167,6 @@ class Room(contextlib.AbstractContextManager):
 
     def logs(self):
         return b"".join(path.read_bytes() for path in self.folder.glob("*.log"))
-
 
 def asked_at(place, asked):
     """The status and the body of the reply at a place."""

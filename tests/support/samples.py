@@ -11,10 +11,8 @@ import json
 from support import cbm_image, cpm_image, trials
 from support.server import bytes_of
 
-
 def digest(data):
     return hashlib.sha256(data).hexdigest()
-
 
 # Images: those that trials have too, the marked one with another checksum for its second block; and one full of a file
 
@@ -27,8 +25,7 @@ IMAGES = {
     12: ("d64", 7, PROGRAM_DISK), 13: ("d64", 8, PROGRAM_DISK),
     14: ("d64", 9, LOOP_DISK), 15: ("cpm8", 9, RECORD_DISK), 16: ("d64", 9, bytes_of("images", "museum.d64")),
     17: ("cpm8", 9, bytes_of("images", "damaged.img")), 18: ("cpm8", 9, bytes_of("images", "welcome.img")),
-    26: ("d64e", 9, bytes_of("images", "damaged.d64")),
-}
+    26: ("d64e", 9, bytes_of("images", "damaged.d64"))}
 
 # Requests: a method and a path, the desk key and the body, or None where there is none
 
@@ -38,61 +35,48 @@ ALL, EVERY = ("public", "room", "staff"), {"all": True}
 DEED = {"donor": "D. Donor", "signed": "2021-01-01"}
 get = functools.partial(Asked, "GET")
 
-
 def compact(value):
     """JSON as the desk writes it: without blanks, the keys in order."""
     return json.dumps(value, sort_keys=True, separators=(",", ":"), ensure_ascii=False).encode()
 
-
 def drop(path, key=STAFF):
     return Asked("DELETE", path, key)
-
 
 def put(path, body, key=STAFF):
     return Asked("PUT", path, key, compact(body))
 
-
 def put_rule(path, effect, select, *audiences, **days):
     return put(path, {"audiences": audiences, "effect": effect, "select": select, **days})
-
 
 def put_image(accession, kind, deed, image, told=None):
     """The SHA-256 that is told for the bytes is the one that they have where no other is given."""
     return Asked("PUT", f"/accessions/{accession}/{kind}/{deed}/{told or digest(image)}", STAFF, image)
 
-
 def survey(accession, key=STAFF):
     return get(f"/images/{accession}/survey", key)
-
 
 def check(accession, key=STAFF):
     return Asked("POST", f"/images/{accession}/check", key)
 
-
 def badge(key):
     return f"/badges/{digest(key.encode())}"
 
-
 def head(*lines):
     return "".join(f"{line}\r\n" for line in (*lines, "")).encode()
-
 
 def raw(asked):
     fields = [] if asked.key is None else [f"Desk-Key: {asked.key}"]
     fields += [] if asked.body is None else [f"Content-Length: {len(asked.body)}"]
     return head(f"{asked.method} {asked.path} HTTP/1.1", *fields) + (asked.body or b"")
 
-
 def with_fields(*fields):
     return head("GET /images/15/files/0 HTTP/1.1", *fields)
-
 
 FOR_RECORD = get("/images/15/files/0")
 QUESTION, LONG_QUESTION = with_fields("Host: desk"), head("GET /images/21/files/0 HTTP/1.1")
 TAKEDOWN = put_rule("/images/15/rules/1", "deny", {"slot": 0}, "public", "room")
 
 # Replies
-
 
 def reply(status, body, kind="application/json", line=None):
     """The bytes of a reply, with a line in its head that not all have."""
@@ -101,13 +85,10 @@ def reply(status, body, kind="application/json", line=None):
     lines = [f"Content-Type: {kind}", f"Content-Length: {len(body)}", "Connection: close", *([line] if line else [])]
     return head(f"HTTP/1.1 {status} {phrase}", *lines) + body
 
-
 def told(**keys):
     return reply(200, compact(keys))
 
-
 content = functools.partial(reply, 200, kind="application/octet-stream")
-
 
 def table(rows):
     """A table of rows of cells, as Python's csv writes it."""
@@ -115,14 +96,11 @@ def table(rows):
     csv.writer(text, lineterminator="\n").writerows(rows)
     return reply(200, text.getvalue().encode(), "text/csv")
 
-
 def refused(status, name, line=None, **keys):
     return reply(status, compact({"error": name, **keys}), line=line)
 
-
 def denied(label):
     return refused(403, "denied", rule=label)
-
 
 DONE, SOUND = told(done=True), told(outcome="sound")
 BAD_HEAD, FRAMING, BAD_BODY = map(refused, [400] * 3, ("bad-head", "framing", "bad-body"))
@@ -138,19 +116,16 @@ FIRST = [(asked.path, asked, DONE) for asked in (
     put(badge(ROOM), {"audience": "room"}), put("/deeds/7", {"donor": "A. Curator", "signed": "2019-05-04"}),
     put("/deeds/8", {"donor": "B. Donor", "signed": "2020-02-29"}),
     put_rule("/deeds/7/rules/10", "deny", EVERY, "public", "room", until="9999-12-31"),
-    put_rule("/deeds/7/rules/20", "read", EVERY, *ALL), put_image(12, *IMAGES[12]),
-)]
+    put_rule("/deeds/7/rules/20", "read", EVERY, *ALL), put_image(12, *IMAGES[12]))]
 MORE = [(asked.path, asked, DONE) for asked in (
     put("/deeds/9", {"donor": DONOR_OF_9, "signed": "0001-01-01"}),
     put_rule("/deeds/9/rules/10", "deny", {"slot": 0}, *ALL, until="0001-01-02"),
     put_rule("/deeds/9/rules/11", "list", {"prefix": "H"}, *ALL, **{"from": "9999-12-31"}),
     put_rule("/deeds/9/rules/20", "read", EVERY, *ALL), *(put_image(n, *IMAGES[n]) for n in IMAGES if n > 12),
-    put_rule("/images/13/rules/1", "list", {"user": 3}, "staff"),
-)]
+    put_rule("/images/13/rules/1", "list", {"user": 3}, "staff"))]
 LONG = [
     ("a full CP/M disk", put_image(21, "cpm8", 9, LONG_DISK), DONE),
-    ("its file", get("/images/21/files/0"), content(LONG_FILE)),
-]
+    ("its file", get("/images/21/files/0"), content(LONG_FILE))]
 COUNTS = {12: 1, 14: 1, 15: 1, 16: 3, 17: 4, 18: 2, 26: 2}
 LINES = [{"accession": n, "deed": IMAGES[n][1], "files": COUNTS[n], "kind": IMAGES[n][0]} for n in COUNTS]
 # What changes nothing.
@@ -160,5 +135,4 @@ READ_BACK = [
     ("a file to the staff", get("/images/12/files/0", STAFF), HELLO),
     ("a file to the room", get("/images/12/files/0", ROOM), denied("R7.10")),
     ("a file that no rule opens", get("/images/13/files/0", STAFF), denied("D0")),
-    ("a file to the public", FOR_RECORD, RECORD),
-]
+    ("a file to the public", FOR_RECORD, RECORD)]

@@ -19,11 +19,9 @@ FIRST_PORT = 10240
 # After how many seconds a client or the program is given up, and a number of visits that no desk here reaches.
 LIMIT, ENDLESS = 60, 1_000_000
 
-
 def bytes_of(*parts):
     """The bytes of a file of this repository, or of one that is named by its whole path."""
     return pathlib.Path(ROOT, *parts).read_bytes()
-
 
 def free_ports(count):
     """Ports at which nobody listens now. Linux gives none of them to who connects, before somebody listens there; and
@@ -41,10 +39,8 @@ def free_ports(count):
                 found.append(port)
     return found
 
-
 def free_port():
     return free_ports(1)[0]
-
 
 def wait_for(port, process, seconds=LIMIT):
     """Waits until a process listens at a port, for so many seconds at most."""
@@ -56,7 +52,6 @@ def wait_for(port, process, seconds=LIMIT):
         time.sleep(0.05)
     raise RuntimeError(f"nobody listens at port {port}")
 
-
 def socket_at(place):
     """A plain connection to a port of this machine, or to the path of a Unix socket."""
     if isinstance(place, int):
@@ -66,13 +61,11 @@ def socket_at(place):
     connection.connect(str(place))
     return connection
 
-
 def client_at(place):
     client = http.client.HTTPConnection(HOST, place if isinstance(place, int) else None, timeout=LIMIT)
     if not isinstance(place, int):
         client.connect = lambda: setattr(client, "sock", socket_at(place))
     return client
-
 
 class Serving:
     """The program while it serves visits of a store, at a place or at a free port. With few_files it may open no more

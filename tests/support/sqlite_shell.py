@@ -2,7 +2,6 @@
 
 import subprocess
 
-
 def shell(store, asked, *words):
     """What sqlite3 tells of a store. It fails where sqlite3 does."""
     ran = subprocess.run(["sqlite3", "-batch", "-bail", *words, store, asked], capture_output=True, timeout=60)

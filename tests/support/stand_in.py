@@ -24,13 +24,11 @@ STAFF_ROUTES = [(re.compile(f"/staff/{path}"), methods) for path, methods in [
     ("deeds", {"GET": "show deeds"}), ("takedowns", {"GET": "show takedowns"}), ("keys", {"GET": "show keys"}),
     ("checks", {"GET": "show checks"}), (f"verdicts/{DAY}", {"GET": "show verdicts"}),
     (f"rehearsals/{DAY}/(deeds|images)/([1-9][0-9]{{0,5}})/rules/([1-9][0-9]{{0,3}})",
-     {"PUT": "rehearse", "DELETE": "rehearse"}),
-]]
+     {"PUT": "rehearse", "DELETE": "rehearse"})]]
 FILE_COLUMNS = ("slot", "user", "name", "type", "size", "faults")
 VERDICT_COLUMNS = ["accession", "deed", "kind", *FILE_COLUMNS]
 VERDICT_COLUMNS += [column for word in AUDIENCES for column in (word, f"{word}_rule")]
 REHEARSAL_COLUMNS = ["accession", "slot", "name", "audience", "effect", "rule", "then_effect", "then_rule"]
-
 
 class Museum(model.Desk):
     """A model of the desk that also answers the staff's questions."""
@@ -87,7 +85,6 @@ class Museum(model.Desk):
                     rows.append([acc, file["slot"], file["name"], word, effect, rule, new, new_rule])
         return Due(table(rows))
 
-
 # The door: the pages and the desk at one port
 
 OF_DESK = re.compile(r"/(images|accessions|deeds|badges|catalogue|staff)(/|$)")
@@ -98,10 +95,8 @@ WEB = pathlib.Path(os.environ.get("DESK_WEB") or pathlib.Path(ROOT, "web"))
 # How many seconds the door reads on behind its reply, for a client that still sends.
 LINGERS = 2
 
-
 def refused_by_nginx(status, phrase):
     return f"HTTP/1.1 {status} {phrase}\r\nContent-Length: 0\r\nConnection: close\r\n\r\n".encode()
-
 
 class Door(socketserver.ThreadingTCPServer):
     """The staff's door, or the one outside, at a port of loopback: a file of the pages, or else what is due from the
@@ -179,7 +174,6 @@ class Door(socketserver.ThreadingTCPServer):
                 for method, path, fields in visits]
         return [visit for visit in told if visit[0] != "GET" and not visit[1].startswith("/staff/")]
 
-
 def ranged(data, words):
     """The reply with some bytes, or with the part of them that a field asks for."""
     kind, size = "application/x-ndjson", len(data)
@@ -192,7 +186,6 @@ def ranged(data, words):
         return refused_by_nginx(416, "Requested Range Not Satisfiable")
     whole = reply(200, part, kind, f"Content-Range: bytes {first}-{first + len(part) - 1}/{size}")
     return whole.replace(b"200 OK", b"206 Partial Content", 1)
-
 
 class Visit(socketserver.BaseRequestHandler):
     """One visit, from its first byte to the end of its reply."""

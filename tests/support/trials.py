@@ -5,17 +5,14 @@ import pathlib
 
 from support.server import ROOT
 
-
 def lines_of(name):
     """The word and the text of each line of a file, without notes and empty lines."""
     lines = pathlib.Path(ROOT, "crates/rd_trials/data", name).read_text(encoding="utf-8").split("\n")
     return [(word, text) for word, _, text in (line.partition(" ") for line in lines) if word not in ("", "#")]
 
-
 def bytes_of(text):
     """The bytes that a text stands for: its escapes are some of Python's."""
     return text.encode().decode("unicode_escape").encode("latin-1")
-
 
 def built(data, word, text):
     """Bytes, with what a line adds to them or changes in them."""
@@ -32,7 +29,6 @@ def built(data, word, text):
     for at in range(int(place), int(place) + int(step) * int(count), int(step)):
         made[at : at + len(unit)] = unit
     return bytes(made)
-
 
 def image(name):
     """The sample image that a file builds."""

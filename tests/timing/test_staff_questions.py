@@ -14,16 +14,13 @@ def questions(museum):
     of_deed, of_disk = f"{day}/deeds/{LARGE_DEED}/rules", f"{day}/images/{acc}/rules"
     lists = {"deeds": len(museum.deeds), "takedowns": len(museum.takedowns), "keys": 2, "checks": disks}
     yield 7, (get("/images", STAFF), has(disks, "images")), [
-        ((get(f"/staff/{name}", STAFF), has(count, name)), 2) for name, count in lists.items()
-    ]
+        ((get(f"/staff/{name}", STAFF), has(count, name)), 2) for name, count in lists.items()]
     yield 7, (get("/catalogue", STAFF), has(disks * OF_A_DISK)), [
         ((get(f"/staff/verdicts/{DAY}", STAFF), has(disks * OF_A_DISK)), 4),
         ((put_rule(f"{of_deed}/20", *DENY), has(2 * OPEN * large)), 0.5),
-        ((drop(f"{of_deed}/30"), has((2 * OPEN + OF_A_DISK) * large)), 0.5),
-    ]
+        ((drop(f"{of_deed}/30"), has((2 * OPEN + OF_A_DISK) * large)), 0.5)]
     yield 40, (get(f"/images/{acc}", STAFF), has(OF_A_DISK, "files")), [
-        ((put_rule(f"{of_disk}/2", *DENY), has(2 * OPEN)), 2), ((drop(f"{of_disk}/1"), has(0)), 2),
-    ]
+        ((put_rule(f"{of_disk}/2", *DENY), has(2 * OPEN)), 2), ((drop(f"{of_disk}/1"), has(0)), 2)]
 
 @SIZES
 def test_questions_of_the_staff_take_little_longer_than_those_of_all(disks, museums, bounded):
