@@ -46,9 +46,8 @@ for service in "$@"; do
     staff="nginx -c /etc/desk${at:+-$at}/staff-nginx.conf"
     case $word-$service in
     start-desk | enable-desk@*) begins ;; stop-desk) ends ;; restart-desk) ends; begins ;; status-desk) answers ;;
-    start-desk-staff | restart-desk-staff | enable-desk-staff@*) $staff ;;
-    stop-desk-staff) $staff -s stop ;; status-desk-staff) ss -ltn | grep -q :8043 ;;
-    show-*) echo LoadState=loaded; echo ActiveState=active ;;
+    start-desk-staff | restart-desk-staff | enable-desk-staff@*) $staff ;; stop-desk-staff) $staff -s stop ;;
+    status-desk-staff) ss -ltn | grep -q :8043 ;; show-*) echo LoadState=loaded; echo ActiveState=active ;;
     restart-nginx) nginx ;; reload-nginx) nginx -s reload 2>/dev/null || echo failed ;; status-nginx) nginx -t -q ;;
     esac
 done
@@ -109,8 +108,9 @@ def test_package_gives_what_the_page_on_machines_shows(folder, program):
     shutil.move(made(folder / "made", program), folder / "desk.deb")
     found = [one[2:] for one in doc_pages.commands("docs/MACHINES.md") if one[1] == "package"]
     found = [one for one in found if not re.match("cert|apt-|cat|ANSI|grep", one[0])] + [CONTAINER]
-    begins = "export LC_ALL=C.UTF-8 HOME=/srv; dpkg --no-triggers -i desk.deb >&2; systemctl start desk desk-staff; nginx"
-    wrong = [(one, gives) for one, gives in zip(found, typed(folder, f"{LAYERS}\n{begins}", found)) if gives != one[1]]
+    begins = f"{LAYERS}\nexport LC_ALL=C.UTF-8 HOME=/srv; dpkg --no-triggers -i desk.deb >&2; nginx"
+    came = typed(folder, f"{begins}; systemctl start desk desk-staff", found)
+    wrong = [(one, gives) for one, gives in zip(found, came) if gives != one[1]]
     assert not wrong and len(found) > 8, "\n".join(map(str, wrong))
 
 @pytest.mark.parametrize("page", LEAST)

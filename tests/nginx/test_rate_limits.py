@@ -64,8 +64,7 @@ $at ip link set outside up; $at ip link set lo up; $at sysctl -qw net.ipv6.ip_no
 $at ip -6 route add local 2001:db8:1::/48 dev lo; ip -6 route add 2001:db8:1::/48 via 2001:db8::2; nft -f $1
 python3 -c "$2" & until ss -Hltn | grep -q :80; do sleep 0.05; done; $at python3 -c "$3" $4 $5"""
 LISTENS = """import socket, time
-with socket.create_server(("::", 80), family=socket.AF_INET6, backlog=99, dualstack_ipv6=True):
-    time.sleep(99)"""
+with socket.create_server(("::", 80), family=socket.AF_INET6, backlog=99, dualstack_ipv6=True): time.sleep(99)"""
 VISITS = """import contextlib, socket, sys
 kept = []
 for number in range(70):

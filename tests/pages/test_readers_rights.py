@@ -1,5 +1,4 @@
-"""The page for readers: what the public, the room and the staff see, what is refused and why, and that a key is left
-nowhere."""
+"""The page for readers: what the public, the room and the staff see, what is refused and why; no key is left there."""
 
 import pytest
 from staff_helpers import LEFT

@@ -1,5 +1,4 @@
-"""The forms of the staff's page: which keys and texts they take, what is said of a reply, and that a key is shown and
-kept nowhere."""
+"""The forms of the staff's page: which keys and texts they take, what is said of a reply; a key is shown nowhere."""
 
 import pytest
 from staff_helpers import LEFT, MAY_BE, TAKES, UNSURE, put_deed

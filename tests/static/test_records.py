@@ -23,8 +23,7 @@ def named(word, *kinds):
 def is_coded(path, name):
     return name.rpartition("::")[2] in rattle.items(path)
 
-# In which folders of crates it has to be what is named behind a word, and whether it is there. Of what is unproved a
-# whole file may be named.
+# In which folders of crates what is named behind a word has to be, and whether it is; the unproved may be a whole file.
 THERE = {
     "defined": ("specs", lambda path, name: rattle.has_definition(path, name)),
     "coded": ("src", is_coded),

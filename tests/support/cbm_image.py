@@ -34,8 +34,7 @@ def marks_by_chance(random_, counts):
     return bytes(marks)
 
 def put_chain(image, blocks, data):
-    """Writes bytes to the first of some blocks, which link each to the next and the last to how far it is used, and
-    gives their number."""
+    """Writes bytes to the first of some blocks, each with a link to the next, or how far it is used; tells how many."""
     parts = [data[at : at + 254] for at in range(0, len(data), 254)]
     for here, after, part in zip(blocks, [*blocks[1 : len(parts)], None], parts):
         link = bytes(after) if after else bytes([0, len(part) + 1])
@@ -43,8 +42,7 @@ def put_chain(image, blocks, data):
     return len(parts)
 
 def put_directory(image, free, label, entries):
-    """Writes a directory of entries, each a type, a first block, a name and a size, and the map of the free blocks,
-    with the disk's name."""
+    """Writes a directory of entries (type, first block, name, size), the map of free blocks, and the disk's name."""
     rows = [struct.pack("<2xB2s16s9xH", kind, bytes(first), name.ljust(16, b"\xa0"), size)
             for kind, first, name, size in entries]
     groups = [b"".join(rows[at : at + 8])[2:].ljust(254, b"\x00") for at in range(0, len(rows) or 1, 8)]
