@@ -122,9 +122,9 @@ def test_map_shows_each_sector_the_chosen_file_and_faults(staff, choose):
 # A script: what the page reads on the dump beside it, and what it foretells of its files.
 FORETOLD = """
 const [kind, rules, day, done] = arguments;
-const all = [import("/dump.js"), import("/staff.forecast.js"), fetch("/drawn.dump").then((one) => one.arrayBuffer())];
-Promise.all(all).then(([dump, made, bytes]) => {
-  const { files } = dump.readDump(kind, new Uint8Array(bytes));
+const all = Promise.all([import("/dump.js"), import("/staff.forecast.js"), fetch("/drawn.dump")]);
+all.then(async ([dump, made, came]) => {
+  const { files } = dump.readDump(kind, new Uint8Array(await came.arrayBuffer()));
   const texts = (one) => [one.slot, one.user ?? "", one.name, one.type, one.faults.join(" "), one.isServed].map(String);
   done([files.map(texts), made.forecast(files, rules, day)]);
 });
@@ -142,7 +142,7 @@ def drawn_dump(one, kind):
         image[one([start + one(range(96)), *links])] = one([0, 1, 2, 16, 17, 18, 128, 130, 132, one(range(256))])
     return bytes(image)
 
-@pytest.mark.parametrize("count", [20, pytest.param(500, marks=pytest.mark.long)])
+@pytest.mark.parametrize("count", [20, pytest.param(500, marks=[pytest.mark.long, pytest.mark.timeout(1800)])])
 def test_page_reads_and_foretells_of_a_dump_what_the_desk_says_of_the_disk(museum, staff, tmp_path, count):
     random_ = random.Random(count)
     one, effects = random_.choice, ["deny", "list", "read"]

@@ -26,11 +26,10 @@ def test_deed_is_put_with_name_and_reason(staff):
     rules += f"20: all files readable for {EVERYBODY}, on all daysRules"
     assert staff.read()["rows"][0] == ["7", "A. Curator", "2019-05-04", "3", rules, "Change"]
     for name, reason in (("", "a reason"), ("Ada", " "), ("Ada", "ü" * 167)):
-        staff.fill("who", name=name)
-        staff.reason = reason
+        staff.fill("who", name=name, reason=reason)
         put_deed(staff)
         assert staff.door.sent() == [], (name, reason)
-    staff.reason = "ü" * 166
+    staff.fill("who", reason="ü" * 166)
     shown = put_deed(staff, "31", "E. <b>Müller</b>")
     assert staff.door.sent() == [("PUT", "/deeds/31", "Ada", "%C3%BC" * 166)]
     assert (shown["result"], shown["stands"]) == (["Done: deed 31."], ["4 deeds."])
@@ -39,7 +38,7 @@ def test_deed_is_put_with_name_and_reason(staff):
     assert left == "", "the reason of one change goes along with the next"
     staff.door.before = lost_at(1)
     put_deed(staff)
-    assert staff.one("#who [name=reason]").get_property("value") == staff.reason
+    assert staff.one("#who [name=reason]").get_property("value") == "a letter of today"
 
 def test_deed_is_replaced_only_when_that_is_agreed(staff):
     stands, then = "It stands: B. Donor, signed on 2020-02-29.", "Then: E. Müller, signed on 2020-02-29."

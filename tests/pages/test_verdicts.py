@@ -52,16 +52,14 @@ def test_file_is_found_by_name_disk_or_rule_and_saved_without_formula(museum, st
     words = ["the staff", "read it", "", "R7.20", "rule 20 of deed 7", "1066", "", "7", "d64", "0", "", "../../X"]
     assert (rows[0][1], rows[0][3:]) == (STOOD, [*words, "../../X", "SEQ", "4", ""])
 
-def test_day_that_is_over_is_said_to_be_by_rules_of_today(staff):
-    """In the view, and in the table that is saved, which has to be true by itself."""
+def test_day_that_is_over_is_said_to_be_by_rules_of_today_in_the_view_and_in_the_saved_table(staff):
     look(staff, "1999-01-01", words="LOGBOOK")
     headings = staff.texts("#eyes .stands h2")
     assert headings == [f"What the public gets on 1999-01-01, {PAST}"], "a day that is over is told as if it were known"
     staff.push("Save what is shown as CSV")
-    [saved] = csv.DictReader(staff.saved("public-1999-01-01.csv").decode().splitlines())
-    assert [saved[key] for key in ("day", "by which rules", "audience", "they may", "because", "faults")] == [
-        "1999-01-01", PAST, "the public", EFFECTS["list"], UNSERVED["SEQ"][2:-1], "read-error"]
-    assert saved["asked at"].startswith(f"{TODAY}T12:")
+    _, saved = saved_table(staff, "public-1999-01-01.csv")
+    assert (saved[:2], saved[2][:14]) == (["1999-01-01", PAST], f"{TODAY}T12:")
+    assert saved[3:6] == ["the public", EFFECTS["list"], UNSERVED["SEQ"][2:-1]]
 
 def test_timeline_has_the_next_change_first_and_says_what_is_other_on_each_day(museum, staff):
     museum.rules["R9"][5] = museums.rule(5, "deny", ["public"], {"slot": 0}, *DAYS[:2])

@@ -58,6 +58,8 @@ const [place, done] = arguments;
 window.addEventListener("hashchange", () => setTimeout(done), { once: true });
 if (location.hash === place) window.dispatchEvent(new HashChangeEvent("hashchange")); else location.hash = place;
 """
+# A script: a change that is done has emptied the reason, and each click types it again.
+AGAIN = "addEventListener('click', () => { document.forms.who.elements.reason.value ||= 'a letter of today'; }, true)"
 # A script: gives a field a value, as somebody who types or chooses it.
 SET = """
 const [field, value] = arguments;
@@ -201,24 +203,15 @@ class ReadersPage(Page):
         return self.push("Use it")
 
 class StaffPage(Page):
-    """The staff's page. A change that is done empties the reason, and a click types it again."""
-
-    reason = "a letter of today"
-
-    def click(self, selector):
-        self.fill("who", reason=self.reason)
-        return super().click(selector)
-
-    def push(self, button):
-        self.fill("who", reason=self.reason)
-        return super().push(button)
+    """The staff's page."""
 
     def begin(self):
         """Gives the page the key of the staff, and types who works and why."""
         self.one("#key").send_keys(STAFF)
         self.one("#key-form button").click()
         self.wait(lambda state: not state["busy"] and "takes this key" in state["status"], "a key that is taken")
-        self.fill("who", name="Ada Archivist", reason=self.reason)
+        self.script(AGAIN)
+        self.fill("who", name="Ada Archivist", reason="a letter of today")
         return self
 
     def set(self, selector, value):
