@@ -43,10 +43,10 @@ begins() {
 word=$1
 for service in "$@"; do
     service=${service%.service} at=; case $service in *@*) at=${service#*@}; esac; pid=/run/desk$at.pid
-    staff="nginx -c /etc/desk${at:+-$at}/staff-nginx.conf"
+    door="nginx -c /etc/desk${at:+-$at}/staff-nginx.conf"
     case $word-$service in
     start-desk | enable-desk@*) begins ;; stop-desk) ends ;; restart-desk) ends; begins ;; status-desk) answers ;;
-    start-desk-staff | restart-desk-staff | enable-desk-staff@*) $staff ;; stop-desk-staff) $staff -s stop ;;
+    start-desk-staff | restart-desk-staff | enable-desk-staff@*) $door ;; stop-desk-staff) $door -s stop 2>/dev/null ;;
     status-desk-staff) ss -ltn | grep -q :8043 ;; show-*) echo LoadState=loaded; echo ActiveState=active ;;
     restart-nginx) nginx ;; reload-nginx) nginx -s reload 2>/dev/null || echo failed ;; status-nginx) nginx -t -q ;;
     esac
