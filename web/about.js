@@ -20,13 +20,13 @@ function pageOf(address) {
   return ["http:", "https:"].includes(protocol) ? href : null;
 }
 
-// A link that begins a mail to the staff about a disk or a file; where the museum gives no address, words.
-export function askStaff(words, of) {
-  const phone = about.phone ? [" or call ", element("span", about.phone, { className: "phone" })] : [];
-  if (about.mail === undefined) return box("span", "", "To ask about it, turn to the museum's staff", ...phone, ".");
+// How to ask the staff about a disk or a file: their address, which begins a mail, and what they give as their phone.
+export function askStaff(what, of) {
+  const phone = about.phone ? [", or call ", element("span", about.phone, { className: "phone" })] : [];
   const [subject, body] = [of, `\n\n${location.href}`].map(encodeURIComponent);
-  const link = element("a", words, { href: `mailto:${about.mail}?subject=${subject}&body=${body}` });
-  return box("span", "", link, ...phone);
+  const link = element("a", about.mail, { href: `mailto:${about.mail}?subject=${subject}&body=${body}` });
+  const whom = about.mail ? ["Write to ", link] : ["Turn to the museum's staff"];
+  return box("span", "", ...whom, ` about ${what}`, ...phone, ".");
 }
 
 // Rows that are no name and value, values that are too long, and links to anything but pages are left out.

@@ -1,6 +1,6 @@
 // One disk: its title, what may be read of it, and its directory as its own machine shows it.
 import { askStaff } from "./about.js";
-import { allDisks, familyOf, mayRead, nameOfDisk, nameOfFile, typeWords } from "./room.lists.js";
+import { allDisks, familyOf, lastShown, mayRead, nameOfDisk, nameOfFile, typeWords } from "./room.lists.js";
 import { button, citation, filesOf, link, neighbours, numberOf, permission, quoting, rulesOf } from "./room.parts.js";
 import { directoryScreen } from "./screen.js";
 import { askObject, box, cell, counted, element, kindWords, loaded, refusal, row, table } from "./shared.js";
@@ -9,12 +9,13 @@ import { noteOf } from "./titles.js";
 function fileRow(kind, accession, file, hasUsers) {
   const name = nameOfFile(kind, file);
   const { word, colour, why } = permission(file);
-  const shown = mayRead(file) ? link(name, `${accession}/${file.slot}`) : element("span", name);
-  const may = box("span", "", element("span", word, { className: `badge ${colour}` }));
+  const way = (words, more) => (why ? element("span", words) : link(words, `${accession}/${file.slot}`, more));
+  const badge = way(word, { ariaLabel: `${word}: ${name}`, tabIndex: -1 });
+  const may = box("span", "", Object.assign(badge, { className: `badge ${colour}` }));
   if (why) may.append(" ", element("small", why));
   const type = box("span", "", file.type, " ", element("small", typeWords(kind, file)));
   return row([
-    cell("Name", shown, "name"),
+    cell("Name", way(name), "name"),
     cell("Type", type, "type"),
     cell("Bytes", file.size === null ? "" : file.size.toLocaleString("en"), "number"),
     ...(hasUsers ? [cell("User", `user ${file.user}`)] : []),
@@ -50,10 +51,12 @@ function machine(disk) {
 }
 
 async function otherDisks(accession) {
-  const disks = await allDisks().catch(() => []);
-  const at = disks.findIndex((disk) => disk.accession === accession);
+  const isIt = (disk) => disk.accession === accession;
+  const listed = lastShown().some(isIt) ? lastShown() : null;
+  const disks = listed ?? (await allDisks().catch(() => []));
+  const at = disks.findIndex(isIt);
   const wayTo = (disk) => ({ words: nameOfDisk(disk.accession), place: disk.accession });
-  return at < 0 ? null : neighbours("disk", disks, at, wayTo);
+  return at < 0 ? null : neighbours("disk", disks, at, wayTo, listed ? "" : ", by number");
 }
 
 export async function showDisk(number) {
@@ -68,7 +71,7 @@ export async function showDisk(number) {
   Object.assign(list, { id: "files", className: "files" });
   const none = element("p", "There is no file on it that you may see.", { className: "callout" });
   const words = `${rulesOf(files)}Deed ${deed} is the paper by which the disk came to the museum. `;
-  const why = box("p", "quiet", words, askStaff("Ask the staff about this disk", `Disk ${accession}: ${title}`));
+  const why = box("p", "quiet", words, askStaff("this disk", `Disk ${accession}: ${title}`));
   const quotes = quoting(() => citation(accession));
   const text = box("div", "", ...zipWay({ accession, kind, files, quotes }), files.length ? list : none, why);
   const aside = files.length ? machine({ kind, accession, files }) : "";

@@ -82,12 +82,6 @@ function coloured(text) {
   return [...parts, text.slice(at)];
 }
 
-function stage() {
-  const made = element("pre", null, { id: "bytes", className: "bytes", tabIndex: 0, role: "region" });
-  made.ariaLabel = "What is in the file";
-  return made;
-}
-
 function choices(views) {
   const made = views.map((view) => button(view.word, () => showBytes(views, view), { id: view.id }));
   const swap = () => {
@@ -159,13 +153,14 @@ export async function showFile(number, slot) {
     const size = counted(bytes.length, "byte");
     return citation(accession, `, file \u201c${heading}\u201d (slot ${slot}, ${file.type}, ${size}${sum})`);
   });
-  const question = askStaff("Ask the staff about this file", `Disk ${accession}, slot ${slot}: ${heading}`);
+  const question = askStaff("this file", `Disk ${accession}, slot ${slot}: ${heading}`);
   const facts = factsOf({ kind, accession, file, bytes, digest, files });
   const aside = box("aside", "card", facts, box("div", "cluster", save, ...quotes.buttons), quotes.says, question);
   aside.ariaLabel = "About the file";
   const image = element("div", null, { id: "picture", className: `monitor ${kind === "cpm8" ? "cpm8" : "d64"}` });
   const says = element("p", null, { id: "shown-as", className: "quiet" });
-  const main = box("div", "", choices(views), says, image, stage());
+  const stage = element("pre", null, { id: "bytes", tabIndex: 0, role: "region", ariaLabel: "What is in the file" });
+  const main = box("div", "", choices(views), says, image, stage);
   const fill = () => {
     download = URL.createObjectURL(new Blob([bytes], { type: "application/octet-stream" }));
     save.href = download;

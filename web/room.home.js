@@ -2,9 +2,9 @@
 // the disks as a list or as the screens of their machines. All that is chosen stands in the address.
 import { welcome } from "./about.js";
 import { allDisks, allFiles, familyOf, found, kept, known, nameOfDisk, nameOfFile } from "./room.lists.js";
-import { plain, wordsOf } from "./room.lists.js";
+import { plain, showsNow, wordsOf } from "./room.lists.js";
 import { filesOf, link, ways } from "./room.parts.js";
-import { askObject, box, counted, element, keyInUse, kindWords, loaded } from "./shared.js";
+import { askObject, box, counted, element, kindWords, loaded } from "./shared.js";
 import { noteOf } from "./titles.js";
 
 const PAGE = 48;
@@ -16,7 +16,7 @@ const SMALL = 500;
 const PAUSE = 250;
 const HAS_ROOM = matchMedia("(min-width: 60rem)");
 const SORTS = { title: "Title", number: "Number", files: "Most files" };
-const LOOKS = { list: "List", screens: "Screens" };
+const LOOKS = { list: "List", screens: "Directories" };
 const KINDS = { "": "All", d64: kindWords("d64"), cpm8: kindWords("cpm8") };
 const TYPES = { picture: "Pictures", PRG: "Programs", SEQ: "Texts and data", TXT: "Texts", COM: "Commands" };
 const USUAL = { sort: "title", as: "list", page: "1" };
@@ -35,7 +35,7 @@ function placeOf(choices) {
 function marked(text, words) {
   const made = box("span", "");
   const low = plain(text);
-  const pieces = words.flat().filter((piece) => low.length === text.length && low.includes(piece));
+  const pieces = words.flat(2).filter((piece) => low.length === text.length && low.includes(piece));
   for (let at = 0; at < text.length; ) {
     const next = pieces.map((piece) => [low.indexOf(piece, at), piece.length]).filter(([place]) => place >= 0);
     const [place, length] = next.sort(([one], [other]) => one - other)[0] ?? [text.length, 0];
@@ -73,7 +73,7 @@ function diskCard({ disk, matches }, files, machine, words) {
   const { accession, kind } = disk;
   const title = link("", accession, { className: "disk-title" });
   title.append(marked(nameOfDisk(accession), words));
-  const facts = `Disk ${accession} \u00b7 ${kindWords(kind)} \u00b7 ${counted(disk.files, "file")}`;
+  const facts = `Disk ${accession} \u00b7 ${kindWords(kind)} \u00b7 ${counted(disk.files, "file")} to see`;
   const note = noteOf(accession) ? box("p", "", marked(noteOf(accession), words)) : null;
   const named = matches.slice(0, MOST_MATCHES).map((file) => {
     const way = link("", `${accession}/${file.slot}`, { className: "name" });
@@ -112,13 +112,14 @@ function letters(hits, choices) {
 }
 
 function summary(hits, counts, { q, type, kind }, isRead) {
-  const disks = counted(hits.length, "disk");
-  const files = counted(counts.files, "file");
-  const whom = keyInUse() === "" ? "everybody" : "you";
-  if (!q && !type) return `${disks} ${kind ? "of this kind " : ""}with ${files}, open to ${whom}.`;
-  if (!isRead) return "Reading the list of all files.";
-  if (!hits.length) return "Nothing that you may see has these words. Try fewer, or another type of file.";
-  return `Found: ${disks} and ${files}.`;
+  const [disks, files] = [counted(hits.length, "disk"), counted(counts.files, "file")];
+  const [read, listed] = [counts.read, counts.files - counts.read].map((count) => count.toLocaleString("en"));
+  if ((q || type) && !isRead) return "Reading the list of all files.";
+  if (hits.length && (q || type)) return `Found: ${disks} and ${files}.`;
+  if (hits.length) return `${disks} with ${files}${isRead ? `: ${read} to read, ${listed} only listed` : ""}.`;
+  const other = wordsOf(q).length > 1 ? "fewer words" : "another word";
+  const ways = [q && other, type && "all types of files", kind && "all kinds of disks"].filter(Boolean);
+  return `Nothing was found. Try ${ways.join(", or ")}.`;
 }
 
 // The box to search in: what is typed there changes the address.
@@ -176,9 +177,10 @@ export async function showHome(choices, progress) {
     const { shown, nav } = pages(hits, now);
     const cards = shown.map((hit) => diskCard(hit, files, machine, words));
     const list = cards.length ? box("ul", `disks as-${now.as === "screens" ? "screens" : "list"}`, ...cards) : "";
+    showsNow(hits.map(({ disk }) => disk));
     const title = element("h2", now.q || now.type || now.kind ? "What was found" : "All disks");
-    const chance = hits[Math.floor(Math.random() * hits.length)];
-    const head = box("div", "head", title, chance ? link("Open one by chance", chance.disk.accession) : null);
+    const chance = hits[Math.floor(Math.random() * hits.length)]?.disk.accession;
+    const head = chance && box("div", "head", title, link("Open one by chance", chance));
     results.replaceChildren(...[head, bar(counts, now), letters(hits, now), list, nav].filter(Boolean));
     progress(summary(hits, counts, now, files));
   }

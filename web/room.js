@@ -54,18 +54,14 @@ function refusedView({ accession, slot }, fault) {
   }
   const disk = accession && nameOfDisk(Number(accession));
   const of = `Disk ${accession}${slot ? `, slot ${slot}` : ""}: ${disk}`;
-  const ways = box("p", "cluster", accession ? askStaff("Ask the staff about it", of) : null);
-  if (slot) ways.append(link("The other files of this disk", accession));
-  else ways.append(link("All disks", ""));
+  const ways = box("p", "cluster", accession ? askStaff("it", of) : null);
+  ways.append(slot ? link("The other files of this disk", accession) : link("All disks", ""));
   const heading = slot ? `${disk}, slot ${slot}` : (disk ?? "There is no such place here");
   return { heading, parts: [refusal(fault), ways] };
 }
 
 // A title for the window; that of the home says what was looked for.
-function entitle(title) {
-  document.title = title === house() ? title : `${title} \u2013 ${house()}`;
-}
-
+const entitle = (title) => Object.assign(document, { title: [...new Set([title, house()])].join(" \u2013 ") });
 const homeTitle = ({ q }) => (q ? `\u201c${q}\u201d` : room());
 
 function display({ heading, title = heading, isName, parts, fill, change = null, leave = () => {} }, { path, query }) {

@@ -21,6 +21,10 @@ forgetWithKey(() => {
   lists = {};
 });
 
+// The disks in the order in which the home showed them last.
+export const lastShown = () => lists.shown ?? [];
+export const showsNow = (disks) => Object.assign(lists, { shown: disks });
+
 // What was read, or the promise of it, unless it is too old or did not come.
 export function kept(name, read) {
   if (!lists[name] || performance.now() - lists[name].at > KEPT) {
@@ -45,6 +49,11 @@ export const allDisks = () => kept("disks", async () => listOf((await askObject(
 // Small letters without accents, which are alike where somebody looks for something.
 export const plain = (text) =>
   /^[ -~\n]*$/.test(text) ? text.toLowerCase() : text.toLowerCase().normalize("NFD").replace(/\p{M}/gu, "");
+
+// A text without the two dots of its umlauts, and with an e in their place.
+const UMLAUTS = { \u00e4: "ae", \u00f6: "oe", \u00fc: "ue", \u00df: "ss" };
+const withE = (text) => text.toLowerCase().normalize("NFC").replace(/[\xdf-\xfc]/g, (sign) => UMLAUTS[sign] ?? sign);
+const spellings = (text) => [...new Set([text, withE(text)].map(plain))];
 
 // What a file is found by: its name as it was shown and as it is printed, its type, and what it is.
 function fileText(kind, file) {
@@ -79,24 +88,24 @@ async function readFiles(progress) {
 
 export const allFiles = (progress) => kept("files", () => readFiles(progress));
 
-// Words to look for, each as its pieces between stars.
-export const wordsOf = (text = "") => plain(text).split(/\s+/).map((word) => word.split("*").filter(Boolean))
-  .filter((pieces) => pieces.length);
+// Words to look for, each in its spellings, and these as their pieces between stars.
+export const wordsOf = (text = "") => (text.match(/\S*[^\s*]\S*/g) ?? []).map(
+  (word) => spellings(word).map((way) => way.split("*").filter(Boolean)));
 
-// Whether a text has the pieces of a word one after the other.
-function has(text, pieces) {
+// Whether a text has the pieces of a word one after the other, in one of its spellings.
+const has = (text, word) => word.some((pieces) => {
   let at = 0;
   return pieces.every((piece) => {
     const found = text.indexOf(piece, at);
     at = found + piece.length;
     return found >= 0;
   });
-}
+});
 
 // Whether a disk's text has a word; a number counts only as a whole, so that 1 does not find each 1541.
-function inDisk(text, pieces) {
-  const [number] = pieces;
-  return /^\d+$/.test(number) ? new RegExp(`(?<!\\d)${number}(?!\\d)`).test(text) : has(text, pieces);
+function inDisk(text, word) {
+  const [[number]] = word;
+  return /^\d+$/.test(number) ? new RegExp(`(?<!\\d)${number}(?!\\d)`).test(text) : has(text, word);
 }
 
 // The disks in the order of their titles, each with its first letter: articles and accents do not count, and numbers
@@ -112,7 +121,8 @@ export function known(disks) {
 // What a disk is found by, which is kept from the first search on.
 function diskText(item) {
   const { accession, kind } = item.disk;
-  item.text ||= plain(`disk ${accession}\n${titleOf(accession)}\n${noteOf(accession)}\n${kindWords(kind)}`);
+  const texts = [`disk ${accession}`, titleOf(accession), noteOf(accession), kindWords(kind)];
+  item.text ||= spellings(texts.join("\n")).join("\n");
   return item.text;
 }
 
@@ -122,24 +132,19 @@ const NONE = [];
 
 export const familyOf = (kind) => (kind === "cpm8" ? "cpm8" : "d64");
 
-function isOf(kind, file, type) {
-  return file.type === type || (type === "picture" && isPicture(kind, file));
-}
-
-function count(counts, name) {
-  counts.set(name, (counts.get(name) ?? 0) + 1);
-}
+const isOf = (kind, file, type) => file.type === type || (type === "picture" && isPicture(kind, file));
+const count = (counts, name) => counts.set(name, (counts.get(name) ?? 0) + 1);
 
 // The disks that have all words, and the files that have those that their disk lacks, and one at least. The counts are
 // those of the other kinds and types with the same words.
 export async function found(items, files, { q, type, kind, sort }) {
   const words = wordsOf(q);
-  const counts = { kinds: new Map(), types: new Map(), all: 0, files: 0 };
+  const counts = { kinds: new Map(), types: new Map(), all: 0, files: 0, read: 0 };
   const hits = [];
   const look = (item) => {
     const { disk, letter } = item;
-    const missing = words.filter((pieces) => !inDisk(diskText(item), pieces));
-    const isIn = (file) => (pieces) => has(file.text, pieces);
+    const missing = words.filter((word) => !inDisk(diskText(item), word));
+    const isIn = (file) => (word) => has(file.text, word);
     const isNamed = (file) => (missing.length ? missing.every(isIn(file)) : words.some(isIn(file)));
     const all = files?.get(disk.accession) ?? NONE;
     const named = words.length ? all.filter(isNamed) : all;
@@ -154,6 +159,7 @@ export async function found(items, files, { q, type, kind, sort }) {
     count(counts.kinds, familyOf(disk.kind));
     if (!isOfKind) return;
     counts.files += words.length || type ? wanted.length : disk.files;
+    counts.read += wanted.filter(mayRead).length;
     hits.push({ disk, letter, matches: words.length || type ? wanted : NONE });
   };
   await inParts(items, (some) => some.forEach(look));

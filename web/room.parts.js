@@ -50,15 +50,14 @@ export function rulesOf(files) {
   return said.length ? `What decides here: ${said.join(", ")}. ` : "";
 }
 
-const day = () => new Date().toLocaleDateString("en-GB", { day: "numeric", month: "long", year: "numeric" });
-
 // The number of a disk behind its title, where it has one.
 export const numberOf = (accession) => (titleOf(accession) ? `, disk ${accession}` : "");
 
 // How to cite a disk, or with more words a file of it.
 export function citation(accession, more = "") {
   const title = `\u201c${nameOfDisk(accession)}\u201d${numberOf(accession)}`;
-  return `${house()}: ${title}${more}. ${location.href} (read on ${day()}).`;
+  const day = new Date().toLocaleDateString("en-GB", { day: "numeric", month: "long", year: "numeric" });
+  return `${house()}: ${title}${more}. ${location.href} (read on ${day}).`;
 }
 
 // Buttons that copy the address of the view and how to cite it, and the place that says what was copied.
@@ -72,10 +71,10 @@ export function quoting(cite) {
 }
 
 // The ways to what comes before and after in a list, and where in the list this is.
-export function neighbours(what, all, at, wayTo) {
+export function neighbours(what, all, at, wayTo, order = "") {
   const [before, after] = [all[at - 1], all[at + 1]].map((one) => one && wayTo(one));
   const back = before ? link(`\u2190\u00a0${before.words}`, before.place, { rel: "prev" }) : element("span", "");
   const on = after ? link(`${after.words}\u00a0\u2192`, after.place, { rel: "next" }) : element("span", "");
-  const where = element("span", `${at + 1} of ${counted(all.length, what)}`, { className: "quiet" });
+  const where = element("span", `${at + 1} of ${counted(all.length, what)}${order}`, { className: "quiet" });
   return ways(`Other ${what}s`, "neighbours", back, where, on);
 }

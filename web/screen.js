@@ -30,16 +30,16 @@ export function canvasOf({ width, height, inks, isTall }, times = 4) {
 
 // Lines of cells, each the place of a sign, its ink and whether it is reversed, on a screen with a border. A line of a
 // terminal is twice as high, and its ink's darker one is below each row of dots.
-function written(lines, { columns, rows, margin, border, ground, tall = 1 }) {
+function written(lines, { columns, rows, margin, border, ground, tall = 1, gap = 0 }) {
   const width = 8 * columns + 2 * margin;
-  const made = picture(width, 8 * tall * rows + 2 * margin, border);
-  made.fill(margin, margin, 8 * columns, 8 * tall * rows, ground);
+  const made = picture(width, (8 + gap) * tall * rows + 2 * margin, border);
+  made.fill(margin, margin, 8 * columns, (8 + gap) * tall * rows, ground);
   lines.slice(0, rows).forEach((line, y) => {
     line.slice(0, columns).forEach(({ sign, ink, isReverse }, x) => {
       for (let dot = 0; dot < 64; dot += 1) {
         const isSet = (SIGNS[8 * sign + (dot >> 3)] >> (7 - (dot & 7))) & 1;
         if (isSet === Number(isReverse)) continue;
-        const at = (margin + tall * (8 * y + (dot >> 3))) * width + margin + 8 * x + (dot & 7);
+        const at = (margin + tall * ((8 + gap) * y + (dot >> 3))) * width + margin + 8 * x + (dot & 7);
         made.inks[at] = ink;
         if (tall > 1) made.inks[at + width] = ink + 1;
       }
@@ -59,7 +59,7 @@ const typed = (text, ink, isReverse = false) =>
   Array.from(text, (sign) => ({ sign: asciiPlace(sign.charCodeAt(0)), ink, isReverse }));
 
 // How many columns and rows a screen has: that of the machine, or one for a list of disks.
-const SIZES = { whole: { columns: 40, rows: 25, margin: 16 }, small: { columns: 30, rows: 18, margin: 8 } };
+const SIZES = { whole: { columns: 40, rows: 25, margin: 16 }, small: { columns: 30, rows: 16, margin: 8, gap: 1 } };
 
 function c64(lines, { rows, ...size } = SIZES.whole) {
   return written(lines, { ...size, rows: Math.max(rows, lines.length), border: LIGHT_BLUE, ground: BLUE });
@@ -102,7 +102,7 @@ function cpmDirectory({ files }, isSmall) {
     }
   }
   lines.push([...typed("A>", BRIGHT), ...typed(" ", BRIGHT, true)]);
-  const size = isSmall ? { ...SIZES.small, rows: 9 } : { columns: 60, rows: Math.max(20, lines.length), margin: 12 };
+  const size = isSmall ? { ...SIZES.small, rows: 8 } : { columns: 60, rows: Math.max(20, lines.length), margin: 12 };
   return written(lines, { ...size, border: GLASS, ground: GLASS, tall: 2 });
 }
 

@@ -42,8 +42,7 @@ export function wordStarText(bytes) {
 }
 
 const LINE_ENDS = [0x0d, 0x8d];
-const SMALL = 0x0e;
-const CAPITAL = 0x8e;
+const [SMALL, CAPITAL] = [0x0e, 0x8e];
 
 // A text of the 1541: lines end with CR, 0D hex, or with a shifted one, 8D hex. Letters are those of the set with small
 // letters where the text has a shifted one, and else those of the set with which the machine starts.

@@ -15,7 +15,6 @@ from support.samples import reply
 # A script: the link to a disk or a file that is below the head of the window, where there is one.
 IN_SIGHT = """return Array.from(document.querySelectorAll(`#view ${arguments[0]}`))
   .find((one) => one.getBoundingClientRect().top > 100) ?? null"""
-
 KINDS = {"d64": "Commodore 1541", "cpm8": "CP/M, 8 inches"}
 
 @pytest.fixture(scope="module")
@@ -47,7 +46,7 @@ def said(disks, files):
 
 def test_home_counts_disks_and_files_and_shows_them_in_pages(reader, lines):
     disks = list(dict.fromkeys(f"Disk {line['accession']}" for line in lines))
-    words = f"{len(disks)} disks with {len(lines):,} files, open to everybody."
+    words = f"{len(disks)} disks with {len(lines):,} files."
     assert reader.wait(lambda state: state["status"] == words)["disks"] == disks[:48]
     day = reader.script("return Math.floor(Date.now() / 86400000)")
     assert reader.text("figcaption") == f"On the screen today: {disks[day % len(disks)]}"
@@ -87,7 +86,10 @@ def test_words_find_files_and_disks_in_any_order_in_a_list_that_is_fetched_once(
         assert shown["disks"] == [f"Disk {number}" for number in disks[:48]], words
     assert reader.find("seq*notes")["disks"] == []
     reader.type("Search titles, files and numbers", "nowhere")
-    reader.wait(lambda state: "Nothing" in state["status"] and (state["here"], state["disks"]) == ("#/?q=nowhere", []))
+    none = "Nothing was found. Try another word."
+    reader.wait(lambda state: (state["here"], state["status"], state["disks"]) == ("#/?q=nowhere", none, []))
+    none = none.replace("another word", "fewer words, or all types of files, or all kinds of disks")
+    assert (reader.go("?q=no+where&type=SEQ&kind=d64")["status"], reader.texts("#results h2")) == (none, [])
     reader.script("location.hash = '#/find/letter+1'")
     reader.wait(lambda state: state["here"] == "#/?q=letter%2B1", "the search of an address of an earlier page")
     assert [path for _, path, _ in reader.door.visits] == ["/catalogue"]
@@ -107,7 +109,7 @@ def test_facets_narrow_what_was_found_and_count_it(reader, lines):
     assert reader.focused() == f"Texts {len(texts)}"
     assert "Disk 1" not in shown["disks"] and "Commodore 1541 0" in shown["chips"]
     assert f"Texts {len(texts)}" not in reader.go("?q=letter&kind=d64")["chips"]
-    reader.named("link", "Screens").click()
+    reader.named("link", "Directories").click()
     reader.read(lambda state: "as=screens" in state["here"])
     assert len(reader.texts("#results canvas")) == 48
 

@@ -232,7 +232,7 @@ def test_disk_with_most_files_and_a_picture_is_found_and_short_on_a_phone_beside
     reader.go("2003")
     shown = "const at = document.querySelector('figure canvas'); return [at.role, at.ariaDetailsElements[0].tagName]"
     assert reader.script(shown) == ["img", "TABLE"]
-    assert reader.texts(".neighbours > *") == ["←\u00a0Disk 2002", "6 of 6 disks", ""]
+    assert reader.texts(".neighbours > *") == ["", "1 of 6 disks", "Disk 2001\u00a0→"]
     with reader.phone():
         assert reader.script("return document.querySelector('table').offsetHeight") <= 1100
 

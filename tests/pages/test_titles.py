@@ -4,8 +4,9 @@ import pytest
 from support import museums
 from support.museums import HARMFUL
 
-PUBLIC = "\r\n".join(["\ufeffaccession,title,note", f"1002,{HARMFUL[2]},", "1004,A disk that is closed,hush",
+PUBLIC = "\r\n".join(["\ufeffaccession,title,note", f"1002,{HARMFUL[2]},Müller: Straße", "1004,A disk that is closed,hush",
                      '1001,Letters of a Férryman,"Written on the river, 1983 to 1986"', "0,no disk,", ""])
+UMLAUTS = "müller", "MU\u0308LLER", "mueller", "muller", "M*ller strasse", "Mü*er straße"
 FOR_STAFF = "accession,title,note\n1001,Letters (the ferry company asks for care),see the file\n1005,=1+1,\n"
 ABOUT = """name,value
 museum,"Museum of the River, Lower Valley"
@@ -28,13 +29,12 @@ def test_titles_and_notes_for_readers_are_shown_and_found(reader):
     assert shown["disks"] == [HARMFUL[2], "Letters of a Férryman", "Disk 1003"]
     assert reader.harmed() == [None, 0]
     shown = reader.go("1001")
-    assert shown["heading"] == "Letters of a Férryman"
-    assert shown["title"] == "Letters of a Férryman, disk 1001 – The reading room"
+    ferry = ["Letters of a Férryman"]
+    assert (shown["heading"], shown["title"]) == (*ferry, f"{ferry[0]}, disk 1001 – The reading room")
     facts = "Disk 1001 · CP/M, 8 inches · 2 files for you to see"
     assert reader.texts("#view > p") == [facts, "Written on the river, 1983 to 1986"]
-    ferry = ["Letters of a Férryman"]
     wanted = {"FERRY": ferry, "letters river 1984": [], "1986 letters river": ferry, "hush": [], "welcome": ferry,
-              "1001": ferry, "ferryman welcome": ferry, "damaged": []}
+              "1001": ferry, "ferryman welcome": ferry, "damaged": [], **dict.fromkeys(UMLAUTS, [HARMFUL[2]])}
     for words, disks in wanted.items():
         assert reader.find(words)["disks"] == disks, words
     assert [reader.find("welcome river")["matches"], reader.texts("mark")] == [["WELCOME.TXT"], ["river", "WELCOME"]]
@@ -63,8 +63,7 @@ def test_room_is_the_museums_in_head_foot_title_and_refusals(museum, tmp_path, r
     assert shown["title"] == "The reading room – Museum of the River, Lower Valley"
     assert reader.texts(".brand > *") == ["Museum of the River, Lower Valley", "The reading room"]
     links = "return Array.from(document.querySelectorAll(arguments[0]), (one) => decodeURIComponent(one.href))"
-    foot = reader.script(links, "#foot a")
-    assert foot == ["mailto:room@museum.example", f"{reader.door.address}imprint.html"]
+    assert reader.script(links, "#foot a") == ["mailto:room@museum.example", f"{reader.door.address}imprint.html"]
     assert reader.texts("#foot p")[0] == "Museum of the River, Lower Valley" and "one" not in reader.text("#foot")
     museum.rules["T1001"] = {1: museums.rule(1, "deny", ["public"], {"slot": 0})}
     for place, subject in (("1001", "Disk 1001"), ("1001/0", "Disk 1001, slot 0")):
@@ -72,4 +71,4 @@ def test_room_is_the_museums_in_head_foot_title_and_refusals(museum, tmp_path, r
         [mail] = reader.script(links, "#view a[href^=mailto]")
         assert mail.startswith(f"mailto:room@museum.example?subject={subject}: Letters of a Férryman&body=")
         assert mail.endswith(f"#/{place}")
-    assert "or call +49 89 555" in reader.text("#view")
+    assert "Write to room@museum.example about it, or call +49 89 555." in reader.text("#view")
