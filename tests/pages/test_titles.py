@@ -4,7 +4,7 @@ import pytest
 from support import museums
 from support.museums import HARMFUL
 
-PUBLIC = "\r\n".join(["\ufeffaccession,title,note", f"1002,{HARMFUL[2]},Müller: Straße", "1004,A disk that is closed,hush",
+PUBLIC = "\r\n".join(["\ufeffaccession,title,note", f"1002,{HARMFUL[2]},Müllerstraße", "1004,Not open,hush",
                      '1001,Letters of a Férryman,"Written on the river, 1983 to 1986"', "0,no disk,", ""])
 UMLAUTS = "müller", "MU\u0308LLER", "mueller", "muller", "M*ller strasse", "Mü*er straße"
 FOR_STAFF = "accession,title,note\n1001,Letters (the ferry company asks for care),see the file\n1005,=1+1,\n"
@@ -41,7 +41,7 @@ def test_titles_and_notes_for_readers_are_shown_and_found(reader):
 
 def test_titles_for_the_staff_go_before_those_for_all(staff):
     mine = "1001Letters (the ferry company asks for care)"
-    wanted = [mine, f"1002{HARMFUL[2]}", "1003", "1004A disk that is closed", "1005=1+1", "1006"]
+    wanted = [mine, f"1002{HARMFUL[2]}", "1003", "1004Not open", "1005=1+1", "1006"]
     assert [row[0] for row in staff.go("checks")["rows"]] == wanted
     hint = "“Letters (the ferry company asks for care)”. Rank 1000: it is the first takedown of disk 1001."
     assert staff.go("takedowns/1001")["hint"] == hint
