@@ -80,7 +80,7 @@ class Museum:
     @contextlib.contextmanager
     def serving(self):
         """A desk that serves the museum, with the variable of the C library that the service sets."""
-        service = bytes_of("operate", "desk.service").decode()
+        service = bytes_of("operate", "package", "desk.service").decode()
         trim = re.findall(r"^Environment=(MALLOC_TRIM_THRESHOLD_)=(\d+)$", service, re.M)
         assert trim, "desk.service does not say when memory goes back to the system"
         with Serving(self.program, self.store, environment=trim) as server:
