@@ -1,6 +1,6 @@
 """The texts of help in rd_commands are those that `clap` makes of the command line; and the line of one command, which
 the program builds, answers as that of all does. `rt try` runs `clap`, with no proof, in a minute or two; what help.rt
-would be by it is then in out/help.rt, and `rt fmt` lays that out."""
+would be by it is then in out/help.txt, and `rt fmt` lays that out in its place."""
 
 import re
 import subprocess
@@ -70,7 +70,7 @@ def answers(tmp_path_factory):
     found = {words: (one, all_) for words, one, all_ in zip(asked, parts[::2], parts[1::2])}
     made = TEXT.sub(lambda text: f'pub const {text[1]}_HELP: &str = "{found[ASKS[text[1]][0]][0]}";', HELP)
     (ROOT / "out").mkdir(exist_ok=True)
-    (ROOT / "out" / "help.rt").write_text(made, encoding="utf-8")
+    (ROOT / "out" / "help.txt").write_text(made, encoding="utf-8")
     return found
 
 def test_each_command_has_a_text():
