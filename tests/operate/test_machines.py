@@ -65,8 +65,7 @@ TAKEDOWN = (f"{VISIT}/images/13/files/2", '{"error":"denied","rule":"T13.1"}')
 INSTALLED = [
     ("systemctl is-active desk nginx desk-staff desk-space desk-backup.timer desk-check.timer desk-look.timer; "
      "systemctl is-enabled desk desk-backup.timer", "\n".join(["active"] * 7 + ["enabled"] * 2)),
-    # nobody knows whether a network sets the clock of the machine that boots it
-    ("echo CLOCK=alone >>/etc/desk/places; systemctl show -P WatchdogTimestamp desk | grep -c .", "1"),
+    ("systemctl show -P WatchdogTimestamp desk | grep -c .", "1"),
     (f"{VISIT}/ | {TITLE}", "<title>The reading room</title>"), (SUMS, "8"),
     (f"curl -s {DOOR}/ | {TITLE}", "<title>The staff's page</title>"),
     ("runuser -u nobody -- curl -s --unix-socket /run/desk/socket http://x/; echo $?", "7"),
@@ -75,7 +74,9 @@ INSTALLED = [
     ("dpkg --verify nginx-common nginx desk; echo $?", "0"),
     ("systemd-analyze verify --man=no /lib/systemd/system/desk*.service /lib/systemd/system/desk*.timer; echo $?", "0"),
     (f"stat -c '%U:%G %a' /var/lib/desk {BACKUPS} /var/log/desk /etc/desk/site.key /etc/desk/staff-key",
-     "desk:desk 700\nroot:root 700\nroot:www-data 750\nroot:root 600\nroot:root 600")]
+     "desk:desk 700\nroot:root 700\nroot:www-data 750\nroot:root 600\nroot:root 600"),
+    # nobody knows whether a network sets the clock of the machine that boots it
+    ("echo CLOCK=alone >>/etc/desk/places", "")]
 FILLED = [
     (f"sed -i 's/server_name _;/server_name {SITE};/' /etc/desk/site-name; systemctl reload nginx; {HEALTHY}",
      DONE),
