@@ -1,6 +1,7 @@
 ghost use Rattle.std.specs.Io.KnownBytes.{Keeps};
-ghost use Rattle.std.specs.Prelude.{◌≡◌, IfOk, IsTrue, None, OnOk, false, true};
+ghost use Rattle.std.specs.Prelude.{◌≡◌, IfOk, IsTrue, None, OnOk, false, refl, true};
 ghost use Rattle.rd_messages.specs.Streams.{limits_of};
+ghost use Rattle.rd_program.specs.World.{nothing_shown};
 
 use crate::places::{HostListener, at_port, at_socket};
 use rd_http::{Clock, Door, StreamDoor, TimeLimits};
@@ -370,17 +371,7 @@ impl<'a, D: Door + Drop, P: Places<D> + Drop> Machine for Host<'a, D, P> {
 
     type Door = D;
 
-    ghost shows = { λ _. false };
-
-    ghost clock = { λ _. None };
-
-    ghost door = { λ _ _. None };
-
-    ghost door_limits = { λ _. None };
-
-    ghost stands = { λ _ _. None };
-
-    ghost left = { λ _. None };
+    ghost seen = { λ _. nothing_shown };
 
     /// It also fails where the path of the folder is empty, which is no folder's.
     fn write_new(
@@ -503,6 +494,8 @@ impl<'a, D: Door + Drop, P: Places<D> + Drop> Machine for Host<'a, D, P> {
         }
         Ok(&mut self.doors[last])
     }
+
+    ghost gives = { λ _. (refl, refl) };
 }
 
 /// A writer, and what the system said when it last did not take what was written.

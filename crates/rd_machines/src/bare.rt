@@ -1,6 +1,7 @@
 //! A machine without anything.
 
-ghost use Rattle.std.specs.Prelude.{None, false};
+ghost use Rattle.std.specs.Prelude.{None, refl};
+ghost use Rattle.rd_program.specs.World.{nothing_shown};
 
 use rd_http::{MemoryDoor, TimeLimits};
 use rd_program::{Files, Machine, MachineFault, Place, WriteFault};
@@ -38,17 +39,7 @@ impl Machine for Bare {
 
     type Door = MemoryDoor;
 
-    ghost shows = { λ _. false };
-
-    ghost clock = { λ _. None };
-
-    ghost door = { λ _ _. None };
-
-    ghost door_limits = { λ _. None };
-
-    ghost stands = { λ _ _. None };
-
-    ghost left = { λ _. None };
+    ghost seen = { λ _. nothing_shown };
 
     fn connect(
         &mut self,
@@ -92,4 +83,6 @@ impl Machine for Bare {
     ) -> Result<&mut MemoryDoor, MachineFault> {
         Err(MachineFault::Failed)
     }
+
+    ghost gives = { λ _. (refl, refl) };
 }

@@ -1,6 +1,6 @@
 //! A machine with one store, which stays between runs.
 
-ghost use Rattle.std.specs.Prelude.{◌≡◌, Err, IfOk, IfSome, None, Ok, Option, Some, true, ℤ};
+ghost use Rattle.std.specs.Prelude.{◌≡◌, Err, IfOk, IfSome, None, Ok, Option, Some, refl, true, ℤ};
 
 use rd_http::{MemoryDoor, TimeLimits};
 use rd_program::{
@@ -159,21 +159,22 @@ impl<P: Supply + Drop, S: Alter + Drop> Machine for Museum<P, S> {
 
     type Door = MemoryDoor;
 
-    ghost shows = { λ _. true };
-
-    ghost clock = { λ machine. P.clock machine.supply };
-
-    ghost door = { λ machine _. Some machine.door };
-
-    ghost door_limits = { λ machine. machine.limits };
-
-    ghost stands = { λ machine _. machine.conn };
-
-    ghost left = { λ machine. machine.conn };
-
-    ghost fresh = { λ machine _. machine.fresh };
-
-    ghost made = { λ machine. machine.fresh };
+    ghost seen = { λ machine. record {
+      shows = true;
+      clock = P.clock machine.supply;
+      files = λ _. None;
+      sheets = λ _. None;
+      stands = λ _. machine.conn;
+      left = machine.conn;
+      fresh = λ _. machine.fresh;
+      made = machine.fresh;
+      wanted = None;
+      sums = None;
+      new_stores = None;
+      doors = λ _. Some machine.door;
+      limits = machine.limits;
+      written = None;
+    } };
 
     /// It also fails at a path without a store, and if the store has not come back, or is inside a
     /// transaction.
@@ -258,4 +259,6 @@ impl<P: Supply + Drop, S: Alter + Drop> Machine for Museum<P, S> {
         self.limits = Some(limits);
         Ok(&mut self.door)
     }
+
+    ghost gives = { λ _. (refl, refl) };
 }

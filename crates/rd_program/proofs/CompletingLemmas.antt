@@ -22,7 +22,8 @@ use Rattle.rd_commands.specs.declared.words.OneQuestionAsk.{OneQuestionAsk}
 use Rattle.rd_commands.specs.declared.words.SiftAsk.{SiftAsk}
 use Rattle.rd_commands.specs.declared.words.Ask.TheVariants.{Copy, Extract, File, Files, Import, Init, OneQuestion, Serve, Sift, StaffKey}
 use Rattle.rd_program.specs.Completing.{AreOperands, Completes, IsDated, IsKeyAt, IsKeyRead, IsKeyed, IsKeyedBy, IsZoneRead, IsZoned, IsZonedBy, with_key, with_moment, with_zone}
-use Rattle.rd_program.specs.Extracting.{ExtractsBy, Made}
+use Rattle.rd_program.specs.Extracting.{ExtractsBy}
+use Rattle.rd_program.specs.World.{Made}
 use Rattle.rd_commands.proofs.ReadLimits.{reads_after}
 use Rattle.rd_program.proofs.Plain.{extraction_plain, image_plain}
 

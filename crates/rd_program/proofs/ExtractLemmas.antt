@@ -8,7 +8,8 @@ use Rattle.rd_commands.specs.declared.refusal.Refusal.{Refusal}
 use Rattle.rd_commands.specs.declared.words.Ask.{Ask}
 use Rattle.rd_commands.specs.declared.words.Ask.TheVariants.{Extract}
 use Rattle.rd_commands.specs.declared.words.ExtractAsk.{ExtractAsk}
-use Rattle.rd_program.specs.Extracting.{Extracts, ExtractsBy, IsFilesRefusal, Made, OfImage, RefusesExtract}
+use Rattle.rd_program.specs.Extracting.{Extracts, ExtractsBy, IsFilesRefusal, OfImage, RefusesExtract}
+use Rattle.rd_program.specs.World.{Made}
 
 -- a refusal of it is no mistake in the words
 pub files_never : (refusal : Refusal) → IsFilesRefusal refusal → status_of refusal ≢ 2

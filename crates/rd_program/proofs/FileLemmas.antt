@@ -1,5 +1,5 @@
 -- What is given of a file of the machine, by the words.
-use Rattle.std.proofs.Common.{◌≡◌, ◌≢◌, Bool, ℕ, List, Err, IsTrue, Ok, OnOk, Option, Result, IfSome, codes, inl, inr, subst, sym, ◌∙◌}
+use Rattle.std.proofs.Common.{◌≡◌, ◌≢◌, Bool, ℕ, List, Err, IfErr, IsTrue, Ok, OnOk, Option, Result, IfSome, codes, inl, inr, subst, sym, ◌∙◌}
 use Rattle.std.specs.Prelude.{⊤}
 use Rattle.rd_geometry.specs.declared.kind.Kind.{Kind}
 use Rattle.rd_commands.specs.Asks.{IsFileAsk, IsFilesAsk}
@@ -16,6 +16,19 @@ use Rattle.rd_commands.specs.declared.done.Done.{Done}
 use Rattle.rd_commands.specs.declared.words.Ask.{Ask}
 use Rattle.rd_commands.specs.declared.words.Ask.TheVariants.{File, Files}
 use Rattle.rd_program.specs.DiskFiles.{GivesFile, IsOfImage}
+
+-- what is so of the bytes that a machine gives is so of those that it shows
+pub shown_as : (shown given : List ℕ → Option (List ℕ)) (path : List ℕ) (P : List ℕ → Type 0) → shown ≡ given → IfSome (given path) P → IfSome (shown path) P
+shown_as shown given path P same fact = subst (λ (files : List ℕ → Option (List ℕ)). IfSome (files path) P) (sym same) fact
+
+-- and so it is of a fact beside a result
+pub done_as : {T : Type 0} (r : Result T Refusal) (shown given : List ℕ → Option (List ℕ)) (path : List ℕ) (P : List ℕ → Type 0) → shown ≡ given
+    → OnOk r (IfSome (given path) P) → OnOk r (IfSome (shown path) P)
+done_as r shown given path P same fact = subst (λ (files : List ℕ → Option (List ℕ)). OnOk r (IfSome (files path) P)) (sym same) fact
+
+pub refused_as : {T : Type 0} (r : Result T Refusal) (shown given : List ℕ → Option (List ℕ)) (path : List ℕ) (P : Refusal → List ℕ → Type 0) → shown ≡ given
+    → IfErr r (λ refusal. IfSome (given path) (P refusal)) → IfErr r (λ refusal. IfSome (shown path) (P refusal))
+refused_as r shown given path P same fact = subst (λ (files : List ℕ → Option (List ℕ)). IfErr r (λ refusal. IfSome (files path) (P refusal))) (sym same) fact
 
 file_of_image : (ask : Ask) (kind : Kind) (image : List ℕ) (slot : ℕ) → IsFileAsk kind image slot ask → IsOfImage ask
 file_of_image (File ask) kind image slot asks = tt

@@ -16,7 +16,8 @@ use Rattle.rd_commands.specs.Refusals.{IsDeviceOrMemory}
 use Rattle.rd_commands.proofs.WriterLemmas.{part_after, whole_part}
 use Rattle.rd_commands.specs.declared.refusal.Refusal.{Refusal}
 use Rattle.rd_commands.specs.declared.refusal.Refusal.TheVariants.{Device, NoMemory, WrongSize}
-use Rattle.rd_program.specs.Extracting.{AreNew, Extracts, ExtractsPart, FailsOne, IsExtractRefusal, IsNewPlace, Made, MakesAll, MakesFiles, MakesNext, OfImage, RefusesExtract, is_given, line_of, made_of}
+use Rattle.rd_program.specs.Extracting.{AreNew, Extracts, ExtractsPart, FailsOne, IsExtractRefusal, IsNewPlace, MakesAll, MakesFiles, MakesNext, OfImage, RefusesExtract, is_given, line_of, made_of}
+use Rattle.rd_program.specs.World.{Made}
 
 -- ---- the bytes of the image
 

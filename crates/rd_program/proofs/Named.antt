@@ -9,8 +9,9 @@ use Rattle.rd_commands.specs.declared.words.Ask.TheVariants.{Copy, Import, Init,
 use Rattle.rd_commands.specs.declared.words.Question.{Question}
 use Rattle.rd_commands.specs.declared.words.Question.TheVariants.{Catalogue, Check, Show}
 use Rattle.rd_program.specs.Asked.{AsksBy, NamesOneStore, NamesStore, SumsBy}
-use Rattle.rd_program.specs.Doors.{Asks, AsksInTurn, AsksNoOther, AsksNoOtherSums, AsksPath, AsksSums, AsksThen, Wanted}
-use Rattle.rd_program.specs.Doors.Wanted.{NewAt, StoreAt}
+use Rattle.rd_program.specs.Doors.{Asks, AsksInTurn, AsksNoOther, AsksNoOtherSums, AsksPath, AsksSums, AsksThen}
+use Rattle.rd_program.specs.World.{Wanted}
+use Rattle.rd_program.specs.World.Wanted.{NewAt, StoreAt}
 use Rattle.rd_program.specs.Leaves.{HasBoth, StandsThere}
 use Rattle.rd_program.proofs.DaylessMoments.{command_at}
 

@@ -13,8 +13,9 @@ use Rattle.rd_commands.specs.declared.words.Ask.{Ask}
 use Rattle.rd_commands.specs.declared.words.Ask.TheVariants.{Copy, Import, Init, OneQuestion, Serve, Sift, StaffKey}
 use Rattle.rd_commands.specs.declared.words.Shown.{Shown}
 use Rattle.rd_commands.specs.Serving.{Place}
-use Rattle.rd_program.specs.Doors.{AsksPath, AsksSums, AsksThen, Wanted}
-use Rattle.rd_program.specs.Doors.Wanted.{NewAt, StoreAt}
+use Rattle.rd_program.specs.Doors.{AsksPath, AsksSums, AsksThen}
+use Rattle.rd_program.specs.World.{Wanted}
+use Rattle.rd_program.specs.World.Wanted.{NewAt, StoreAt}
 use Rattle.rd_program.specs.Leaves.{moment_of}
 use Rattle.rd_program.specs.OnTime.{is_dated}
 use Rattle.rd_program.specs.Serving.{IsUnasked}

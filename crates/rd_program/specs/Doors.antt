@@ -3,11 +3,8 @@ use Rattle.std.specs.Prelude.{◌≡◌, ◌⊎◌, ℕ, Bool, IfSome, IsTrue, L
 use Rattle.std.specs.Borrow.{Fml, LendsSoOk, MutBor, RattleType}
 use Rattle.rd_messages.specs.declared.pace.TimeLimits.{TimeLimits}
 use Rattle.rd_commands.specs.Serving.{Place}
-
--- a connection that was asked for: to the store in the file at a path, or to a new store, in a file there that is new
-pub data Wanted : Type 0 where
-  StoreAt : List ℕ → Wanted
-  NewAt : List ℕ → Wanted
+use Rattle.rd_program.specs.World.{Wanted, World}
+use Rattle.rd_program.specs.World.Wanted.{StoreAt}
 
 -- this one was asked for, and no other
 abbrev pub Asks : Option (List Wanted) → Wanted → Option (List Wanted) → Type 0
@@ -38,19 +35,19 @@ AsksSums old summed new = IfSome old (λ before. new ≡ Some (summed ∷ before
 abbrev pub AsksNoOtherSums : Option (List Bool) → Bool → Option (List Bool) → Type 0
 AsksNoOtherSums old summed new = IfSome old (λ before. (new ≡ Some before) ⊎ (new ≡ Some (summed ∷ before)))
 
--- The machine shows its connections as before, no connection was asked for, and at the place, if it showed the door
--- there, the door as its borrower left it. A machine that shows its connections shows that visitors may take as long as
--- it was told.
-pub record KeepsDoor {M D : Type 0} (shows : M → Bool) (wanted : M → Option (List Wanted)) (limits : M → Option TimeLimits) (doors : M → Place → Option D)
-    (place : Place) (given : TimeLimits) (old new : M) (door : D) : Type 0 where
-  pub shown : shows new ≡ shows old
-  pub asked : wanted new ≡ wanted old
-  pub limited : IsTrue (shows old) → limits new ≡ Some given
-  pub kept : IfSome (doors old place) (λ before. doors new place ≡ Some door)
+-- The machine shows what it showed, but for its clock; at the place, if it showed the door there, the door as its borrower
+-- left it; and, if it shows its connections, that visitors may take as long as it was told.
+pub record KeepsDoor {S D : Type 0} (place : Place) (given : TimeLimits) (old new : World S D) (door : D) : Type 0 where
+  pub frame : new ≡ record old { clock = new.clock; doors = new.doors; limits = new.limits }
+  pub limited : IsTrue old.shows → new.limits ≡ Some given
+  pub kept : IfSome (old.doors place) (λ before. new.doors place ≡ Some door)
+
+-- it shows what it showed, but for its clock
+abbrev pub KeepsAllButClock : {S D : Type 0} → World S D → World S D → Type 0
+KeepsAllButClock old new = new ≡ record old { clock = new.clock }
 
 module _ (R T : RattleType) where
   -- the machine lends the door at a place, and keeps it as its borrower leaves it
-  abbrev pub LendsDoor : {E : Type 0} → (R.Denot → Bool) → (R.Denot → Option (List Wanted)) → (R.Denot → Option TimeLimits) → (R.Denot → Place → Option T.Denot)
-      → Place → TimeLimits → MutBor R.Denot → Result (MutBor T.Denot) E → Fml
-  LendsDoor shows wanted limits doors place given machine lent =
-      LendsSoOk R T machine lent (KeepsDoor shows wanted limits doors place given machine.now) (λ new. (shows new ≡ shows machine.now) × (wanted new ≡ wanted machine.now))
+  abbrev pub LendsDoor : {S E : Type 0} → (R.Denot → World S T.Denot) → Place → TimeLimits → MutBor R.Denot → Result (MutBor T.Denot) E → Fml
+  LendsDoor seen place given machine lent =
+      LendsSoOk R T machine lent (λ new. KeepsDoor place given (seen machine.now) (seen new)) (λ new. KeepsAllButClock (seen machine.now) (seen new))

@@ -16,14 +16,9 @@ use Rattle.rd_commands.specs.declared.refusal.Refusal.{Refusal}
 use Rattle.rd_commands.specs.declared.refusal.Refusal.TheVariants.{Device, Exists, NoMemory, WrongSize}
 use Rattle.rd_commands.specs.declared.words.Ask.{Ask}
 use Rattle.rd_commands.specs.declared.words.Ask.TheVariants.{Extract}
+use Rattle.rd_program.specs.World.{Made}
 use Rattle.rd_program.specs.declared.machine.WriteFault.{WriteFault}
 use Rattle.rd_program.specs.declared.machine.WriteFault.TheVariants as write_fault
-
--- A file that a machine made: in this folder, under this name, with these bytes.
-pub record Made : Type 0 where
-  pub folder : List ℕ
-  pub name : List ℕ
-  pub bytes : List ℕ
 
 -- none of these files is in this folder under this name
 abbrev pub IsNewPlace : List Made → List ℕ → List ℕ → Type 0

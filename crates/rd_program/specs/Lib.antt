@@ -1,6 +1,7 @@
 -- What a command on a store writes, leaves and refuses, over the definitions of `rd_commands` and of the desk; this
 -- project's rules.
 -- ---- what a reader of a public clause believes
+pub mod World
 pub mod Promises
 pub mod Inits
 pub mod Serving

@@ -1,5 +1,5 @@
 -- What a command does, whatever its words: what is written of it, and what becomes of the store, by what it asks for.
-use Rattle.std.specs.Prelude.{◌≡◌, ◌⊎◌, ⊤, ℕ, ℤ, Bool, Err, IfErr, IfOk, IfSome, IsErr, List, Ok, OnOk, Option, Result, codes}
+use Rattle.std.specs.Prelude.{◌≡◌, ◌⊎◌, ⊤, ℕ, Err, IfErr, IfOk, IfSome, IsErr, List, Ok, OnOk, Option, Result, codes}
 use Rattle.std.specs.Io.KnownBytes.{Appends, Keeps}
 use Rattle.httparse.specs.Grammar.{trim_ows}
 use Rattle.sha2.specs.Sha256.{sha256}
@@ -7,7 +7,6 @@ use Rattle.sqlite.specs.Held.{Held}
 use Rattle.sqlite.specs.Store.{Ghosts}
 use Rattle.rd_messages.specs.DoorVisits.{Coming, VisitsSoFar}
 use Rattle.rd_geometry.specs.declared.kind.Kind.{Kind}
-use Rattle.rd_messages.specs.declared.pace.TimeLimits.{TimeLimits}
 use Rattle.rd_commands.specs.Asks.{AsksADesk, AsksCheckOf, IsFileAsk, IsFilesAsk, IsInitAsk, IsServeAsk, IsStaffKeyAsk, most_read}
 use Rattle.rd_commands.specs.Cat.{Refuses, Serves}
 use Rattle.rd_commands.specs.Input.{ReadsUpTo}
@@ -27,9 +26,8 @@ use Rattle.rd_program.specs.Completing.{Completes}
 use Rattle.rd_program.specs.Copying.{CopiesBy}
 use Rattle.rd_program.specs.Asking.{RefusesOneQuestion, TellsCheck}
 use Rattle.rd_program.specs.DiskFiles.{GivesFile, IsOfImage}
-use Rattle.rd_program.specs.Doors.{Wanted}
 use Rattle.rd_program.specs.Importing.{RefusesImport, TellsRows}
-use Rattle.rd_program.specs.Extracting.{ExtractsBy, Made}
+use Rattle.rd_program.specs.Extracting.{ExtractsBy}
 use Rattle.rd_program.specs.Inits.{LeavesInit, MakesDesk, RefusesInit, done_line}
 use Rattle.rd_program.specs.Leaves.{LeavesBy, LeavesRefused, NamesOpening, OnEnded, StandsThere}
 use Rattle.rd_program.specs.OnTime.{IsBehindBy, IsOnTimeBy}
@@ -39,44 +37,7 @@ use Rattle.rd_program.specs.Showing.{AnswersBy, EndsWith}
 use Rattle.rd_program.specs.Sifting.{SiftsBy}
 use Rattle.rd_program.specs.StaffKeys.{LeavesStaffKey, PutsStaff, RefusesStaffKey}
 use Rattle.rd_program.specs.Visiting.{ServesBy}
-
--- What a machine shows of itself.
-pub record Sight (S D : Type 0) : Type 0 where
-  pub shows : Bool
-  pub clock : Option ℤ
-  pub files : List ℕ → Option (List ℕ)
-  pub sheets : List ℕ → Option (List ℕ)
-  pub stands : List ℕ → Option (Held S)
-  pub left : Option (Held S)
-  pub wanted : Option (List Wanted)
-  pub sums : Option (List Bool)
-  pub door : Place → Option D
-  pub limits : Option TimeLimits
-  pub made : Option (Held S)
-  pub fresh : List ℕ → Option (Held S)
-  pub new_stores : Option (List (List ℕ × Bool))
-  pub written : Option (List Made)
-
--- what a machine shows, by each thing that it may show
-abbrev pub sight : {M S D : Type 0} → (M → Bool) → (M → Option ℤ) → (M → List ℕ → Option (List ℕ)) → (M → List ℕ → Option (List ℕ)) → (M → List ℕ → Option (Held S))
-    → (M → Option (Held S)) → (M → Option (List Wanted)) → (M → Option (List Bool)) → (M → Place → Option D) → (M → Option TimeLimits)
-    → (M → Option (Held S)) → (M → List ℕ → Option (Held S)) → (M → Option (List (List ℕ × Bool))) → (M → Option (List Made)) → M → Sight S D
-sight shows clock files sheets stands left wanted sums door limits made fresh new_stores written machine = record {
-  shows = shows machine;
-  clock = clock machine;
-  files = files machine;
-  sheets = sheets machine;
-  stands = stands machine;
-  left = left machine;
-  wanted = wanted machine;
-  sums = sums machine;
-  door = door machine;
-  limits = limits machine;
-  made = made machine;
-  fresh = fresh machine;
-  new_stores = new_stores machine;
-  written = written machine;
-}
+use Rattle.rd_program.specs.World.{World}
 
 -- ---- by what is asked for
 
@@ -106,13 +67,13 @@ ListensBy out written (Serve ask) (Err refusal) = RefusesServe refusal (place_of
 ListensBy out written ask result = ⊤
 
 -- What a command does, by what the machine shows before it and after it, by the input, and by what it wrote.
-pub record Performs {S D : Type 0} (g : Ghosts S) (told : D → Option VisitsSoFar) (coming : D → Option (List Coming)) (before after : Sight S D)
+pub record Performs {S D : Type 0} (g : Ghosts S) (told : D → Option VisitsSoFar) (coming : D → Option (List Coming)) (before after : World S D)
     (input out written : Option (List ℕ)) (ask : Ask) (result : Result Done Refusal) : Type 0 where
   pub gives : GivesFile before.files out written ask result
   pub makes : MakesBy g before.left before.stands after.left out written ask result
   pub puts : PutsBy g before.left before.stands after.left out written ask result
   pub listens : ListensBy out written ask result
-  pub serves : OnOk result (ServesBy g told coming before.door after.door before.stands after.left ask)
+  pub serves : OnOk result (ServesBy g told coming before.doors after.doors before.stands after.left ask)
   pub limits : OnOk result (LimitsVisitors before.shows after.limits ask)
   pub imports : ImportsBy g before.files before.sheets before.clock before.stands after.left out written ask result
   pub sifts : SiftsBy g before.files before.sheets before.clock before.stands after.left out written ask result
@@ -134,7 +95,7 @@ pub record Performs {S D : Type 0} (g : Ghosts S) (told : D → Option VisitsSoF
 -- ---- whole
 
 -- What the words tell was completed by what stands in files, and done, or refused, so.
-pub record CompletesSo {S D : Type 0} (g : Ghosts S) (told_of : D → Option VisitsSoFar) (coming : D → Option (List Coming)) (before after : Sight S D)
+pub record CompletesSo {S D : Type 0} (g : Ghosts S) (told_of : D → Option VisitsSoFar) (coming : D → Option (List Coming)) (before after : World S D)
     (input out written : Option (List ℕ)) (told : Told) (result : Result Done Refusal) : Type 0 where
   pub ask : Ask
   pub whole : Completes before.files input told ask
@@ -142,7 +103,7 @@ pub record CompletesSo {S D : Type 0} (g : Ghosts S) (told_of : D → Option Vis
 
 -- A command ended before it asked the machine for a connection, since a file was not read or memory ran out: the machine
 -- shows what it showed, and nothing was written.
-pub record EndsEarly {S D : Type 0} (before after : Sight S D) (out written : Option (List ℕ)) (result : Result Done Refusal) : Type 0 where
+pub record EndsEarly {S D : Type 0} (before after : World S D) (out written : Option (List ℕ)) (result : Result Done Refusal) : Type 0 where
   pub refused : IsErr result
   pub why : IfErr result IsDeviceOrMemory
   pub same : after ≡ before
@@ -155,7 +116,7 @@ EndsSo (Ok InPart) status old new = (status ≡ 1) × Keeps old new
 EndsSo (Err refusal) status old new = (status ≡ status_of refusal) × AppendsPart old new (refusal_line refusal)
 
 -- A run that was told this ended with the status and the line of what became of it.
-pub record RunsSo {S D : Type 0} (g : Ghosts S) (told_of : D → Option VisitsSoFar) (coming : D → Option (List Coming)) (before after : Sight S D)
+pub record RunsSo {S D : Type 0} (g : Ghosts S) (told_of : D → Option VisitsSoFar) (coming : D → Option (List Coming)) (before after : World S D)
     (input out written errors later : Option (List ℕ)) (told : Told) (status : ℕ) : Type 0 where
   pub result : Result Done Refusal
   pub ends : EndsSo result status errors later
@@ -164,7 +125,7 @@ pub record RunsSo {S D : Type 0} (g : Ghosts S) (told_of : D → Option VisitsSo
 -- ---- inside
 
 -- What a command does of which nothing stands in a file: as `Performs`, and more of each command.
-pub record DoesPlainly {S D M : Type 0} (g : Ghosts S) (told_of : D → Option VisitsSoFar) (coming : D → Option (List Coming)) (before after : Sight S D) (old new : M)
+pub record DoesPlainly {S D M : Type 0} (g : Ghosts S) (told_of : D → Option VisitsSoFar) (coming : D → Option (List Coming)) (before after : World S D) (old new : M)
     (input rest out written : Option (List ℕ)) (ask : Ask) (result : Result Done Refusal) : Type 0 where
   pub performs : Performs g told_of coming before after input out written ask result
   pub done : (kind : Kind) (slot : ℕ) → IsFileAsk kind (codes "-") slot ask

@@ -36,8 +36,9 @@ use Rattle.rd_commands.specs.declared.serving.Timeouts.{Timeouts}
 use Rattle.rd_program.specs.Asked.{AsksAt, IsClockDue, NamesOneStore, NamesStore}
 use Rattle.rd_program.specs.Asking.{RefusesOneQuestion, TellsCheck}
 use Rattle.rd_program.specs.Copying.{AsksNoOtherNew, IfAll, LeavesCopy, MakesCopy, OpensDesk, RefusesCopy}
-use Rattle.rd_program.specs.Doors.{AsksInTurn, AsksNoOther, Wanted}
-use Rattle.rd_program.specs.Doors.Wanted.{NewAt, StoreAt}
+use Rattle.rd_program.specs.Doors.{AsksInTurn, AsksNoOther}
+use Rattle.rd_program.specs.World.{Wanted}
+use Rattle.rd_program.specs.World.Wanted.{NewAt, StoreAt}
 use Rattle.rd_program.specs.Importing.{GainsLines, IsDoneLine, IsRowLine, RefusesImport}
 use Rattle.rd_program.specs.Inits.{LeavesInit, MakesDesk, RefusesInit, done_line}
 use Rattle.rd_program.specs.Leaves.{Checks, GivesBack, HasBoth, IsSame, Leaves, LeavesServe, LeavesStore, NamesOpening, TakesIn, moment_of}

@@ -27,6 +27,7 @@ use Rattle.rd_commands.specs.declared.words.Ask.TheVariants.{Import, Sift}
 use Rattle.rd_program.specs.Importing.{accession_line, bad_row_line, done_by, word_of}
 use Rattle.rd_program.specs.Leaves.{IsDayAt, moment_of}
 use Rattle.rd_program.specs.Showing.{EndsWith}
+use Rattle.rd_program.specs.World.{World}
 
 -- ---- the rows
 
@@ -123,9 +124,9 @@ RefusesSheetBy sheets (Import ask) refusal = IfSome (sheets ask.sheet.now) (λ b
 RefusesSheetBy sheets (Sift ask) refusal = IfSome (sheets ask.import.sheet.now) (λ bytes. IsBadSheetDue bytes refusal)
 RefusesSheetBy sheets ask refusal = ⊤
 
--- the machine shows the same files and sheets
-abbrev pub KeepsFiles : {M : Type 0} → (M → List ℕ → Option (List ℕ)) → (M → List ℕ → Option (List ℕ)) → M → M → Type 0
-KeepsFiles files sheets old new = (files new ≡ files old) × (sheets new ≡ sheets old)
+-- the same files and sheets are shown
+abbrev pub KeepsFiles : {S D : Type 0} → World S D → World S D → Type 0
+KeepsFiles old new = (new.files ≡ old.files) × (new.sheets ≡ old.sheets)
 
 -- a line was written, of which this holds and of the desks before and after, if the connection is open
 abbrev pub GivesLine : {S : Type 0} → Ghosts S → (List ℕ → Desk → Desk → Type 0) → Option (List ℕ) → Option (List ℕ) → Held S → Held S → Type 0

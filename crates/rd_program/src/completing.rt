@@ -6,10 +6,10 @@ ghost use Rattle.rd_commands.specs.Refusals.{IsDeviceOrMemory};
 ghost use Rattle.rd_program.specs.Completing as spec;
 ghost use Rattle.rd_program.specs.Completing.{AreOperands, Completes, IsDated, IsKeyRead, IsKeyedBy, IsZoneRead, IsZonedBy};
 
+use crate::machine::Machine;
 use crate::operands::{key_from, moment_of_day, zone_from};
 use rd_commands::{
-    Ask, Files, ImportAsk, InitAsk, OneQuestionAsk, Refusal, ServeAsk, SiftAsk, StaffKeyAsk, Told,
-    WhenAsk,
+    Ask, ImportAsk, InitAsk, OneQuestionAsk, Refusal, ServeAsk, SiftAsk, StaffKeyAsk, Told, WhenAsk,
 };
 use rd_policy::Zone;
 use std::alloc::Global;
@@ -151,13 +151,13 @@ fn dated<'a>(ask: Ask<'a>, day: Option<i32>) -> Ask<'a>
 /// The key in the file at a path, or on standard input if the path is a hyphen; `None` if there is no path.
 ///
 /// It fails as `key_from` does.
-fn key_read<R: Read, M: Files>(
+fn key_read<R: Read, M: Machine>(
     alloc: Global,
     path: Option<&str>,
     input: &mut R,
     machine: &mut M,
 ) -> Result<Option<Vec<u8>>, Refusal>
-    ensures read { IfOk result (λ key. IsKeyRead (M.file_bytes machine.old) (R.remaining input.old) (option_map (λ path. path.now) path.entry) (option_map (λ key. key.items) key)) }
+    ensures read { IfOk result (λ key. IsKeyRead (M.seen machine.old).files (R.remaining input.old) (option_map (λ path. path.now) path.entry) (option_map (λ key. key.items) key)) }
     ensures refused { IfErr result IsDeviceOrMemory }
     ensures same { machine.new ≡ machine.old }
     ensures limit { ReadsUpTo 4_097 (R.remaining input.old) (R.remaining input.new) }
@@ -171,12 +171,12 @@ fn key_read<R: Read, M: Files>(
 /// The zone in whose rule the file at a path ends; `None` if there is no path.
 ///
 /// It fails as `zone_from` does.
-fn zone_read<M: Files>(
+fn zone_read<M: Machine>(
     alloc: Global,
     path: Option<&str>,
     machine: &mut M,
 ) -> Result<Option<Zone>, Refusal>
-    ensures read { IfOk result (λ zone. IsZoneRead (M.file_bytes machine.old) (option_map (λ path. path.now) path.entry) zone) }
+    ensures read { IfOk result (λ zone. IsZoneRead (M.seen machine.old).files (option_map (λ path. path.now) path.entry) zone) }
     ensures refused { IfErr result IsDeviceOrMemory }
     ensures same { machine.new ≡ machine.old }
 {
@@ -189,13 +189,13 @@ fn zone_read<M: Files>(
 /// Reads the files that the words name: first the one with a key, then the one with a zone.
 ///
 /// It fails with `Device` when one cannot be read, is too long, or has no rule, and with `NoMemory`.
-pub(crate) fn read_operands<R: Read, M: Files>(
+pub(crate) fn read_operands<R: Read, M: Machine>(
     alloc: Global,
     told: &Told,
     input: &mut R,
     machine: &mut M,
 ) -> Result<Operands, Refusal>
-    ensures read { IfOk result (λ operands. AreOperands (M.file_bytes machine.old) (R.remaining input.old) told.now.beside (option_map (λ key. key.items) operands.key) operands.zone) }
+    ensures read { IfOk result (λ operands. AreOperands (M.seen machine.old).files (R.remaining input.old) told.now.beside (option_map (λ key. key.items) operands.key) operands.zone) }
     ensures refused { IfErr result IsDeviceOrMemory }
     ensures same { machine.new ≡ machine.old }
     ensures limit { ReadsUpTo 4_097 (R.remaining input.old) (R.remaining input.new) }

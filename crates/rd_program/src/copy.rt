@@ -4,10 +4,11 @@ ghost use Rattle.std.specs.Prelude.{◌≡◌, IfErr, IsTrue, OnOk, false};
 ghost use Rattle.std.specs.Io.KnownBytes.{Appends};
 ghost use Rattle.rd_store.specs.Copied.{IsCopied};
 ghost use Rattle.rd_program.specs.Copying.{AsksNew, AsksNoOtherNew, CopiesTo, IfAll, IsCopyRefusal, LeavesCopy, LeavesTarget, MakesCopy, NotCopied, OpensDesk, RefusesCopy};
-ghost use Rattle.rd_program.specs.Doors.{Asks, AsksThen, NewAt, StoreAt};
+ghost use Rattle.rd_program.specs.Doors.{Asks, AsksThen};
 ghost use Rattle.rd_program.specs.Inits.{IsInitRefusal, done_line};
 ghost use Rattle.rd_program.specs.Leaves.{GivesBack, HasBoth, IsSame, Leaves, LeavesDesk, LeavesStore, NamesOpening, OnEnded};
 ghost use Rattle.rd_program.specs.Showing.{EndsWith};
+ghost use Rattle.rd_program.specs.World.Wanted.{NewAt, StoreAt};
 
 use crate::faults::not_made;
 use crate::machine::Machine;
@@ -48,15 +49,15 @@ fn copy_to<M: Machine>(
     machine: &mut M,
 ) -> Result<(), Refusal>
     ensures leaves { LeavesDesk M.Disk.Store IsSame from.old from.new }
-    ensures copied { OnOk result (HasBoth (M.shows machine.old) (M.fresh machine.old target.now) (M.made machine.new)
-        × CopiesTo (M.fresh machine.old target.now) (M.made machine.new) (IsCopied M.Disk.Store from.old from.new)) }
-    ensures not_copied { IfErr result (LeavesTarget M.Disk.Store from.old from.new (M.made machine.old) (M.fresh machine.old target.now) (M.made machine.new)) }
+    ensures copied { OnOk result (HasBoth (M.seen machine.old).shows ((M.seen machine.old).fresh target.now) (M.seen machine.new).made
+        × CopiesTo ((M.seen machine.old).fresh target.now) (M.seen machine.new).made (IsCopied M.Disk.Store from.old from.new)) }
+    ensures not_copied { IfErr result (LeavesTarget M.Disk.Store from.old from.new (M.seen machine.old).made ((M.seen machine.old).fresh target.now) (M.seen machine.new).made) }
     ensures refused { IfErr result IsInitRefusal }
-    ensures back_new { GivesBack (M.shows machine.old) (M.made machine.old) (M.made machine.new) }
-    ensures asked_new { AsksNew (M.new_stores machine.old) target.now has_sums (M.new_stores machine.new) }
-    ensures left { M.left machine.new ≡ M.left machine.old }
-    ensures asked { Asks (M.wanted machine.old) (NewAt target.now) (M.wanted machine.new) }
-    ensures shows { M.shows machine.new ≡ M.shows machine.old }
+    ensures back_new { GivesBack (M.seen machine.old).shows (M.seen machine.old).made (M.seen machine.new).made }
+    ensures asked_new { AsksNew (M.seen machine.old).new_stores target.now has_sums (M.seen machine.new).new_stores }
+    ensures left { (M.seen machine.new).left ≡ (M.seen machine.old).left }
+    ensures asked { Asks (M.seen machine.old).wanted (NewAt target.now) (M.seen machine.new).wanted }
+    ensures shows { (M.seen machine.new).shows ≡ (M.seen machine.old).shows }
 {
     let found = match machine.connect_new(target, has_sums) {
         Ok(found) => found,
@@ -74,19 +75,19 @@ fn copy_to<M: Machine>(
 ///
 /// It fails with `NotADesk`, `Version`, `Inconsistent` and `Store`, with `Exists`, and with `NoMemory`.
 fn copy_store<M: Machine>(alloc: Global, ask: CopyAsk, machine: &mut M) -> Result<(), Refusal>
-    ensures copied { OnOk result (HasBoth (M.shows machine.old) (M.fresh machine.old ask.entry.target.now) (M.made machine.new)
-        × IfAll (M.stands machine.old ask.entry.store.now) (M.left machine.new) (M.fresh machine.old ask.entry.target.now) (M.made machine.new) (MakesCopy M.Disk.Store)) }
-    ensures not_copied { IfErr result (LeavesCopy M.Disk.Store (M.stands machine.old ask.entry.store.now) (M.left machine.new)
-        (M.made machine.old) (M.fresh machine.old ask.entry.target.now) (M.made machine.new)) }
-    ensures leaves { Leaves (M.left machine.old) (M.stands machine.old ask.entry.store.now) (M.left machine.new) (LeavesStore M.Disk.Store IsSame) }
-    ensures opens { IfErr result (NamesOpening M.Disk.Store (M.stands machine.old ask.entry.store.now) (M.left machine.new)) }
+    ensures copied { OnOk result (HasBoth (M.seen machine.old).shows ((M.seen machine.old).fresh ask.entry.target.now) (M.seen machine.new).made
+        × IfAll ((M.seen machine.old).stands ask.entry.store.now) (M.seen machine.new).left ((M.seen machine.old).fresh ask.entry.target.now) (M.seen machine.new).made (MakesCopy M.Disk.Store)) }
+    ensures not_copied { IfErr result (LeavesCopy M.Disk.Store ((M.seen machine.old).stands ask.entry.store.now) (M.seen machine.new).left
+        (M.seen machine.old).made ((M.seen machine.old).fresh ask.entry.target.now) (M.seen machine.new).made) }
+    ensures leaves { Leaves (M.seen machine.old).left ((M.seen machine.old).stands ask.entry.store.now) (M.seen machine.new).left (LeavesStore M.Disk.Store IsSame) }
+    ensures opens { IfErr result (NamesOpening M.Disk.Store ((M.seen machine.old).stands ask.entry.store.now) (M.seen machine.new).left) }
     ensures refused { IfErr result IsCopyRefusal }
-    ensures back { GivesBack (M.shows machine.old) (M.left machine.old) (M.left machine.new) }
-    ensures back_new { GivesBack (M.shows machine.old) (M.made machine.old) (M.made machine.new) }
-    ensures there { OnEnded result (HasBoth (M.shows machine.old) (M.stands machine.old ask.entry.store.now) (M.left machine.new)) }
-    ensures asked { AsksThen (M.wanted machine.old) (StoreAt ask.entry.store.now) (NewAt ask.entry.target.now) (M.wanted machine.new) }
-    ensures asked_new { AsksNoOtherNew (M.new_stores machine.old) ask.entry.target.now ask.entry.has_sums (M.new_stores machine.new)
-        (EndsWith (M.stands machine.old ask.entry.store.now) (M.left machine.new) (OpensDesk M.Disk.Store)) }
+    ensures back { GivesBack (M.seen machine.old).shows (M.seen machine.old).left (M.seen machine.new).left }
+    ensures back_new { GivesBack (M.seen machine.old).shows (M.seen machine.old).made (M.seen machine.new).made }
+    ensures there { OnEnded result (HasBoth (M.seen machine.old).shows ((M.seen machine.old).stands ask.entry.store.now) (M.seen machine.new).left) }
+    ensures asked { AsksThen (M.seen machine.old).wanted (StoreAt ask.entry.store.now) (NewAt ask.entry.target.now) (M.seen machine.new).wanted }
+    ensures asked_new { AsksNoOtherNew (M.seen machine.old).new_stores ask.entry.target.now ask.entry.has_sums (M.seen machine.new).new_stores
+        (EndsWith ((M.seen machine.old).stands ask.entry.store.now) (M.seen machine.new).left (OpensDesk M.Disk.Store)) }
 {
     let mut store = open_store(alloc, ask.store, machine)?;
     let copied = copy_to(alloc, &mut store, ask.target, ask.has_sums, machine);
@@ -109,18 +110,18 @@ pub(crate) fn copy<W: Write, M: Machine>(
     ensures done { OnOk result (Appends (W.contents output.old) (W.contents output.new) done_line) }
     ensures flushed { OnOk result (IsTrue (M.flushed (W.contents output.new))) }
     ensures refused { IfErr result (λ refusal. RefusesCopy refusal (W.contents output.old) (W.contents output.new)) }
-    ensures copied { OnOk result (HasBoth (M.shows machine.old) (M.fresh machine.old ask.entry.target.now) (M.made machine.new)
-        × IfAll (M.stands machine.old ask.entry.store.now) (M.left machine.new) (M.fresh machine.old ask.entry.target.now) (M.made machine.new) (MakesCopy M.Disk.Store)) }
-    ensures not_copied { IfErr result (LeavesCopy M.Disk.Store (M.stands machine.old ask.entry.store.now) (M.left machine.new)
-        (M.made machine.old) (M.fresh machine.old ask.entry.target.now) (M.made machine.new)) }
-    ensures leaves { Leaves (M.left machine.old) (M.stands machine.old ask.entry.store.now) (M.left machine.new) (LeavesStore M.Disk.Store IsSame) }
-    ensures opens { IfErr result (NamesOpening M.Disk.Store (M.stands machine.old ask.entry.store.now) (M.left machine.new)) }
-    ensures back { GivesBack (M.shows machine.old) (M.left machine.old) (M.left machine.new) }
-    ensures back_new { GivesBack (M.shows machine.old) (M.made machine.old) (M.made machine.new) }
-    ensures there { OnEnded result (HasBoth (M.shows machine.old) (M.stands machine.old ask.entry.store.now) (M.left machine.new)) }
-    ensures asked { AsksThen (M.wanted machine.old) (StoreAt ask.entry.store.now) (NewAt ask.entry.target.now) (M.wanted machine.new) }
-    ensures asked_new { AsksNoOtherNew (M.new_stores machine.old) ask.entry.target.now ask.entry.has_sums (M.new_stores machine.new)
-        (EndsWith (M.stands machine.old ask.entry.store.now) (M.left machine.new) (OpensDesk M.Disk.Store)) }
+    ensures copied { OnOk result (HasBoth (M.seen machine.old).shows ((M.seen machine.old).fresh ask.entry.target.now) (M.seen machine.new).made
+        × IfAll ((M.seen machine.old).stands ask.entry.store.now) (M.seen machine.new).left ((M.seen machine.old).fresh ask.entry.target.now) (M.seen machine.new).made (MakesCopy M.Disk.Store)) }
+    ensures not_copied { IfErr result (LeavesCopy M.Disk.Store ((M.seen machine.old).stands ask.entry.store.now) (M.seen machine.new).left
+        (M.seen machine.old).made ((M.seen machine.old).fresh ask.entry.target.now) (M.seen machine.new).made) }
+    ensures leaves { Leaves (M.seen machine.old).left ((M.seen machine.old).stands ask.entry.store.now) (M.seen machine.new).left (LeavesStore M.Disk.Store IsSame) }
+    ensures opens { IfErr result (NamesOpening M.Disk.Store ((M.seen machine.old).stands ask.entry.store.now) (M.seen machine.new).left) }
+    ensures back { GivesBack (M.seen machine.old).shows (M.seen machine.old).left (M.seen machine.new).left }
+    ensures back_new { GivesBack (M.seen machine.old).shows (M.seen machine.old).made (M.seen machine.new).made }
+    ensures there { OnEnded result (HasBoth (M.seen machine.old).shows ((M.seen machine.old).stands ask.entry.store.now) (M.seen machine.new).left) }
+    ensures asked { AsksThen (M.seen machine.old).wanted (StoreAt ask.entry.store.now) (NewAt ask.entry.target.now) (M.seen machine.new).wanted }
+    ensures asked_new { AsksNoOtherNew (M.seen machine.old).new_stores ask.entry.target.now ask.entry.has_sums (M.seen machine.new).new_stores
+        (EndsWith ((M.seen machine.old).stands ask.entry.store.now) (M.seen machine.new).left (OpensDesk M.Disk.Store)) }
 {
     copy_store(alloc, ask, machine)?;
     write_whole::<M, W>(output, b"done\n")

@@ -20,7 +20,7 @@ ghost use Rattle.rd_commands.specs.Output.{IsFlushed, AppendsPart};
 ghost use Rattle.rd_commands.specs.Printed.{refusal_line};
 ghost use Rattle.rd_commands.specs.Refusals.{status_of};
 ghost use Rattle.rd_commands.specs.Told.{TellsAll};
-ghost use Rattle.rd_program.specs.Performing.{CompletesSo, DoesPlainly, EndsEarly, ListensBy, MakesBy, PutsBy, RunsSo, sight};
+ghost use Rattle.rd_program.specs.Performing.{CompletesSo, DoesPlainly, EndsEarly, ListensBy, MakesBy, PutsBy, RunsSo};
 ghost use Rattle.rd_commands.specs.Beside.{IsPlain};
 ghost use Rattle.rd_program.specs.Rows.{ImportsBy, RefusesSheetBy, TakesRows};
 ghost use Rattle.rd_program.specs.Asked.{AsksBy, IsClockDueBy, IsUnaskedBy, SumsBy};
@@ -82,21 +82,21 @@ fn perform<R: Read, W: Write, M: Machine>(
         → IfErr result (λ refusal. IfSome (R.remaining input.old) (λ image.
         RefusesList refusal kind image (W.contents output.old) (W.contents output.new))) }
     ensures made { (store key : List ℕ) → IsInitAsk store key ask.entry
-        → OnOk result (MakesDesk M.Disk.Store (M.stands machine.old store) (M.left machine.new) (sha256 (trim_ows key))
+        → OnOk result (MakesDesk M.Disk.Store ((M.seen machine.old).stands store) (M.seen machine.new).left (sha256 (trim_ows key))
         × Appends (W.contents output.old) (W.contents output.new) done_line) }
     ensures not_made { (store key : List ℕ) → IsInitAsk store key ask.entry
         → IfErr result (λ refusal. RefusesInit refusal (W.contents output.old) (W.contents output.new)
-        × LeavesInit M.Disk.Store (M.left machine.old) (M.stands machine.old store) (M.left machine.new) (sha256 (trim_ows key)) refusal) }
+        × LeavesInit M.Disk.Store (M.seen machine.old).left ((M.seen machine.old).stands store) (M.seen machine.new).left (sha256 (trim_ows key)) refusal) }
     ensures put { (store key : List ℕ) → IsStaffKeyAsk store key ask.entry
-        → OnOk result (EndsWith (M.stands machine.old store) (M.left machine.new) (PutsStaff M.Disk.Store (sha256 (trim_ows key)))
+        → OnOk result (EndsWith ((M.seen machine.old).stands store) (M.seen machine.new).left (PutsStaff M.Disk.Store (sha256 (trim_ows key)))
         × Appends (W.contents output.old) (W.contents output.new) done_line) }
     ensures not_put { (store key : List ℕ) → IsStaffKeyAsk store key ask.entry
         → IfErr result (λ refusal. RefusesStaffKey refusal (W.contents output.old) (W.contents output.new)
-        × LeavesStaffKey M.Disk.Store (M.left machine.old) (M.stands machine.old store) (M.left machine.new) (sha256 (trim_ows key)) refusal
-        × NamesOpening M.Disk.Store (M.stands machine.old store) (M.left machine.new) refusal) }
-    ensures makes { MakesBy M.Disk.Store (M.left machine.old) (M.stands machine.old) (M.left machine.new)
+        × LeavesStaffKey M.Disk.Store (M.seen machine.old).left ((M.seen machine.old).stands store) (M.seen machine.new).left (sha256 (trim_ows key)) refusal
+        × NamesOpening M.Disk.Store ((M.seen machine.old).stands store) (M.seen machine.new).left refusal) }
+    ensures makes { MakesBy M.Disk.Store (M.seen machine.old).left (M.seen machine.old).stands (M.seen machine.new).left
         (W.contents output.old) (W.contents output.new) ask.entry result }
-    ensures puts { PutsBy M.Disk.Store (M.left machine.old) (M.stands machine.old) (M.left machine.new)
+    ensures puts { PutsBy M.Disk.Store (M.seen machine.old).left (M.seen machine.old).stands (M.seen machine.new).left
         (W.contents output.old) (W.contents output.new) ask.entry result }
     ensures listens { ListensBy (W.contents output.old) (W.contents output.new) ask.entry result }
     ensures served { (store : List ℕ) (place : Place) (count : ℕ) (rule : List ℕ) → IsServeAsk store place count rule ask.entry
@@ -111,33 +111,33 @@ fn perform<R: Read, W: Write, M: Machine>(
         → IfOk result (TellsCheck acc (W.contents output.old) (W.contents output.new)) }
     ensures not_answered { AsksADesk ask.entry
         → IfErr result (RefusesOneQuestion (W.contents output.old) (W.contents output.new)) }
-    ensures answers { AnswersBy M.Disk.Store (M.clock machine.old) (M.stands machine.old) (M.left machine.new)
+    ensures answers { AnswersBy M.Disk.Store (M.seen machine.old).clock (M.seen machine.old).stands (M.seen machine.new).left
         (W.contents output.old) (W.contents output.new) ask.entry result }
-    ensures serves { OnOk result (ServesBy M.Disk.Store M.Door.told M.Door.coming (M.door machine.old) (M.door machine.new)
-        (M.stands machine.old) (M.left machine.new) ask.entry) }
-    ensures limits { OnOk result (LimitsVisitors (M.shows machine.old) (M.door_limits machine.new) ask.entry) }
-    ensures lent { WritesOnceLentBy (M.shows machine.old) (M.door_limits machine.new) (W.contents output.old) (W.contents output.new) ask.entry }
-    ensures imports { ImportsBy M.Disk.Store (M.file_bytes machine.old) (M.sheet_bytes machine.old) (M.clock machine.old) (M.stands machine.old)
-        (M.left machine.new) (W.contents output.old) (W.contents output.new) ask.entry result }
-    ensures sifts { SiftsBy M.Disk.Store (M.file_bytes machine.old) (M.sheet_bytes machine.old) (M.clock machine.old) (M.stands machine.old)
-        (M.left machine.new) (W.contents output.old) (W.contents output.new) ask.entry result }
-    ensures extracts { ExtractsBy (M.file_bytes machine.old) (R.remaining input.old) (M.written machine.old) (M.written machine.new)
+    ensures serves { OnOk result (ServesBy M.Disk.Store M.Door.told M.Door.coming (M.seen machine.old).doors (M.seen machine.new).doors
+        (M.seen machine.old).stands (M.seen machine.new).left ask.entry) }
+    ensures limits { OnOk result (LimitsVisitors (M.seen machine.old).shows (M.seen machine.new).limits ask.entry) }
+    ensures lent { WritesOnceLentBy (M.seen machine.old).shows (M.seen machine.new).limits (W.contents output.old) (W.contents output.new) ask.entry }
+    ensures imports { ImportsBy M.Disk.Store (M.seen machine.old).files (M.seen machine.old).sheets (M.seen machine.old).clock (M.seen machine.old).stands
+        (M.seen machine.new).left (W.contents output.old) (W.contents output.new) ask.entry result }
+    ensures sifts { SiftsBy M.Disk.Store (M.seen machine.old).files (M.seen machine.old).sheets (M.seen machine.old).clock (M.seen machine.old).stands
+        (M.seen machine.new).left (W.contents output.old) (W.contents output.new) ask.entry result }
+    ensures extracts { ExtractsBy (M.seen machine.old).files (R.remaining input.old) (M.seen machine.old).written (M.seen machine.new).written
         (W.contents output.old) (W.contents output.new) ask.entry result }
-    ensures unasked { IsUnaskedBy (M.clock machine.old) ask.entry result }
-    ensures on_time { IsOnTimeBy M.Disk.Store (M.clock machine.old) (M.stands machine.old) (M.left machine.new) ask.entry result }
-    ensures of_file { GivesFile (M.file_bytes machine.old) (W.contents output.old) (W.contents output.new) ask.entry result }
+    ensures unasked { IsUnaskedBy (M.seen machine.old).clock ask.entry result }
+    ensures on_time { IsOnTimeBy M.Disk.Store (M.seen machine.old).clock (M.seen machine.old).stands (M.seen machine.new).left ask.entry result }
+    ensures of_file { GivesFile (M.seen machine.old).files (W.contents output.old) (W.contents output.new) ask.entry result }
     ensures untouched { IsOfImage ask.entry → machine.new ≡ machine.old }
-    ensures back { GivesBack (M.shows machine.old) (M.left machine.old) (M.left machine.new) }
-    ensures there { OnEnded result (StandsThere (M.shows machine.old) (M.stands machine.old) (M.left machine.new) ask.entry) }
-    ensures asked { AsksBy (M.wanted machine.old) ask.entry (M.wanted machine.new) }
-    ensures sums { SumsBy (M.sums machine.old) ask.entry (M.sums machine.new) }
-    ensures copies { CopiesBy M.Disk.Store (M.shows machine.old) (M.stands machine.old) (M.left machine.new) (M.made machine.old) (M.fresh machine.old)
-        (M.made machine.new) (M.new_stores machine.old) (M.new_stores machine.new) (W.contents output.old) (W.contents output.new) ask.entry result }
-    ensures clock { IfErr result (IsClockDueBy M.Disk.Store (M.stands machine.old) (M.left machine.new) ask.entry) }
-    ensures late { IfErr result (IsBehindBy M.Disk.Store (M.clock machine.old) (M.stands machine.old) (M.left machine.new) ask.entry) }
-    ensures bad_sheet { IfErr result (RefusesSheetBy (M.sheet_bytes machine.old) ask.entry) }
-    ensures leaves { LeavesBy M.Disk.Store (M.clock machine.old) (M.left machine.old) (M.stands machine.old) (M.left machine.new) ask.entry }
-    ensures leaves_refused { IfErr result (LeavesRefused M.Disk.Store (M.left machine.old) (M.stands machine.old) (M.left machine.new)
+    ensures back { GivesBack (M.seen machine.old).shows (M.seen machine.old).left (M.seen machine.new).left }
+    ensures there { OnEnded result (StandsThere (M.seen machine.old).shows (M.seen machine.old).stands (M.seen machine.new).left ask.entry) }
+    ensures asked { AsksBy (M.seen machine.old).wanted ask.entry (M.seen machine.new).wanted }
+    ensures sums { SumsBy (M.seen machine.old).sums ask.entry (M.seen machine.new).sums }
+    ensures copies { CopiesBy M.Disk.Store (M.seen machine.old).shows (M.seen machine.old).stands (M.seen machine.new).left (M.seen machine.old).made (M.seen machine.old).fresh
+        (M.seen machine.new).made (M.seen machine.old).new_stores (M.seen machine.new).new_stores (W.contents output.old) (W.contents output.new) ask.entry result }
+    ensures clock { IfErr result (IsClockDueBy M.Disk.Store (M.seen machine.old).stands (M.seen machine.new).left ask.entry) }
+    ensures late { IfErr result (IsBehindBy M.Disk.Store (M.seen machine.old).clock (M.seen machine.old).stands (M.seen machine.new).left ask.entry) }
+    ensures bad_sheet { IfErr result (RefusesSheetBy (M.seen machine.old).sheets ask.entry) }
+    ensures leaves { LeavesBy M.Disk.Store (M.seen machine.old).clock (M.seen machine.old).left (M.seen machine.old).stands (M.seen machine.new).left ask.entry }
+    ensures leaves_refused { IfErr result (LeavesRefused M.Disk.Store (M.seen machine.old).left (M.seen machine.old).stands (M.seen machine.new).left
         (W.contents output.old) (W.contents output.new) ask.entry) }
     ensures limit { ReadsUpTo (most_read ask.entry) (R.remaining input.old) (R.remaining input.new) }
 {
@@ -173,16 +173,11 @@ fn perform_completed<R: Read, W: Write, M: Machine>(
         → Keeps (W.contents output.old) (W.contents output.new) ⊎ (TellsInRows told.entry.ask ⊎ IsExtraction told.entry.ask)) }
     ensures in_part { IfOk result (λ done. done ≡ Done.InPart → TellsOnOutput told.entry.ask) }
     ensures flushed { OnOk result (IsFlushed M.flushed (W.contents output.old) (W.contents output.new)) }
-    ensures back { GivesBack (M.shows machine.old) (M.left machine.old) (M.left machine.new) }
+    ensures back { GivesBack (M.seen machine.old).shows (M.seen machine.old).left (M.seen machine.new).left }
     ensures limit { ReadsUpTo (size_of kinds.Cpm8 + 1) (R.remaining input.old) (R.remaining input.new) }
-    ensures completed { CompletesSo M.Disk.Store M.Door.told M.Door.coming
-        (sight M.shows M.clock M.file_bytes M.sheet_bytes M.stands M.left M.wanted M.sums M.door M.door_limits M.made M.fresh M.new_stores M.written machine.old)
-        (sight M.shows M.clock M.file_bytes M.sheet_bytes M.stands M.left M.wanted M.sums M.door M.door_limits M.made M.fresh M.new_stores M.written machine.new)
+    ensures completed { CompletesSo M.Disk.Store M.Door.told M.Door.coming (M.seen machine.old) (M.seen machine.new)
         (R.remaining input.old) (W.contents output.old) (W.contents output.new) told.entry result
-        ⊎ EndsEarly
-        (sight M.shows M.clock M.file_bytes M.sheet_bytes M.stands M.left M.wanted M.sums M.door M.door_limits M.made M.fresh M.new_stores M.written machine.old)
-        (sight M.shows M.clock M.file_bytes M.sheet_bytes M.stands M.left M.wanted M.sums M.door M.door_limits M.made M.fresh M.new_stores M.written machine.new)
-        (W.contents output.old) (W.contents output.new) result }
+        ⊎ EndsEarly (M.seen machine.old) (M.seen machine.new) (W.contents output.old) (W.contents output.new) result }
 {
     match read_operands(alloc, &told, input, machine) {
         Ok(operands) => {
@@ -211,19 +206,12 @@ fn perform_told<R: Read, W: Write, M: Machine>(
         → Keeps (W.contents output.old) (W.contents output.new) ⊎ (TellsInRows told.entry.ask ⊎ IsExtraction told.entry.ask)) }
     ensures in_part { IfOk result (λ done. done ≡ Done.InPart → TellsOnOutput told.entry.ask) }
     ensures flushed { OnOk result (IsFlushed M.flushed (W.contents output.old) (W.contents output.new)) }
-    ensures back { GivesBack (M.shows machine.old) (M.left machine.old) (M.left machine.new) }
+    ensures back { GivesBack (M.seen machine.old).shows (M.seen machine.old).left (M.seen machine.new).left }
     ensures limit { ReadsUpTo (size_of kinds.Cpm8 + 1) (R.remaining input.old) (R.remaining input.new) }
-    ensures so { CompletesSo M.Disk.Store M.Door.told M.Door.coming
-        (sight M.shows M.clock M.file_bytes M.sheet_bytes M.stands M.left M.wanted M.sums M.door M.door_limits M.made M.fresh M.new_stores M.written machine.old)
-        (sight M.shows M.clock M.file_bytes M.sheet_bytes M.stands M.left M.wanted M.sums M.door M.door_limits M.made M.fresh M.new_stores M.written machine.new)
+    ensures so { CompletesSo M.Disk.Store M.Door.told M.Door.coming (M.seen machine.old) (M.seen machine.new)
         (R.remaining input.old) (W.contents output.old) (W.contents output.new) told.entry result
-        ⊎ EndsEarly
-        (sight M.shows M.clock M.file_bytes M.sheet_bytes M.stands M.left M.wanted M.sums M.door M.door_limits M.made M.fresh M.new_stores M.written machine.old)
-        (sight M.shows M.clock M.file_bytes M.sheet_bytes M.stands M.left M.wanted M.sums M.door M.door_limits M.made M.fresh M.new_stores M.written machine.new)
-        (W.contents output.old) (W.contents output.new) result }
-    ensures plain { IsPlain told.entry.beside → DoesPlainly M.Disk.Store M.Door.told M.Door.coming
-        (sight M.shows M.clock M.file_bytes M.sheet_bytes M.stands M.left M.wanted M.sums M.door M.door_limits M.made M.fresh M.new_stores M.written machine.old)
-        (sight M.shows M.clock M.file_bytes M.sheet_bytes M.stands M.left M.wanted M.sums M.door M.door_limits M.made M.fresh M.new_stores M.written machine.new)
+        ⊎ EndsEarly (M.seen machine.old) (M.seen machine.new) (W.contents output.old) (W.contents output.new) result }
+    ensures plain { IsPlain told.entry.beside → DoesPlainly M.Disk.Store M.Door.told M.Door.coming (M.seen machine.old) (M.seen machine.new)
         machine.old machine.new (R.remaining input.old) (R.remaining input.new)
         (W.contents output.old) (W.contents output.new) told.entry.ask result }
 {
@@ -285,10 +273,10 @@ pub fn run<'a, R: Read, W: Write, E: Write, M: Machine>(
     ensures by_status { WritesByStatus (texts words.entry.now) result M.flushed
         (W.contents output.old) (W.contents output.new) (E.contents errors.old) (E.contents errors.new) }
     ensures reads { ReadsInput (texts words.entry.now) (R.remaining input.old) (R.remaining input.new) }
-    ensures keeps { KeepsMachine (texts words.entry.now) result (M.shows machine.old) (M.left machine.old) (M.left machine.new)
+    ensures keeps { KeepsMachine (texts words.entry.now) result (M.seen machine.old).shows (M.seen machine.old).left (M.seen machine.new).left
         machine.old machine.new }
-    ensures one_store { UsesOneStore M.Disk.Store (texts words.entry.now) result (M.shows machine.old) (M.clock machine.old)
-        (M.wanted machine.old) (M.wanted machine.new) (M.stands machine.old) (M.left machine.new)
+    ensures one_store { UsesOneStore M.Disk.Store (texts words.entry.now) result (M.seen machine.old).shows (M.seen machine.old).clock
+        (M.seen machine.old).wanted (M.seen machine.new).wanted (M.seen machine.old).stands (M.seen machine.new).left
         (E.contents errors.old) (E.contents errors.new) }
     ensures itself { TellsOfItself (texts words.entry.now) result
         (W.contents output.old) (W.contents output.new) (E.contents errors.old) (E.contents errors.new) }
@@ -299,63 +287,61 @@ pub fn run<'a, R: Read, W: Write, E: Write, M: Machine>(
     // that, once the files were read, or was refused, with the status and the line of that. At 0 and 1 without it, the
     // words ask for help or the version.
     ensures told { why.old.told ≡ None → IfSome why.new.told (TellsAll (texts words.entry.now)) }
-    ensures so { why.old.told ≡ None → IfSome why.new.told (λ told. RunsSo M.Disk.Store M.Door.told M.Door.coming
-        (sight M.shows M.clock M.file_bytes M.sheet_bytes M.stands M.left M.wanted M.sums M.door M.door_limits M.made M.fresh M.new_stores M.written machine.old)
-        (sight M.shows M.clock M.file_bytes M.sheet_bytes M.stands M.left M.wanted M.sums M.door M.door_limits M.made M.fresh M.new_stores M.written machine.new)
+    ensures so { why.old.told ≡ None → IfSome why.new.told (λ told. RunsSo M.Disk.Store M.Door.told M.Door.coming (M.seen machine.old) (M.seen machine.new)
         (R.remaining input.old) (W.contents output.old) (W.contents output.new) (E.contents errors.old) (E.contents errors.new) told result) }
     ensures untold { result ≤ 1 → why.new.told ≡ None → AsksForHelp (texts words.entry.now) ⊎ AsksForVersion (texts words.entry.now) }
 
     // Of an image, on standard input or in a file that the machine shows.
-    ensures cat { DoesCat (texts words.entry.now) result (R.remaining input.old) (M.file_bytes machine.old)
+    ensures cat { DoesCat (texts words.entry.now) result (R.remaining input.old) (M.seen machine.old).files
         (W.contents output.old) (W.contents output.new) (E.contents errors.old) (E.contents errors.new) }
-    ensures list { DoesList (texts words.entry.now) result (R.remaining input.old) (M.file_bytes machine.old)
+    ensures list { DoesList (texts words.entry.now) result (R.remaining input.old) (M.seen machine.old).files
         (W.contents output.old) (W.contents output.new) (E.contents errors.old) (E.contents errors.new) }
 
     // Of a store, in any form of the words of its command. The caller is named by the SHA-256 of their key. An `init`
     // asks for sums in a file that is new exactly if its words do.
     ensures init { (store key : List ℕ) → AsksInit (texts words.entry.now) store key
         → DoesInit M.Disk.Store result (sha256 (trim_ows key))
-        (M.left machine.old) (M.stands machine.old store) (M.left machine.new)
+        (M.seen machine.old).left ((M.seen machine.old).stands store) (M.seen machine.new).left
         (W.contents output.old) (W.contents output.new) (E.contents errors.old) (E.contents errors.new) }
     ensures sums { (store key : List ℕ) (summed : Bool) → AsksInit (texts words.entry.now) store key
-        → Sums (texts words.entry.now) summed → AsksNoOtherSums (M.sums machine.old) summed (M.sums machine.new) }
+        → Sums (texts words.entry.now) summed → AsksNoOtherSums (M.seen machine.old).sums summed (M.seen machine.new).sums }
     ensures staff_key { (store key : List ℕ) → AsksStaffKey (texts words.entry.now) store key
         → DoesStaffKey M.Disk.Store result (sha256 (trim_ows key))
-        (M.left machine.old) (M.stands machine.old store) (M.left machine.new)
+        (M.seen machine.old).left ((M.seen machine.old).stands store) (M.seen machine.new).left
         (W.contents output.old) (W.contents output.new) (E.contents errors.old) (E.contents errors.new) }
     ensures copy { (store target : List ℕ) (summed : Bool) → AsksCopy (texts words.entry.now) store target summed
-        → DoesCopy M.Disk.Store result target summed (M.shows machine.old)
-        (M.left machine.old) (M.stands machine.old store) (M.left machine.new)
-        (M.made machine.old) (M.fresh machine.old target) (M.made machine.new) (M.new_stores machine.old) (M.new_stores machine.new)
+        → DoesCopy M.Disk.Store result target summed (M.seen machine.old).shows
+        (M.seen machine.old).left ((M.seen machine.old).stands store) (M.seen machine.new).left
+        (M.seen machine.old).made ((M.seen machine.old).fresh target) (M.seen machine.new).made (M.seen machine.old).new_stores (M.seen machine.new).new_stores
         (W.contents output.old) (W.contents output.new) (E.contents errors.old) (E.contents errors.new) }
     ensures serve { (store : List ℕ) (place : Place) (count : ℕ) (rule : List ℕ)
         → (asks : AsksServe (texts words.entry.now) store place count rule)
         → DoesServe M.Disk.Store M.Door.told M.Door.coming result place count rule (GivesTimeouts asks.rows)
-        (M.shows machine.old) (M.door_limits machine.new) (M.door machine.old place) (M.door machine.new place)
-        (M.left machine.old) (M.stands machine.old store) (M.left machine.new)
+        (M.seen machine.old).shows (M.seen machine.new).limits ((M.seen machine.old).doors place) ((M.seen machine.new).doors place)
+        (M.seen machine.old).left ((M.seen machine.old).stands store) (M.seen machine.new).left
         (W.contents output.old) (W.contents output.new) (E.contents errors.old) (E.contents errors.new) }
     ensures import { (store key sheet : List ℕ) (moment : Option ℤ) (rule : List ℕ)
         → AsksImport (texts words.entry.now) store key sheet moment rule
-        → DoesImport M.Disk.Store result (sha256 (trim_ows key)) moment (IsDayBy (moment_of moment (M.clock machine.old)) rule)
-        (M.file_bytes machine.old) (M.sheet_bytes machine.old sheet)
-        (M.left machine.old) (M.stands machine.old store) (M.left machine.new)
+        → DoesImport M.Disk.Store result (sha256 (trim_ows key)) moment (IsDayBy (moment_of moment (M.seen machine.old).clock) rule)
+        (M.seen machine.old).files ((M.seen machine.old).sheets sheet)
+        (M.seen machine.old).left ((M.seen machine.old).stands store) (M.seen machine.new).left
         (W.contents output.old) (W.contents output.new) (E.contents errors.old) (E.contents errors.new) }
     ensures check { (store key : List ℕ) (acc : ℕ) (moment : Option ℤ) (rule : List ℕ)
         → AsksCheck (texts words.entry.now) store key acc moment rule
-        → DoesCheck M.Disk.Store result (Some (sha256 (trim_ows key))) acc moment (IsDayBy (moment_of moment (M.clock machine.old)) rule)
-        (M.left machine.old) (M.stands machine.old store) (M.left machine.new)
+        → DoesCheck M.Disk.Store result (Some (sha256 (trim_ows key))) acc moment (IsDayBy (moment_of moment (M.seen machine.old).clock) rule)
+        (M.seen machine.old).left ((M.seen machine.old).stands store) (M.seen machine.new).left
         (W.contents output.old) (W.contents output.new) (E.contents errors.old) (E.contents errors.new) }
     ensures export { (store : List ℕ) (key : Option (List ℕ)) (moment : Option ℤ) (rule : List ℕ)
         → AsksExport (texts words.entry.now) store key moment rule
         → DoesExport M.Disk.Store result (option_map sha256 (option_map trim_ows key)) moment
-        (IsDayBy (moment_of moment (M.clock machine.old)) rule)
-        (M.left machine.old) (M.stands machine.old store) (M.left machine.new)
+        (IsDayBy (moment_of moment (M.seen machine.old).clock) rule)
+        (M.seen machine.old).left ((M.seen machine.old).stands store) (M.seen machine.new).left
         (W.contents output.old) (W.contents output.new) (E.contents errors.old) (E.contents errors.new) }
     ensures show { (store key : List ℕ) (what : Shown) (moment : Option ℤ) (rule : List ℕ)
         → AsksShow (texts words.entry.now) store key what moment rule
         → DoesShow M.Disk.Store result (Some (sha256 (trim_ows key))) (what_of what) moment
-        (IsDayBy (moment_of moment (M.clock machine.old)) rule)
-        (M.left machine.old) (M.stands machine.old store) (M.left machine.new)
+        (IsDayBy (moment_of moment (M.seen machine.old).clock) rule)
+        (M.seen machine.old).left ((M.seen machine.old).stands store) (M.seen machine.new).left
         (W.contents output.old) (W.contents output.new) (E.contents errors.old) (E.contents errors.new) }
 {
     match read_words(alloc, words) {

@@ -91,18 +91,18 @@ fn question_day<S: Alter, M: Machine>(
     desk: &mut Desk<S>,
     machine: &mut M,
 ) -> Result<i32, Refusal>
-    ensures day { IfOk result (IsDayAt (moment_of ask.now.when.seconds (M.clock machine.old)) desk.old.zone) }
+    ensures day { IfOk result (IsDayAt (moment_of ask.now.when.seconds (M.seen machine.old).clock) desk.old.zone) }
     ensures on_time { is_dated ask.now.question ≡ true → IfOk result (λ day. IsTrue (must_be_on_time ask.now.when.seconds ask.now.when.is_trusting)
         → IsOpen S.Store desk.new.store → IsOnTime day (desk_in S.Store desk.old.store)) }
     ensures reads { IsStillOrRead S.Store desk.old.store desk.new.store }
     ensures zone { desk.new.zone ≡ desk.old.zone }
-    ensures shows { M.shows machine.new ≡ M.shows machine.old }
-    ensures asked { M.wanted machine.new ≡ M.wanted machine.old }
+    ensures shows { (M.seen machine.new).shows ≡ (M.seen machine.old).shows }
+    ensures asked { (M.seen machine.new).wanted ≡ (M.seen machine.old).wanted }
     ensures in_range { IfOk result IsDay }
-    ensures dayless { IsDayless (moment_of ask.now.when.seconds (M.clock machine.old)) result }
+    ensures dayless { IsDayless (moment_of ask.now.when.seconds (M.seen machine.old).clock) result }
     ensures clock { IfErr result (IsClockOn S.Store (is_dated ask.now.question) ask.now.when.seconds desk.old.store desk.new.store) }
     ensures late { IfErr result (IsBehindOn S.Store (is_dated ask.now.question) (must_be_on_time ask.now.when.seconds ask.now.when.is_trusting)
-        (moment_of ask.now.when.seconds (M.clock machine.old)) desk.old.zone desk.old.store desk.new.store) }
+        (moment_of ask.now.when.seconds (M.seen machine.old).clock) desk.old.zone desk.old.store desk.new.store) }
     ensures untouched { must_be_on_time ask.now.when.seconds ask.now.when.is_trusting ≡ false → desk.new.store ≡ desk.old.store }
     ensures undated { is_dated ask.now.question ≡ false → desk.new.store ≡ desk.old.store }
     ensures refused { IfErr result (λ refusal. IsClockRefusal refusal ⊎ (refusal ≡ Refusal.Store)) }
@@ -129,31 +129,31 @@ fn tell_asked<S: Alter + Drop, W: Write, M: Machine>(
     ensures written { (acc : ℕ) → IsCheckOf acc ask.now.question
         → IfOk result (TellsCheck acc (W.contents output.old) (W.contents output.new)) }
     ensures refused { IfErr result (RefusesOneQuestion (W.contents output.old) (W.contents output.new)) }
-    ensures dayless { IsDayless (moment_of ask.now.when.seconds (M.clock machine.old)) result }
+    ensures dayless { IsDayless (moment_of ask.now.when.seconds (M.seen machine.old).clock) result }
     ensures clock { IfErr result (IsClockOn S.Store (is_dated ask.now.question) ask.now.when.seconds desk.old.store desk.new.store) }
     ensures late { IfErr result (IsBehindOn S.Store (is_dated ask.now.question) (must_be_on_time ask.now.when.seconds ask.now.when.is_trusting)
-        (moment_of ask.now.when.seconds (M.clock machine.old)) desk.old.zone desk.old.store desk.new.store) }
+        (moment_of ask.now.when.seconds (M.seen machine.old).clock) desk.old.zone desk.old.store desk.new.store) }
     ensures on_time { is_dated ask.now.question ≡ true → IsTrue (must_be_on_time ask.now.when.seconds ask.now.when.is_trusting)
-        → OnOk result (IfSome (M.clock machine.old) (λ seconds. IsOpen S.Store desk.new.store
+        → OnOk result (IfSome (M.seen machine.old).clock (λ seconds. IsOpen S.Store desk.new.store
         → IsOnTime (day_number seconds desk.old.zone) (desk_in S.Store desk.old.store))) }
     ensures flushed { OnOk result (IsTrue (M.flushed (W.contents output.new))) }
     ensures opened { IfErr result IsOfOpenDesk }
     ensures steps { LeavesDesk S.Store (StepsOf (option_map sha256 (option_map (λ key. key.now) ask.now.key))
-        (IsDayAt (moment_of ask.now.when.seconds (M.clock machine.old)) desk.old.zone) ask.now.question) desk.old.store desk.new.store }
+        (IsDayAt (moment_of ask.now.when.seconds (M.seen machine.old).clock) desk.old.zone) ask.now.question) desk.old.store desk.new.store }
     ensures shown { (what : What) → what_to_show ask.now.question ≡ Some what
-        → OnOk result (OfDesk S.Store (λ stood after. Shows (IsDayAt (moment_of ask.now.when.seconds (M.clock machine.old)) desk.old.zone)
+        → OnOk result (OfDesk S.Store (λ stood after. Shows (IsDayAt (moment_of ask.now.when.seconds (M.seen machine.old).clock) desk.old.zone)
         (request_of (option_map sha256 (option_map (λ key. key.now) ask.now.key)) what) stood
         (W.contents output.old) (W.contents output.new)) desk.old.store desk.new.store) }
     ensures not_shown { (what : What) → what_to_show ask.now.question ≡ Some what
         → IfErr result (RefusesShow (W.contents output.old) (W.contents output.new)) }
     ensures found { (acc : ℕ) → IsCheckOf acc ask.now.question
-        → IfOk result (λ done. OfDesk S.Store (Finds (IsDayAt (moment_of ask.now.when.seconds (M.clock machine.old)) desk.old.zone)
+        → IfOk result (λ done. OfDesk S.Store (Finds (IsDayAt (moment_of ask.now.when.seconds (M.seen machine.old).clock) desk.old.zone)
         (request_of (option_map sha256 (option_map (λ key. key.now) ask.now.key)) (asked_of (Question.Check acc))) (found_by done)) desk.old.store desk.new.store) }
     ensures due { IsSome ask.now.key ⊎ (ask.now.question ≡ Question.Catalogue)
-        → IfErr result (IsDueOn S.Store (IsDayAt (moment_of ask.now.when.seconds (M.clock machine.old)) desk.old.zone)
+        → IfErr result (IsDueOn S.Store (IsDayAt (moment_of ask.now.when.seconds (M.seen machine.old).clock) desk.old.zone)
         (request_of (option_map sha256 (option_map (λ key. key.now) ask.now.key)) (asked_of ask.now.question)) desk.old.store desk.new.store) }
-    ensures shows { M.shows machine.new ≡ M.shows machine.old }
-    ensures asked { M.wanted machine.new ≡ M.wanted machine.old }
+    ensures shows { (M.seen machine.new).shows ≡ (M.seen machine.old).shows }
+    ensures asked { (M.seen machine.new).wanted ≡ (M.seen machine.old).wanted }
 {
     let day = question_day(ask, desk, machine)?;
     let badge = badge_of(ask.key);
@@ -181,21 +181,21 @@ pub(crate) fn ask_once<W: Write, M: Machine>(
     ensures written { (acc : ℕ) → IsCheckOf acc ask.entry.question
         → IfOk result (TellsCheck acc (W.contents output.old) (W.contents output.new)) }
     ensures refused { IfErr result (RefusesOneQuestion (W.contents output.old) (W.contents output.new)) }
-    ensures steps { Leaves (M.left machine.old) (M.stands machine.old ask.entry.store.now) (M.left machine.new)
+    ensures steps { Leaves (M.seen machine.old).left ((M.seen machine.old).stands ask.entry.store.now) (M.seen machine.new).left
         (LeavesStore M.Disk.Store (StepsOf (option_map sha256 (option_map (λ key. key.now) ask.entry.key))
-        (IsDayAt (moment_of ask.entry.when.seconds (M.clock machine.old)) ask.entry.when.zone) ask.entry.question)) }
+        (IsDayAt (moment_of ask.entry.when.seconds (M.seen machine.old).clock) ask.entry.when.zone) ask.entry.question)) }
     ensures flushed { OnOk result (IsTrue (M.flushed (W.contents output.new))) }
-    ensures unasked { IsUnasked (moment_of ask.entry.when.seconds (M.clock machine.old)) result }
-    ensures back { GivesBack (M.shows machine.old) (M.left machine.old) (M.left machine.new) }
-    ensures there { OnEnded result (HasBoth (M.shows machine.old) (M.stands machine.old ask.entry.store.now) (M.left machine.new)) }
-    ensures asked { AsksPath (M.wanted machine.old) ask.entry.store.now (M.wanted machine.new) }
-    ensures clock { IfErr result (IsClockDue M.Disk.Store (is_dated ask.entry.question) ask.entry.when.seconds (M.stands machine.old ask.entry.store.now) (M.left machine.new)) }
+    ensures unasked { IsUnasked (moment_of ask.entry.when.seconds (M.seen machine.old).clock) result }
+    ensures back { GivesBack (M.seen machine.old).shows (M.seen machine.old).left (M.seen machine.new).left }
+    ensures there { OnEnded result (HasBoth (M.seen machine.old).shows ((M.seen machine.old).stands ask.entry.store.now) (M.seen machine.new).left) }
+    ensures asked { AsksPath (M.seen machine.old).wanted ask.entry.store.now (M.seen machine.new).wanted }
+    ensures clock { IfErr result (IsClockDue M.Disk.Store (is_dated ask.entry.question) ask.entry.when.seconds ((M.seen machine.old).stands ask.entry.store.now) (M.seen machine.new).left) }
     ensures late { IfErr result (IsBehindIn M.Disk.Store (is_dated ask.entry.question) (must_be_on_time ask.entry.when.seconds ask.entry.when.is_trusting)
-        (moment_of ask.entry.when.seconds (M.clock machine.old)) ask.entry.when.zone (M.stands machine.old ask.entry.store.now) (M.left machine.new)) }
-    ensures opens { IfErr result (NamesOpening M.Disk.Store (M.stands machine.old ask.entry.store.now) (M.left machine.new)) }
+        (moment_of ask.entry.when.seconds (M.seen machine.old).clock) ask.entry.when.zone ((M.seen machine.old).stands ask.entry.store.now) (M.seen machine.new).left) }
+    ensures opens { IfErr result (NamesOpening M.Disk.Store ((M.seen machine.old).stands ask.entry.store.now) (M.seen machine.new).left) }
     ensures on_time { is_dated ask.entry.question ≡ true → IsTrue (must_be_on_time ask.entry.when.seconds ask.entry.when.is_trusting)
-        → OnOk result (WasOnTime M.Disk.Store (M.clock machine.old) ask.entry.when.zone (M.stands machine.old ask.entry.store.now) (M.left machine.new)) }
-    ensures answers { AnswersOneQuestion M.Disk.Store (M.clock machine.old) (M.stands machine.old ask.entry.store.now) (M.left machine.new)
+        → OnOk result (WasOnTime M.Disk.Store (M.seen machine.old).clock ask.entry.when.zone ((M.seen machine.old).stands ask.entry.store.now) (M.seen machine.new).left) }
+    ensures answers { AnswersOneQuestion M.Disk.Store (M.seen machine.old).clock ((M.seen machine.old).stands ask.entry.store.now) (M.seen machine.new).left
         (W.contents output.old) (W.contents output.new) ask.entry result }
 {
     let mut desk = open_desk(alloc, ask.store, ask.when.zone, machine)?;

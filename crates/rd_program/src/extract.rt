@@ -73,15 +73,15 @@ fn extract_one<W: Write, M: Machine>(
 ) -> Result<(), Refusal>
     requires given { spec.is_given file.now ≡ true }
     requires fits { Fits (kind_of image.now) file.now }
-    ensures made { OnOk result (MakesNext (M.written machine.old) (M.written machine.new) (made_of (kind_of image.now) (bytes_of image.now) folder.now file.now)) }
+    ensures made { OnOk result (MakesNext (M.seen machine.old).written (M.seen machine.new).written (made_of (kind_of image.now) (bytes_of image.now) folder.now file.now)) }
     ensures line { OnOk result (Appends (W.contents output.old) (W.contents output.new) (spec.line_of (kind_of image.now) (bytes_of image.now) folder.now file.now)) }
     ensures failed { OnErr result (FailsOne (made_of (kind_of image.now) (bytes_of image.now) folder.now file.now) (spec.line_of (kind_of image.now) (bytes_of image.now) folder.now file.now)
-        (M.written machine.old) (M.written machine.new) (W.contents output.old) (W.contents output.new)) }
+        (M.seen machine.old).written (M.seen machine.new).written (W.contents output.old) (W.contents output.new)) }
     ensures flushed { OnOk result (IsTrue (M.flushed (W.contents output.new))) }
     ensures refused { IfErr result IsExtractRefusal }
-    ensures left { M.left machine.new ≡ M.left machine.old }
-    ensures shows { M.shows machine.new ≡ M.shows machine.old }
-    ensures asked { M.wanted machine.new ≡ M.wanted machine.old }
+    ensures left { (M.seen machine.new).left ≡ (M.seen machine.old).left }
+    ensures shows { (M.seen machine.new).shows ≡ (M.seen machine.old).shows }
+    ensures asked { (M.seen machine.new).wanted ≡ (M.seen machine.old).wanted }
 {
     let name = file_name(alloc, file.slot, file.name.as_str().as_bytes())?;
     let bytes = contents(alloc, image, file)?;
@@ -104,15 +104,15 @@ pub(crate) fn extract<R: Read, W: Write, M: Machine>(
     output: &mut W,
     machine: &mut M,
 ) -> Result<(), Refusal>
-    ensures extracted { OnOk result (OfImage (M.file_bytes machine.old) (R.remaining input.old) ask.entry.image.image.now (λ image.
-        Extracts ask.entry.image.kind image ask.entry.folder.now (M.written machine.old) (M.written machine.new) (W.contents output.old) (W.contents output.new))) }
-    ensures refused { IfErr result (λ refusal. OfImage (M.file_bytes machine.old) (R.remaining input.old) ask.entry.image.image.now (λ image.
-        RefusesExtract ask.entry.image.kind image ask.entry.folder.now (M.written machine.old) (M.written machine.new) (W.contents output.old) (W.contents output.new) refusal)) }
+    ensures extracted { OnOk result (OfImage (M.seen machine.old).files (R.remaining input.old) ask.entry.image.image.now (λ image.
+        Extracts ask.entry.image.kind image ask.entry.folder.now (M.seen machine.old).written (M.seen machine.new).written (W.contents output.old) (W.contents output.new))) }
+    ensures refused { IfErr result (λ refusal. OfImage (M.seen machine.old).files (R.remaining input.old) ask.entry.image.image.now (λ image.
+        RefusesExtract ask.entry.image.kind image ask.entry.folder.now (M.seen machine.old).written (M.seen machine.new).written (W.contents output.old) (W.contents output.new) refusal)) }
     ensures named { IfErr result IsFilesRefusal }
     ensures flushed { OnOk result (IsFlushed M.flushed (W.contents output.old) (W.contents output.new)) }
     ensures limit { ReadsUpTo (size_of ask.entry.image.kind + 1) (R.remaining input.old) (R.remaining input.new) }
-    ensures back { GivesBack (M.shows machine.old) (M.left machine.old) (M.left machine.new) }
-    ensures asked { M.wanted machine.new ≡ M.wanted machine.old }
+    ensures back { GivesBack (M.seen machine.old).shows (M.seen machine.old).left (M.seen machine.new).left }
+    ensures asked { (M.seen machine.new).wanted ≡ (M.seen machine.old).wanted }
 {
     let bytes = read_image(alloc, ask.image.kind, ask.image.image, input, machine)?;
     let image = Image::new(ask.image.kind, bytes.as_slice())?;

@@ -21,7 +21,7 @@ ghost use Rattle.rd_commands.specs.Output.{AppendsPart, IsFlushed};
 ghost use Rattle.rd_commands.specs.Refusals.{IsDeviceOrMemory};
 ghost use Rattle.rd_commands.specs.Sheets.{IsWithin};
 
-use crate::machine::Machine;
+use crate::machine::{Machine, file_at, sheet_at};
 use crate::noted::{note_answer, note_bad_row};
 use crate::open_desk::{day_on_time, open_desk};
 use csv::{ByteRecord, ReaderBuilder};
@@ -167,13 +167,13 @@ fn import_row<W: Write, M: Machine>(
         desk.old.store desk.new.store }
     ensures same { machine.new ≡ machine.old }
     ensures row { IfOk result (λ done. GivesLine M.Disk.Store
-        (λ line. TakesImage (M.file_bytes machine.old) giver.badge giver.day row.entry line done)
+        (λ line. TakesImage (M.seen machine.old).files giver.badge giver.day row.entry line done)
         (W.contents output.old) (W.contents output.new) desk.old.store desk.new.store) }
     ensures written { IfOk result (TellsRow (W.contents output.old) (W.contents output.new)) }
     ensures flushed { OnOk result (IsTrue (M.flushed (W.contents output.new))) }
     ensures refused { IfErr result (RefusesRow (W.contents output.old) (W.contents output.new)) }
 {
-    let bytes = match machine.read_file(alloc, row.file) {
+    let bytes = match file_at(alloc, row.file, machine) {
         Ok(bytes) => bytes,
         Err(fault) => {
             machine.note_row(number, RowNote::Unread);
@@ -205,7 +205,7 @@ fn import_fields<W: Write, M: Machine>(
         desk.old.store desk.new.store }
     ensures same { machine.new ≡ machine.old }
     ensures row { IfOk result (λ done. GivesLine M.Disk.Store
-        (λ line. IsRowTaken (M.file_bytes machine.old) giver.badge giver.day number (fields_of fields.now) line done)
+        (λ line. IsRowTaken (M.seen machine.old).files giver.badge giver.day number (fields_of fields.now) line done)
         (W.contents output.old) (W.contents output.new) desk.old.store desk.new.store) }
     ensures written { IfOk result (TellsRow (W.contents output.old) (W.contents output.new)) }
     ensures flushed { OnOk result (IsTrue (M.flushed (W.contents output.new))) }
@@ -243,7 +243,7 @@ fn import_rows<W: Write, M: Machine>(
         desk.old.store desk.new.store }
     ensures same { machine.new ≡ machine.old }
     ensures rows { IfOk result (λ done. IsOpen M.Disk.Store desk.new.store
-        → TakesSheet (M.file_bytes machine.old) giver.badge giver.day (Some sheet.now) (W.contents output.old) (W.contents output.new) done
+        → TakesSheet (M.seen machine.old).files giver.badge giver.day (Some sheet.now) (W.contents output.old) (W.contents output.new) done
         (desk_in M.Disk.Store desk.old.store) (desk_in M.Disk.Store desk.new.store)) }
 {
     let mut reader = ReaderBuilder::new()
@@ -280,26 +280,26 @@ fn import_sheet<W: Write, M: Machine>(
     ensures written { IfOk result (TellsRows (W.contents output.old) (W.contents output.new)) }
     ensures flushed { OnOk result (IsFlushed M.flushed (W.contents output.old) (W.contents output.new)) }
     ensures refused { IfErr result (RefusesImport (W.contents output.old) (W.contents output.new)) }
-    ensures dayless { IsDayless (moment_of ask.entry.when.seconds (M.clock machine.old)) result }
+    ensures dayless { IsDayless (moment_of ask.entry.when.seconds (M.seen machine.old).clock) result }
     ensures clock { IfErr result (IsClockOn M.Disk.Store true ask.entry.when.seconds desk.old.store desk.new.store) }
     ensures late { IfErr result (IsBehindOn M.Disk.Store true (must_be_on_time ask.entry.when.seconds ask.entry.when.is_trusting)
-        (moment_of ask.entry.when.seconds (M.clock machine.old)) desk.old.zone desk.old.store desk.new.store) }
-    ensures bad_sheet { IfErr result (λ refusal. IfSome (M.sheet_bytes machine.old ask.entry.sheet.now) (λ bytes. IsBadSheetDue bytes refusal)) }
+        (moment_of ask.entry.when.seconds (M.seen machine.old).clock) desk.old.zone desk.old.store desk.new.store) }
+    ensures bad_sheet { IfErr result (λ refusal. IfSome ((M.seen machine.old).sheets ask.entry.sheet.now) (λ bytes. IsBadSheetDue bytes refusal)) }
     ensures on_time { IsTrue (must_be_on_time ask.entry.when.seconds ask.entry.when.is_trusting)
-        → OnOk result (IfSome (M.clock machine.old) (λ seconds. IsOpen M.Disk.Store desk.new.store
+        → OnOk result (IfSome (M.seen machine.old).clock (λ seconds. IsOpen M.Disk.Store desk.new.store
         → IsOnTime (day_number seconds desk.old.zone) (desk_in M.Disk.Store desk.old.store))) }
     ensures opened { IfErr result IsOfOpenDesk }
     ensures takes { LeavesDesk M.Disk.Store (TakesIn (sha256 ask.entry.key.now)
-        (IsDayAt (moment_of ask.entry.when.seconds (M.clock machine.old)) desk.old.zone)) desk.old.store desk.new.store }
+        (IsDayAt (moment_of ask.entry.when.seconds (M.seen machine.old).clock) desk.old.zone)) desk.old.store desk.new.store }
     ensures rows { IfOk result (λ done. IsOpen M.Disk.Store desk.new.store
-        → TakesSheetOn (M.file_bytes machine.old) (sha256 ask.entry.key.now) (IsDayAt (moment_of ask.entry.when.seconds (M.clock machine.old)) desk.old.zone)
-        (M.sheet_bytes machine.old ask.entry.sheet.now) (W.contents output.old) (W.contents output.new) done
+        → TakesSheetOn (M.seen machine.old).files (sha256 ask.entry.key.now) (IsDayAt (moment_of ask.entry.when.seconds (M.seen machine.old).clock) desk.old.zone)
+        ((M.seen machine.old).sheets ask.entry.sheet.now) (W.contents output.old) (W.contents output.new) done
         (desk_in M.Disk.Store desk.old.store) (desk_in M.Disk.Store desk.new.store)) }
-    ensures shows { M.shows machine.new ≡ M.shows machine.old }
-    ensures asked { M.wanted machine.new ≡ M.wanted machine.old }
+    ensures shows { (M.seen machine.new).shows ≡ (M.seen machine.old).shows }
+    ensures asked { (M.seen machine.new).wanted ≡ (M.seen machine.old).wanted }
 {
     let day = day_on_time(ask.when, desk, machine)?;
-    let sheet = match machine.read_sheet(alloc, ask.sheet) {
+    let sheet = match sheet_at(alloc, ask.sheet, machine) {
         Ok(sheet) => sheet,
         Err(fault) => return Err(fault.or(Refusal::Device)),
     };
@@ -322,24 +322,24 @@ pub(crate) fn import<W: Write, M: Machine>(
     ensures written { IfOk result (TellsRows (W.contents output.old) (W.contents output.new)) }
     ensures flushed { OnOk result (IsFlushed M.flushed (W.contents output.old) (W.contents output.new)) }
     ensures refused { IfErr result (RefusesImport (W.contents output.old) (W.contents output.new)) }
-    ensures takes { Leaves (M.left machine.old) (M.stands machine.old ask.entry.store.now) (M.left machine.new)
+    ensures takes { Leaves (M.seen machine.old).left ((M.seen machine.old).stands ask.entry.store.now) (M.seen machine.new).left
         (LeavesStore M.Disk.Store (TakesIn (sha256 ask.entry.key.now)
-        (IsDayAt (moment_of ask.entry.when.seconds (M.clock machine.old)) ask.entry.when.zone))) }
-    ensures rows { IfOk result (λ done. EndsWith (M.stands machine.old ask.entry.store.now) (M.left machine.new)
-        (TakesSheetIn M.Disk.Store (M.file_bytes machine.old) (sha256 ask.entry.key.now)
-        (IsDayAt (moment_of ask.entry.when.seconds (M.clock machine.old)) ask.entry.when.zone)
-        (M.sheet_bytes machine.old ask.entry.sheet.now) (W.contents output.old) (W.contents output.new) done)) }
+        (IsDayAt (moment_of ask.entry.when.seconds (M.seen machine.old).clock) ask.entry.when.zone))) }
+    ensures rows { IfOk result (λ done. EndsWith ((M.seen machine.old).stands ask.entry.store.now) (M.seen machine.new).left
+        (TakesSheetIn M.Disk.Store (M.seen machine.old).files (sha256 ask.entry.key.now)
+        (IsDayAt (moment_of ask.entry.when.seconds (M.seen machine.old).clock) ask.entry.when.zone)
+        ((M.seen machine.old).sheets ask.entry.sheet.now) (W.contents output.old) (W.contents output.new) done)) }
     ensures on_time { IsTrue (must_be_on_time ask.entry.when.seconds ask.entry.when.is_trusting)
-        → OnOk result (WasOnTime M.Disk.Store (M.clock machine.old) ask.entry.when.zone (M.stands machine.old ask.entry.store.now) (M.left machine.new)) }
-    ensures unasked { IsUnasked (moment_of ask.entry.when.seconds (M.clock machine.old)) result }
-    ensures back { GivesBack (M.shows machine.old) (M.left machine.old) (M.left machine.new) }
-    ensures there { OnEnded result (HasBoth (M.shows machine.old) (M.stands machine.old ask.entry.store.now) (M.left machine.new)) }
-    ensures asked { AsksPath (M.wanted machine.old) ask.entry.store.now (M.wanted machine.new) }
-    ensures clock { IfErr result (IsClockDue M.Disk.Store true ask.entry.when.seconds (M.stands machine.old ask.entry.store.now) (M.left machine.new)) }
+        → OnOk result (WasOnTime M.Disk.Store (M.seen machine.old).clock ask.entry.when.zone ((M.seen machine.old).stands ask.entry.store.now) (M.seen machine.new).left) }
+    ensures unasked { IsUnasked (moment_of ask.entry.when.seconds (M.seen machine.old).clock) result }
+    ensures back { GivesBack (M.seen machine.old).shows (M.seen machine.old).left (M.seen machine.new).left }
+    ensures there { OnEnded result (HasBoth (M.seen machine.old).shows ((M.seen machine.old).stands ask.entry.store.now) (M.seen machine.new).left) }
+    ensures asked { AsksPath (M.seen machine.old).wanted ask.entry.store.now (M.seen machine.new).wanted }
+    ensures clock { IfErr result (IsClockDue M.Disk.Store true ask.entry.when.seconds ((M.seen machine.old).stands ask.entry.store.now) (M.seen machine.new).left) }
     ensures late { IfErr result (IsBehindIn M.Disk.Store true (must_be_on_time ask.entry.when.seconds ask.entry.when.is_trusting)
-        (moment_of ask.entry.when.seconds (M.clock machine.old)) ask.entry.when.zone (M.stands machine.old ask.entry.store.now) (M.left machine.new)) }
-    ensures bad_sheet { IfErr result (λ refusal. IfSome (M.sheet_bytes machine.old ask.entry.sheet.now) (λ bytes. IsBadSheetDue bytes refusal)) }
-    ensures opens { IfErr result (NamesOpening M.Disk.Store (M.stands machine.old ask.entry.store.now) (M.left machine.new)) }
+        (moment_of ask.entry.when.seconds (M.seen machine.old).clock) ask.entry.when.zone ((M.seen machine.old).stands ask.entry.store.now) (M.seen machine.new).left) }
+    ensures bad_sheet { IfErr result (λ refusal. IfSome ((M.seen machine.old).sheets ask.entry.sheet.now) (λ bytes. IsBadSheetDue bytes refusal)) }
+    ensures opens { IfErr result (NamesOpening M.Disk.Store ((M.seen machine.old).stands ask.entry.store.now) (M.seen machine.new).left) }
 {
     let mut desk = open_desk(alloc, ask.store, ask.when.zone, machine)?;
     let imported = import_sheet(alloc, ask, &mut desk, output, machine);

@@ -33,14 +33,14 @@ fn make<S: Alter + Drop>(conn: Connection<S>, key: &[u8]) -> (Result<(), Refusal
 /// It fails with `Exists`, with `Store`, and with `NoMemory`.
 fn make_desk<M: Machine>(ask: InitAsk, machine: &mut M) -> Result<(), Refusal>
     ensures made { OnOk result
-        (MakesDesk M.Disk.Store (M.stands machine.old ask.entry.store.now) (M.left machine.new) (sha256 ask.entry.key.now)) }
+        (MakesDesk M.Disk.Store ((M.seen machine.old).stands ask.entry.store.now) (M.seen machine.new).left (sha256 ask.entry.key.now)) }
     ensures left { IfErr result
-        (LeavesInit M.Disk.Store (M.left machine.old) (M.stands machine.old ask.entry.store.now) (M.left machine.new) (sha256 ask.entry.key.now)) }
+        (LeavesInit M.Disk.Store (M.seen machine.old).left ((M.seen machine.old).stands ask.entry.store.now) (M.seen machine.new).left (sha256 ask.entry.key.now)) }
     ensures refused { IfErr result IsInitRefusal }
-    ensures back { GivesBack (M.shows machine.old) (M.left machine.old) (M.left machine.new) }
-    ensures there { OnEnded result (HasBoth (M.shows machine.old) (M.stands machine.old ask.entry.store.now) (M.left machine.new)) }
-    ensures asked { AsksPath (M.wanted machine.old) ask.entry.store.now (M.wanted machine.new) }
-    ensures sums { AsksSums (M.sums machine.old) ask.entry.has_sums (M.sums machine.new) }
+    ensures back { GivesBack (M.seen machine.old).shows (M.seen machine.old).left (M.seen machine.new).left }
+    ensures there { OnEnded result (HasBoth (M.seen machine.old).shows ((M.seen machine.old).stands ask.entry.store.now) (M.seen machine.new).left) }
+    ensures asked { AsksPath (M.seen machine.old).wanted ask.entry.store.now (M.seen machine.new).wanted }
+    ensures sums { AsksSums (M.seen machine.old).sums ask.entry.has_sums (M.seen machine.new).sums }
 {
     let conn = match machine.connect(ask.store, true, ask.has_sums) {
         Ok(conn) => conn,
@@ -66,13 +66,13 @@ pub(crate) fn init<W: Write, M: Machine>(
     ensures refused { IfErr result (λ refusal.
         RefusesInit refusal (W.contents output.old) (W.contents output.new)) }
     ensures made { OnOk result
-        (MakesDesk M.Disk.Store (M.stands machine.old ask.entry.store.now) (M.left machine.new) (sha256 ask.entry.key.now)) }
+        (MakesDesk M.Disk.Store ((M.seen machine.old).stands ask.entry.store.now) (M.seen machine.new).left (sha256 ask.entry.key.now)) }
     ensures left { IfErr result
-        (LeavesInit M.Disk.Store (M.left machine.old) (M.stands machine.old ask.entry.store.now) (M.left machine.new) (sha256 ask.entry.key.now)) }
-    ensures back { GivesBack (M.shows machine.old) (M.left machine.old) (M.left machine.new) }
-    ensures there { OnEnded result (HasBoth (M.shows machine.old) (M.stands machine.old ask.entry.store.now) (M.left machine.new)) }
-    ensures asked { AsksPath (M.wanted machine.old) ask.entry.store.now (M.wanted machine.new) }
-    ensures sums { AsksSums (M.sums machine.old) ask.entry.has_sums (M.sums machine.new) }
+        (LeavesInit M.Disk.Store (M.seen machine.old).left ((M.seen machine.old).stands ask.entry.store.now) (M.seen machine.new).left (sha256 ask.entry.key.now)) }
+    ensures back { GivesBack (M.seen machine.old).shows (M.seen machine.old).left (M.seen machine.new).left }
+    ensures there { OnEnded result (HasBoth (M.seen machine.old).shows ((M.seen machine.old).stands ask.entry.store.now) (M.seen machine.new).left) }
+    ensures asked { AsksPath (M.seen machine.old).wanted ask.entry.store.now (M.seen machine.new).wanted }
+    ensures sums { AsksSums (M.seen machine.old).sums ask.entry.has_sums (M.seen machine.new).sums }
 {
     make_desk(ask, machine)?;
     write_whole::<M, W>(output, b"done\n")

@@ -24,7 +24,7 @@ use std::alloc::Global;
 /// Why there is no connection to the store at a path: there is no file, and then no desk; or the store failed, or memory
 /// ran out. It leaves the machine as it was.
 fn not_connected<M: Machine>(fault: MachineFault, store: &str, machine: &mut M) -> Refusal
-    ensures absent { result ≡ Refusal.NotADesk → M.stands machine.old store.now ≡ None }
+    ensures absent { result ≡ Refusal.NotADesk → (M.seen machine.old).stands store.now ≡ None }
     ensures one_of { (result ≡ Refusal.NotADesk) ⊎ ((result ≡ Refusal.Store) ⊎ (result ≡ Refusal.NoMemory)) }
     ensures memory { result ≡ Refusal.NoMemory → fault ≡ MachineFault.NoMemory }
     ensures same { machine.new ≡ machine.old }
@@ -49,20 +49,20 @@ pub(crate) fn open_store<M: Machine>(
     store: &str,
     machine: &mut M,
 ) -> Result<Store<M::Disk>, Refusal>
-    ensures opened { IfOk result (λ opened. IfSome (M.stands machine.old store.now) (λ before. IsMigrated M.Disk.Store before opened)) }
-    ensures there { IfOk result (λ _. IsTrue (M.shows machine.old) → IsSome (M.stands machine.old store.now)) }
-    ensures shows { M.shows machine.new ≡ M.shows machine.old }
-    ensures asked { AsksPath (M.wanted machine.old) store.now (M.wanted machine.new) }
-    ensures clock { IfOk result (λ _. M.clock machine.new ≡ M.clock machine.old) }
-    ensures files { IfOk result (λ _. KeepsFiles M.file_bytes M.sheet_bytes machine.old machine.new) }
-    ensures door { M.door machine.new ≡ M.door machine.old }
-    ensures fresh { M.fresh machine.new ≡ M.fresh machine.old }
-    ensures made { M.made machine.new ≡ M.made machine.old }
-    ensures new_stores { M.new_stores machine.new ≡ M.new_stores machine.old }
-    ensures back { IfErr result (λ _. GivesBack (M.shows machine.old) (M.left machine.old) (M.left machine.new)) }
+    ensures opened { IfOk result (λ opened. IfSome ((M.seen machine.old).stands store.now) (λ before. IsMigrated M.Disk.Store before opened)) }
+    ensures there { IfOk result (λ _. IsTrue (M.seen machine.old).shows → IsSome ((M.seen machine.old).stands store.now)) }
+    ensures shows { (M.seen machine.new).shows ≡ (M.seen machine.old).shows }
+    ensures asked { AsksPath (M.seen machine.old).wanted store.now (M.seen machine.new).wanted }
+    ensures clock { IfOk result (λ _. (M.seen machine.new).clock ≡ (M.seen machine.old).clock) }
+    ensures files { IfOk result (λ _. KeepsFiles (M.seen machine.old) (M.seen machine.new)) }
+    ensures door { (M.seen machine.new).doors ≡ (M.seen machine.old).doors }
+    ensures fresh { (M.seen machine.new).fresh ≡ (M.seen machine.old).fresh }
+    ensures made { (M.seen machine.new).made ≡ (M.seen machine.old).made }
+    ensures new_stores { (M.seen machine.new).new_stores ≡ (M.seen machine.old).new_stores }
+    ensures back { IfErr result (λ _. GivesBack (M.seen machine.old).shows (M.seen machine.old).left (M.seen machine.new).left) }
     ensures refused { IfErr result IsOpenRefusal }
     ensures left { IfErr result
-        (LeavesUnopened M.Disk.Store (M.left machine.old) (M.stands machine.old store.now) (M.left machine.new)) }
+        (LeavesUnopened M.Disk.Store (M.seen machine.old).left ((M.seen machine.old).stands store.now) (M.seen machine.new).left) }
 {
     let conn = match machine.connect(store, false, false) {
         Ok(conn) => conn,
@@ -87,17 +87,17 @@ pub(crate) fn open_desk<M: Machine>(
     machine: &mut M,
 ) -> Result<Desk<M::Disk>, Refusal>
     ensures zone { IfOk result (λ desk. desk.zone ≡ zone) }
-    ensures opened { IfOk result (λ desk. IfSome (M.stands machine.old store.now) (λ before. IsMigrated M.Disk.Store before desk.store)) }
-    ensures there { IfOk result (λ _. IsTrue (M.shows machine.old) → IsSome (M.stands machine.old store.now)) }
-    ensures shows { M.shows machine.new ≡ M.shows machine.old }
-    ensures asked { AsksPath (M.wanted machine.old) store.now (M.wanted machine.new) }
-    ensures clock { IfOk result (λ _. M.clock machine.new ≡ M.clock machine.old) }
-    ensures files { IfOk result (λ _. KeepsFiles M.file_bytes M.sheet_bytes machine.old machine.new) }
-    ensures door { M.door machine.new ≡ M.door machine.old }
-    ensures back { IfErr result (λ _. GivesBack (M.shows machine.old) (M.left machine.old) (M.left machine.new)) }
+    ensures opened { IfOk result (λ desk. IfSome ((M.seen machine.old).stands store.now) (λ before. IsMigrated M.Disk.Store before desk.store)) }
+    ensures there { IfOk result (λ _. IsTrue (M.seen machine.old).shows → IsSome ((M.seen machine.old).stands store.now)) }
+    ensures shows { (M.seen machine.new).shows ≡ (M.seen machine.old).shows }
+    ensures asked { AsksPath (M.seen machine.old).wanted store.now (M.seen machine.new).wanted }
+    ensures clock { IfOk result (λ _. (M.seen machine.new).clock ≡ (M.seen machine.old).clock) }
+    ensures files { IfOk result (λ _. KeepsFiles (M.seen machine.old) (M.seen machine.new)) }
+    ensures door { (M.seen machine.new).doors ≡ (M.seen machine.old).doors }
+    ensures back { IfErr result (λ _. GivesBack (M.seen machine.old).shows (M.seen machine.old).left (M.seen machine.new).left) }
     ensures refused { IfErr result IsOpenRefusal }
     ensures left { IfErr result
-        (LeavesUnopened M.Disk.Store (M.left machine.old) (M.stands machine.old store.now) (M.left machine.new)) }
+        (LeavesUnopened M.Disk.Store (M.seen machine.old).left ((M.seen machine.old).stands store.now) (M.seen machine.new).left) }
 {
     match open_store(alloc, store, machine) {
         Ok(store) => Ok(Desk::new(store, zone)),
@@ -109,11 +109,11 @@ pub(crate) fn open_desk<M: Machine>(
 ///
 /// It fails with `Clock`, and with `NoMemory`.
 fn clock_seconds<M: Machine>(machine: &mut M) -> Result<i64, Refusal>
-    ensures shown { IfOk result (λ seconds. IfSome (M.clock machine.old) (λ moment. seconds ≡ moment)) }
-    ensures sure { IfSome (M.clock machine.old) (λ moment. result ≡ Ok moment) }
-    ensures files { KeepsFiles M.file_bytes M.sheet_bytes machine.old machine.new }
-    ensures shows { M.shows machine.new ≡ M.shows machine.old }
-    ensures asked { M.wanted machine.new ≡ M.wanted machine.old }
+    ensures shown { IfOk result (λ seconds. IfSome (M.seen machine.old).clock (λ moment. seconds ≡ moment)) }
+    ensures sure { IfSome (M.seen machine.old).clock (λ moment. result ≡ Ok moment) }
+    ensures files { KeepsFiles (M.seen machine.old) (M.seen machine.new) }
+    ensures shows { (M.seen machine.new).shows ≡ (M.seen machine.old).shows }
+    ensures asked { (M.seen machine.new).wanted ≡ (M.seen machine.old).wanted }
     ensures refused { IfErr result IsClockRefusal }
 {
     match machine.now() {
@@ -126,12 +126,12 @@ fn clock_seconds<M: Machine>(machine: &mut M) -> Result<i64, Refusal>
 ///
 /// It fails with `Clock`, and with `NoMemory`.
 fn seconds_of<M: Machine>(named: Option<i64>, machine: &mut M) -> Result<i64, Refusal>
-    ensures asked { IfOk result (λ seconds. IfSome (moment_of named (M.clock machine.old)) (λ moment. seconds ≡ moment)) }
+    ensures asked { IfOk result (λ seconds. IfSome (moment_of named (M.seen machine.old).clock) (λ moment. seconds ≡ moment)) }
     ensures named { IfSome named (λ seconds. result ≡ Ok seconds) }
-    ensures sure { IfSome (moment_of named (M.clock machine.old)) (λ seconds. result ≡ Ok seconds) }
-    ensures files { KeepsFiles M.file_bytes M.sheet_bytes machine.old machine.new }
-    ensures shows { M.shows machine.new ≡ M.shows machine.old }
-    ensures wanted { M.wanted machine.new ≡ M.wanted machine.old }
+    ensures sure { IfSome (moment_of named (M.seen machine.old).clock) (λ seconds. result ≡ Ok seconds) }
+    ensures files { KeepsFiles (M.seen machine.old) (M.seen machine.new) }
+    ensures shows { (M.seen machine.new).shows ≡ (M.seen machine.old).shows }
+    ensures wanted { (M.seen machine.new).wanted ≡ (M.seen machine.old).wanted }
     ensures refused { IfErr result IsClockRefusal }
 {
     match named {
@@ -149,15 +149,15 @@ pub(crate) fn visit_day<S: Alter, M: Machine>(
     desk: &Desk<S>,
     machine: &mut M,
 ) -> Result<i32, Refusal>
-    ensures day { IfOk result (IsDayAt (moment_of named (M.clock machine.old)) desk.now.zone) }
-    ensures files { KeepsFiles M.file_bytes M.sheet_bytes machine.old machine.new }
-    ensures shows { M.shows machine.new ≡ M.shows machine.old }
-    ensures asked { M.wanted machine.new ≡ M.wanted machine.old }
+    ensures day { IfOk result (IsDayAt (moment_of named (M.seen machine.old).clock) desk.now.zone) }
+    ensures files { KeepsFiles (M.seen machine.old) (M.seen machine.new) }
+    ensures shows { (M.seen machine.new).shows ≡ (M.seen machine.old).shows }
+    ensures asked { (M.seen machine.new).wanted ≡ (M.seen machine.old).wanted }
     ensures in_range { IfOk result IsDay }
     ensures named { IfSome named (λ seconds.
         (HasDay seconds → result ≡ Ok (day_number seconds desk.now.zone)) × (¬ HasDay seconds → result ≡ Err Refusal.Clock)) }
-    ensures dayless { IsDayless (moment_of named (M.clock machine.old)) result }
-    ensures sure { IfSome (moment_of named (M.clock machine.old)) (λ seconds. HasDay seconds → result ≡ Ok (day_number seconds desk.now.zone)) }
+    ensures dayless { IsDayless (moment_of named (M.seen machine.old).clock) result }
+    ensures sure { IfSome (moment_of named (M.seen machine.old).clock) (λ seconds. HasDay seconds → result ≡ Ok (day_number seconds desk.now.zone)) }
     ensures refused { IfErr result IsClockRefusal }
 {
     let seconds = seconds_of(named, machine)?;
@@ -194,18 +194,18 @@ pub(crate) fn day_on_time<S: Alter, M: Machine>(
     desk: &mut Desk<S>,
     machine: &mut M,
 ) -> Result<i32, Refusal>
-    ensures day { IfOk result (IsDayAt (moment_of when.seconds (M.clock machine.old)) desk.old.zone) }
+    ensures day { IfOk result (IsDayAt (moment_of when.seconds (M.seen machine.old).clock) desk.old.zone) }
     ensures on_time { IfOk result (λ day. IsTrue (must_be_on_time when.seconds when.is_trusting)
         → IsOpen S.Store desk.new.store → IsOnTime day (desk_in S.Store desk.old.store)) }
     ensures reads { IsStillOrRead S.Store desk.old.store desk.new.store }
     ensures zone { desk.new.zone ≡ desk.old.zone }
-    ensures files { KeepsFiles M.file_bytes M.sheet_bytes machine.old machine.new }
-    ensures shows { M.shows machine.new ≡ M.shows machine.old }
-    ensures asked { M.wanted machine.new ≡ M.wanted machine.old }
+    ensures files { KeepsFiles (M.seen machine.old) (M.seen machine.new) }
+    ensures shows { (M.seen machine.new).shows ≡ (M.seen machine.old).shows }
+    ensures asked { (M.seen machine.new).wanted ≡ (M.seen machine.old).wanted }
     ensures in_range { IfOk result IsDay }
-    ensures dayless { IsDayless (moment_of when.seconds (M.clock machine.old)) result }
+    ensures dayless { IsDayless (moment_of when.seconds (M.seen machine.old).clock) result }
     ensures clock { IfErr result (IsClockOn S.Store true when.seconds desk.old.store desk.new.store) }
-    ensures late { IfErr result (IsBehindOn S.Store true (must_be_on_time when.seconds when.is_trusting) (moment_of when.seconds (M.clock machine.old))
+    ensures late { IfErr result (IsBehindOn S.Store true (must_be_on_time when.seconds when.is_trusting) (moment_of when.seconds (M.seen machine.old).clock)
         desk.old.zone desk.old.store desk.new.store) }
     ensures untouched { must_be_on_time when.seconds when.is_trusting ≡ false → desk.new.store ≡ desk.old.store }
     ensures refused { IfErr result (λ refusal. IsClockRefusal refusal ⊎ (refusal ≡ Refusal.Store)) }
@@ -223,11 +223,11 @@ pub(crate) fn day_on_time<S: Alter, M: Machine>(
 
 /// What the machine's clock shows; `None` if it fails, or if it is trusted and nobody need look.
 pub(crate) fn clock_shown<M: Machine>(is_trusting: bool, machine: &mut M) -> Option<i64>
-    ensures shown { IfSome result (λ seconds. IfSome (M.clock machine.old) (λ moment. seconds ≡ moment)) }
+    ensures shown { IfSome result (λ seconds. IfSome (M.seen machine.old).clock (λ moment. seconds ≡ moment)) }
     ensures trusted { IsTrue is_trusting → result ≡ None }
-    ensures shows { M.shows machine.new ≡ M.shows machine.old }
-    ensures asked { M.wanted machine.new ≡ M.wanted machine.old }
-    ensures door { M.door machine.new ≡ M.door machine.old }
+    ensures shows { (M.seen machine.new).shows ≡ (M.seen machine.old).shows }
+    ensures asked { (M.seen machine.new).wanted ≡ (M.seen machine.old).wanted }
+    ensures door { (M.seen machine.new).doors ≡ (M.seen machine.old).doors }
 {
     if is_trusting {
         return None;

@@ -5,7 +5,8 @@ ghost use Rattle.rd_commands.specs.Input.{ReadsUpTo};
 ghost use Rattle.rd_commands.specs.Refusals.{IsDeviceOrMemory};
 ghost use Rattle.rd_program.specs.Completing.{IsKeyAt, IsMomentOf, IsZoneAt};
 
-use rd_commands::{Files, Refusal, read_front};
+use crate::machine::{Machine, file_at};
+use rd_commands::{Refusal, read_front};
 use rd_operands::{KEY_FILE_LIMIT, ZoneFileFault, first_moment, key_in_file, zone_in_file};
 use rd_policy::Zone;
 use std::alloc::Global;
@@ -15,14 +16,14 @@ use std::io::Read;
 /// that a file with a key may have.
 ///
 /// It fails with `Device` when they cannot be read, and with `NoMemory`.
-fn key_bytes<R: Read, M: Files>(
+fn key_bytes<R: Read, M: Machine>(
     alloc: Global,
     path: &str,
     input: &mut R,
     machine: &mut M,
 ) -> Result<Vec<u8>, Refusal>
     ensures front { path.now ≡ codes "-" → IfOk result (λ bytes. IfSome (R.remaining input.old) (λ all. bytes.items ≡ take 4_097 all)) }
-    ensures file { path.now ≢ codes "-" → IfOk result (λ bytes. IfSome (M.file_bytes machine.old path.now) (λ shown. bytes.items ≡ shown)) }
+    ensures file { path.now ≢ codes "-" → IfOk result (λ bytes. IfSome ((M.seen machine.old).files path.now) (λ shown. bytes.items ≡ shown)) }
     ensures refused { IfErr result IsDeviceOrMemory }
     ensures same { machine.new ≡ machine.old }
     ensures limit { ReadsUpTo 4_097 (R.remaining input.old) (R.remaining input.new) }
@@ -30,7 +31,7 @@ fn key_bytes<R: Read, M: Files>(
     if path == "-" {
         return read_front(alloc, KEY_FILE_LIMIT + 1, input);
     }
-    match machine.read_file(alloc, path) {
+    match file_at(alloc, path, machine) {
         Ok(bytes) => Ok(bytes),
         Err(fault) => Err(fault.or(Refusal::Device)),
     }
@@ -39,13 +40,13 @@ fn key_bytes<R: Read, M: Files>(
 /// The key in the file at a path, or on standard input if the path is a hyphen.
 ///
 /// It fails with `Device` when the file cannot be read or has more than 4,096 bytes, and with `NoMemory`.
-pub(crate) fn key_from<R: Read, M: Files>(
+pub(crate) fn key_from<R: Read, M: Machine>(
     alloc: Global,
     path: &str,
     input: &mut R,
     machine: &mut M,
 ) -> Result<Vec<u8>, Refusal>
-    ensures key { IfOk result (λ key. IsKeyAt (M.file_bytes machine.old) (R.remaining input.old) path.now key.items) }
+    ensures key { IfOk result (λ key. IsKeyAt (M.seen machine.old).files (R.remaining input.old) path.now key.items) }
     ensures refused { IfErr result IsDeviceOrMemory }
     ensures same { machine.new ≡ machine.old }
     ensures limit { ReadsUpTo 4_097 (R.remaining input.old) (R.remaining input.new) }
@@ -61,16 +62,16 @@ pub(crate) fn key_from<R: Read, M: Files>(
 ///
 /// It fails with `Device` when the file cannot be read, has more than 65,536 bytes, or is no file of the time zone
 /// database that ends in a rule, and with `NoMemory`.
-pub(crate) fn zone_from<M: Files>(
+pub(crate) fn zone_from<M: Machine>(
     alloc: Global,
     path: &str,
     machine: &mut M,
 ) -> Result<Zone, Refusal>
-    ensures zone { IfOk result (IsZoneAt (M.file_bytes machine.old) path.now) }
+    ensures zone { IfOk result (IsZoneAt (M.seen machine.old).files path.now) }
     ensures refused { IfErr result IsDeviceOrMemory }
     ensures same { machine.new ≡ machine.old }
 {
-    let bytes = match machine.read_file(alloc, path) {
+    let bytes = match file_at(alloc, path, machine) {
         Ok(bytes) => bytes,
         Err(fault) => return Err(fault.or(Refusal::Device)),
     };

@@ -122,12 +122,12 @@ fn serve_visits<W: Write, M: Machine>(
     ensures count { IfOk result (λ served. served.ended ≡ Ended.Count → served.visits ≡ ask.entry.count) }
     ensures lasts { IfOk result (λ _. Lasts M.Disk.Store desk.old.store desk.new.store) }
     ensures unserved { IfErr result (λ _. desk.new.store ≡ desk.old.store) }
-    ensures lent { WritesOnceLent (M.shows machine.old) (M.door_limits machine.new) (W.contents output.old) (W.contents output.new) }
-    ensures shows { M.shows machine.new ≡ M.shows machine.old }
-    ensures asked { M.wanted machine.new ≡ M.wanted machine.old }
-    ensures limits { IfOk result (λ _. IsTrue (M.shows machine.old) → IsSomeAnd (M.door_limits machine.new) (AreLimitsOf ask.entry.timeouts)) }
-    ensures visits { IfOk result (λ served. served.ended ≡ Ended.Count → IfSome (M.door machine.old (place_of ask.entry.place))
-        (λ before. IsSomeAnd (M.door machine.new (place_of ask.entry.place)) (λ after.
+    ensures lent { WritesOnceLent (M.seen machine.old).shows (M.seen machine.new).limits (W.contents output.old) (W.contents output.new) }
+    ensures shows { (M.seen machine.new).shows ≡ (M.seen machine.old).shows }
+    ensures asked { (M.seen machine.new).wanted ≡ (M.seen machine.old).wanted }
+    ensures limits { IfOk result (λ _. IsTrue (M.seen machine.old).shows → IsSomeAnd (M.seen machine.new).limits (AreLimitsOf ask.entry.timeouts)) }
+    ensures visits { IfOk result (λ served. served.ended ≡ Ended.Count → IfSome ((M.seen machine.old).doors (place_of ask.entry.place))
+        (λ before. IsSomeAnd ((M.seen machine.new).doors (place_of ask.entry.place)) (λ after.
         RunsVisits M.Disk.Store M.Door.told M.Door.coming desk.old.zone before after served desk.old.store desk.new.store))) }
 {
     let shown = clock_shown(ask.is_trusting, machine);
@@ -178,18 +178,18 @@ pub(crate) fn serve<W: Write, M: Machine>(
     ensures done { OnOk result (Appends (W.contents output.old) (W.contents output.new) (serve_text (place_of ask.entry.place) ask.entry.count)) }
     ensures refused { IfErr result (λ refusal. RefusesServe refusal (place_of ask.entry.place) ask.entry.count
         (W.contents output.old) (W.contents output.new)) }
-    ensures lasts { Leaves (M.left machine.old) (M.stands machine.old ask.entry.store.now) (M.left machine.new) (Lasts M.Disk.Store) }
-    ensures left { IfErr result (LeavesServe M.Disk.Store (M.left machine.old) (M.stands machine.old ask.entry.store.now) (M.left machine.new)
+    ensures lasts { Leaves (M.seen machine.old).left ((M.seen machine.old).stands ask.entry.store.now) (M.seen machine.new).left (Lasts M.Disk.Store) }
+    ensures left { IfErr result (LeavesServe M.Disk.Store (M.seen machine.old).left ((M.seen machine.old).stands ask.entry.store.now) (M.seen machine.new).left
         (place_of ask.entry.place) (W.contents output.old) (W.contents output.new)) }
     ensures visits { OnOk result (ServesDoor M.Disk.Store M.Door.told M.Door.coming ask.entry.count ask.entry.zone
-        (M.door machine.old (place_of ask.entry.place)) (M.door machine.new (place_of ask.entry.place))
-        (M.stands machine.old ask.entry.store.now) (M.left machine.new)) }
-    ensures limits { OnOk result (IsTrue (M.shows machine.old) → IsSomeAnd (M.door_limits machine.new) (AreLimitsOf ask.entry.timeouts)) }
-    ensures lent { WritesOnceLent (M.shows machine.old) (M.door_limits machine.new) (W.contents output.old) (W.contents output.new) }
+        ((M.seen machine.old).doors (place_of ask.entry.place)) ((M.seen machine.new).doors (place_of ask.entry.place))
+        ((M.seen machine.old).stands ask.entry.store.now) (M.seen machine.new).left) }
+    ensures limits { OnOk result (IsTrue (M.seen machine.old).shows → IsSomeAnd (M.seen machine.new).limits (AreLimitsOf ask.entry.timeouts)) }
+    ensures lent { WritesOnceLent (M.seen machine.old).shows (M.seen machine.new).limits (W.contents output.old) (W.contents output.new) }
     ensures flushed { OnOk result (IsTrue (M.flushed (W.contents output.new))) }
-    ensures back { GivesBack (M.shows machine.old) (M.left machine.old) (M.left machine.new) }
-    ensures there { OnEnded result (HasBoth (M.shows machine.old) (M.stands machine.old ask.entry.store.now) (M.left machine.new)) }
-    ensures asked { AsksPath (M.wanted machine.old) ask.entry.store.now (M.wanted machine.new) }
+    ensures back { GivesBack (M.seen machine.old).shows (M.seen machine.old).left (M.seen machine.new).left }
+    ensures there { OnEnded result (HasBoth (M.seen machine.old).shows ((M.seen machine.old).stands ask.entry.store.now) (M.seen machine.new).left) }
+    ensures asked { AsksPath (M.seen machine.old).wanted ask.entry.store.now (M.seen machine.new).wanted }
 {
     let mut desk = open_desk(alloc, ask.store, ask.zone, machine)?;
     let served = serve_visits(alloc, ask, &mut desk, output, machine);

@@ -25,7 +25,7 @@ ghost use Rattle.rd_program.specs.Sifting as spec;
 ghost use Rattle.rd_program.specs.Sifting.{IsSiftRefusal, SiftsOn, SiftsOne, SiftsRows, SiftsSheetIn, TellsFate, lost_row_line};
 
 use crate::import::{Giver, put_image, tell_accession, tell_bad_row};
-use crate::machine::Machine;
+use crate::machine::{Machine, file_at, sheet_at};
 use crate::noted::{note_answer, note_bad_row};
 use crate::open_desk::{day_on_time, open_desk};
 use csv::{ByteRecord, ReaderBuilder};
@@ -160,12 +160,12 @@ fn row_bytes<M: Machine>(
     way: Way,
     machine: &mut M,
 ) -> Result<Option<Vec<u8>>, Refusal>
-    ensures read { IfOk result (λ found. IfSome found (λ bytes. IfSome (M.file_bytes machine.old file.now) (λ shown. bytes.items ≡ shown))) }
+    ensures read { IfOk result (λ found. IfSome found (λ bytes. IfSome ((M.seen machine.old).files file.now) (λ shown. bytes.items ≡ shown))) }
     ensures lost { IfOk result (λ found. IfNone found (way.keep_going ≡ true)) }
     ensures same { machine.new ≡ machine.old }
     ensures refused { IfErr result IsRowRefusal }
 {
-    let fault = match machine.read_file(alloc, file) {
+    let fault = match file_at(alloc, file, machine) {
         Ok(bytes) => return Ok(Some(bytes)),
         Err(fault) => fault,
     };
@@ -217,7 +217,7 @@ fn sift_row<W: Write, M: Machine>(
     ensures same { machine.new ≡ machine.old }
     ensures dry { way.dry_run ≡ true → LeavesDesk M.Disk.Store IsSame desk.old.store desk.new.store }
     ensures wet { way.dry_run ≡ false → LeavesDesk M.Disk.Store (TakesRow giver.badge giver.day row.entry) desk.old.store desk.new.store }
-    ensures row { IfOk result (λ fate. (fields : _) → Says fields row.entry → SiftsOne M.Disk.Store (M.file_bytes machine.old) way giver.badge giver.day number fields
+    ensures row { IfOk result (λ fate. (fields : _) → Says fields row.entry → SiftsOne M.Disk.Store (M.seen machine.old).files way giver.badge giver.day number fields
         fate shelf.old.images.items shelf.new.images.items (W.contents output.old) (W.contents output.new) desk.old.store desk.new.store) }
     ensures flushed { OnOk result (IsTrue (M.flushed (W.contents output.new))) }
     ensures refused { IfErr result IsRowRefusal }
@@ -251,7 +251,7 @@ fn sift_fields<W: Write, M: Machine>(
     ensures same { machine.new ≡ machine.old }
     ensures dry { way.dry_run ≡ true → LeavesDesk M.Disk.Store IsSame desk.old.store desk.new.store }
     ensures wet { way.dry_run ≡ false → LeavesDesk M.Disk.Store (TakesFields giver.badge giver.day (fields_of fields.now)) desk.old.store desk.new.store }
-    ensures row { IfOk result (λ fate. SiftsOne M.Disk.Store (M.file_bytes machine.old) way giver.badge giver.day number (fields_of fields.now)
+    ensures row { IfOk result (λ fate. SiftsOne M.Disk.Store (M.seen machine.old).files way giver.badge giver.day number (fields_of fields.now)
         fate shelf.old.images.items shelf.new.images.items (W.contents output.old) (W.contents output.new) desk.old.store desk.new.store) }
     ensures flushed { OnOk result (IsTrue (M.flushed (W.contents output.new))) }
     ensures refused { IfErr result IsRowRefusal }
@@ -283,7 +283,7 @@ fn sift_rows<W: Write, M: Machine>(
     ensures zone { desk.new.zone ≡ desk.old.zone }
     ensures same { machine.new ≡ machine.old }
     ensures takes { LeavesDesk M.Disk.Store (TakesUnlessDry way.dry_run giver.badge (λ day. day ≡ giver.day)) desk.old.store desk.new.store }
-    ensures rows { IfOk result (λ fate. SiftsRows M.Disk.Store (M.file_bytes machine.old) way giver.badge giver.day sheet.now
+    ensures rows { IfOk result (λ fate. SiftsRows M.Disk.Store (M.seen machine.old).files way giver.badge giver.day sheet.now
         (W.contents output.old) (W.contents output.new) fate desk.old.store desk.new.store) }
     ensures flushed { OnOk result (IsFlushed M.flushed (W.contents output.old) (W.contents output.new)) }
     ensures bad_sheet { IfErr result (IsBadSheetDue sheet.now) }
@@ -338,27 +338,27 @@ fn sift_sheet<W: Write, M: Machine>(
     machine: &mut M,
 ) -> Result<Done, Refusal>
     ensures zone { desk.new.zone ≡ desk.old.zone }
-    ensures sifted { IfOk result (λ done. SiftsOn M.Disk.Store (M.file_bytes machine.old) (spec.way_asked ask.entry) (sha256 ask.entry.import.key.now)
-        (IsDayAt (moment_of ask.entry.import.when.seconds (M.clock machine.old)) desk.old.zone) (M.sheet_bytes machine.old ask.entry.import.sheet.now)
+    ensures sifted { IfOk result (λ done. SiftsOn M.Disk.Store (M.seen machine.old).files (spec.way_asked ask.entry) (sha256 ask.entry.import.key.now)
+        (IsDayAt (moment_of ask.entry.import.when.seconds (M.seen machine.old).clock) desk.old.zone) ((M.seen machine.old).sheets ask.entry.import.sheet.now)
         (W.contents output.old) (W.contents output.new) done desk.old.store desk.new.store) }
     ensures takes { LeavesDesk M.Disk.Store (TakesUnlessDry ask.entry.dry_run (sha256 ask.entry.import.key.now)
-        (IsDayAt (moment_of ask.entry.import.when.seconds (M.clock machine.old)) desk.old.zone)) desk.old.store desk.new.store }
-    ensures dayless { IsDayless (moment_of ask.entry.import.when.seconds (M.clock machine.old)) result }
+        (IsDayAt (moment_of ask.entry.import.when.seconds (M.seen machine.old).clock) desk.old.zone)) desk.old.store desk.new.store }
+    ensures dayless { IsDayless (moment_of ask.entry.import.when.seconds (M.seen machine.old).clock) result }
     ensures clock { IfErr result (IsClockOn M.Disk.Store true ask.entry.import.when.seconds desk.old.store desk.new.store) }
-    ensures bad_sheet { IfErr result (λ refusal. IfSome (M.sheet_bytes machine.old ask.entry.import.sheet.now) (λ bytes. IsBadSheetDue bytes refusal)) }
+    ensures bad_sheet { IfErr result (λ refusal. IfSome ((M.seen machine.old).sheets ask.entry.import.sheet.now) (λ bytes. IsBadSheetDue bytes refusal)) }
     ensures on_time { IsTrue (must_be_on_time ask.entry.import.when.seconds ask.entry.import.when.is_trusting)
-        → OnOk result (IfSome (M.clock machine.old) (λ seconds. IsOpen M.Disk.Store desk.new.store
+        → OnOk result (IfSome (M.seen machine.old).clock (λ seconds. IsOpen M.Disk.Store desk.new.store
         → IsOnTime (day_number seconds desk.old.zone) (desk_in M.Disk.Store desk.old.store))) }
     ensures flushed { OnOk result (IsFlushed M.flushed (W.contents output.old) (W.contents output.new)) }
     ensures late { IfErr result (IsBehindOn M.Disk.Store true (must_be_on_time ask.entry.import.when.seconds ask.entry.import.when.is_trusting)
-        (moment_of ask.entry.import.when.seconds (M.clock machine.old)) desk.old.zone desk.old.store desk.new.store) }
+        (moment_of ask.entry.import.when.seconds (M.seen machine.old).clock) desk.old.zone desk.old.store desk.new.store) }
     ensures opened { IfErr result IsOfOpenDesk }
     ensures refused { IfErr result IsSiftRefusal }
-    ensures shows { M.shows machine.new ≡ M.shows machine.old }
-    ensures asked { M.wanted machine.new ≡ M.wanted machine.old }
+    ensures shows { (M.seen machine.new).shows ≡ (M.seen machine.old).shows }
+    ensures asked { (M.seen machine.new).wanted ≡ (M.seen machine.old).wanted }
 {
     let day = day_on_time(ask.import.when, desk, machine)?;
-    let sheet = match machine.read_sheet(alloc, ask.import.sheet) {
+    let sheet = match sheet_at(alloc, ask.import.sheet, machine) {
         Ok(sheet) => sheet,
         Err(fault) => return Err(fault.or(Refusal::Device)),
     };
@@ -380,26 +380,26 @@ pub(crate) fn sift<W: Write, M: Machine>(
     output: &mut W,
     machine: &mut M,
 ) -> Result<Done, Refusal>
-    ensures sifted { IfOk result (λ done. EndsWith (M.stands machine.old ask.entry.import.store.now) (M.left machine.new)
-        (SiftsSheetIn M.Disk.Store (M.file_bytes machine.old) (spec.way_asked ask.entry)
-        (sha256 ask.entry.import.key.now) (IsDayAt (moment_of ask.entry.import.when.seconds (M.clock machine.old)) ask.entry.import.when.zone)
-        (M.sheet_bytes machine.old ask.entry.import.sheet.now) (W.contents output.old) (W.contents output.new) done)) }
-    ensures takes { Leaves (M.left machine.old) (M.stands machine.old ask.entry.import.store.now) (M.left machine.new)
+    ensures sifted { IfOk result (λ done. EndsWith ((M.seen machine.old).stands ask.entry.import.store.now) (M.seen machine.new).left
+        (SiftsSheetIn M.Disk.Store (M.seen machine.old).files (spec.way_asked ask.entry)
+        (sha256 ask.entry.import.key.now) (IsDayAt (moment_of ask.entry.import.when.seconds (M.seen machine.old).clock) ask.entry.import.when.zone)
+        ((M.seen machine.old).sheets ask.entry.import.sheet.now) (W.contents output.old) (W.contents output.new) done)) }
+    ensures takes { Leaves (M.seen machine.old).left ((M.seen machine.old).stands ask.entry.import.store.now) (M.seen machine.new).left
         (LeavesStore M.Disk.Store (TakesUnlessDry ask.entry.dry_run (sha256 ask.entry.import.key.now)
-        (IsDayAt (moment_of ask.entry.import.when.seconds (M.clock machine.old)) ask.entry.import.when.zone))) }
+        (IsDayAt (moment_of ask.entry.import.when.seconds (M.seen machine.old).clock) ask.entry.import.when.zone))) }
     ensures on_time { IsTrue (must_be_on_time ask.entry.import.when.seconds ask.entry.import.when.is_trusting)
-        → OnOk result (WasOnTime M.Disk.Store (M.clock machine.old) ask.entry.import.when.zone (M.stands machine.old ask.entry.import.store.now) (M.left machine.new)) }
+        → OnOk result (WasOnTime M.Disk.Store (M.seen machine.old).clock ask.entry.import.when.zone ((M.seen machine.old).stands ask.entry.import.store.now) (M.seen machine.new).left) }
     ensures flushed { OnOk result (IsFlushed M.flushed (W.contents output.old) (W.contents output.new)) }
     ensures late { IfErr result (IsBehindIn M.Disk.Store true (must_be_on_time ask.entry.import.when.seconds ask.entry.import.when.is_trusting)
-        (moment_of ask.entry.import.when.seconds (M.clock machine.old)) ask.entry.import.when.zone (M.stands machine.old ask.entry.import.store.now) (M.left machine.new)) }
+        (moment_of ask.entry.import.when.seconds (M.seen machine.old).clock) ask.entry.import.when.zone ((M.seen machine.old).stands ask.entry.import.store.now) (M.seen machine.new).left) }
     ensures refused { IfErr result IsSiftRefusal }
-    ensures unasked { IsUnasked (moment_of ask.entry.import.when.seconds (M.clock machine.old)) result }
-    ensures back { GivesBack (M.shows machine.old) (M.left machine.old) (M.left machine.new) }
-    ensures there { OnEnded result (HasBoth (M.shows machine.old) (M.stands machine.old ask.entry.import.store.now) (M.left machine.new)) }
-    ensures asked { AsksPath (M.wanted machine.old) ask.entry.import.store.now (M.wanted machine.new) }
-    ensures clock { IfErr result (IsClockDue M.Disk.Store true ask.entry.import.when.seconds (M.stands machine.old ask.entry.import.store.now) (M.left machine.new)) }
-    ensures bad_sheet { IfErr result (λ refusal. IfSome (M.sheet_bytes machine.old ask.entry.import.sheet.now) (λ bytes. IsBadSheetDue bytes refusal)) }
-    ensures opens { IfErr result (NamesOpening M.Disk.Store (M.stands machine.old ask.entry.import.store.now) (M.left machine.new)) }
+    ensures unasked { IsUnasked (moment_of ask.entry.import.when.seconds (M.seen machine.old).clock) result }
+    ensures back { GivesBack (M.seen machine.old).shows (M.seen machine.old).left (M.seen machine.new).left }
+    ensures there { OnEnded result (HasBoth (M.seen machine.old).shows ((M.seen machine.old).stands ask.entry.import.store.now) (M.seen machine.new).left) }
+    ensures asked { AsksPath (M.seen machine.old).wanted ask.entry.import.store.now (M.seen machine.new).wanted }
+    ensures clock { IfErr result (IsClockDue M.Disk.Store true ask.entry.import.when.seconds ((M.seen machine.old).stands ask.entry.import.store.now) (M.seen machine.new).left) }
+    ensures bad_sheet { IfErr result (λ refusal. IfSome ((M.seen machine.old).sheets ask.entry.import.sheet.now) (λ bytes. IsBadSheetDue bytes refusal)) }
+    ensures opens { IfErr result (NamesOpening M.Disk.Store ((M.seen machine.old).stands ask.entry.import.store.now) (M.seen machine.new).left) }
 {
     let mut desk = open_desk(alloc, ask.import.store, ask.import.when.zone, machine)?;
     let ended = sift_sheet(alloc, ask, &mut desk, output, machine);

@@ -50,14 +50,14 @@ fn put_staff<S: Alter>(store: &mut Store<S>, key: &[u8]) -> Result<(), Refusal>
 /// It fails with `NotADesk`, `Version`, `Inconsistent` and `Store`, and with `NoMemory`.
 fn put_in_store<M: Machine>(alloc: Global, ask: StaffKeyAsk, machine: &mut M) -> Result<(), Refusal>
     ensures put { OnOk result
-        (EndsWith (M.stands machine.old ask.entry.store.now) (M.left machine.new) (PutsStaff M.Disk.Store (sha256 ask.entry.key.now))) }
+        (EndsWith ((M.seen machine.old).stands ask.entry.store.now) (M.seen machine.new).left (PutsStaff M.Disk.Store (sha256 ask.entry.key.now))) }
     ensures left { IfErr result
-        (LeavesStaffKey M.Disk.Store (M.left machine.old) (M.stands machine.old ask.entry.store.now) (M.left machine.new) (sha256 ask.entry.key.now)) }
-    ensures opens { IfErr result (NamesOpening M.Disk.Store (M.stands machine.old ask.entry.store.now) (M.left machine.new)) }
+        (LeavesStaffKey M.Disk.Store (M.seen machine.old).left ((M.seen machine.old).stands ask.entry.store.now) (M.seen machine.new).left (sha256 ask.entry.key.now)) }
+    ensures opens { IfErr result (NamesOpening M.Disk.Store ((M.seen machine.old).stands ask.entry.store.now) (M.seen machine.new).left) }
     ensures refused { IfErr result IsOpenRefusal }
-    ensures back { GivesBack (M.shows machine.old) (M.left machine.old) (M.left machine.new) }
-    ensures there { OnEnded result (HasBoth (M.shows machine.old) (M.stands machine.old ask.entry.store.now) (M.left machine.new)) }
-    ensures asked { AsksPath (M.wanted machine.old) ask.entry.store.now (M.wanted machine.new) }
+    ensures back { GivesBack (M.seen machine.old).shows (M.seen machine.old).left (M.seen machine.new).left }
+    ensures there { OnEnded result (HasBoth (M.seen machine.old).shows ((M.seen machine.old).stands ask.entry.store.now) (M.seen machine.new).left) }
+    ensures asked { AsksPath (M.seen machine.old).wanted ask.entry.store.now (M.seen machine.new).wanted }
 {
     let mut store = open_store(alloc, ask.store, machine)?;
     let put = put_staff(&mut store, ask.key);
@@ -81,13 +81,13 @@ pub(crate) fn staff_key<W: Write, M: Machine>(
     ensures refused { IfErr result (λ refusal.
         RefusesStaffKey refusal (W.contents output.old) (W.contents output.new)) }
     ensures put { OnOk result
-        (EndsWith (M.stands machine.old ask.entry.store.now) (M.left machine.new) (PutsStaff M.Disk.Store (sha256 ask.entry.key.now))) }
+        (EndsWith ((M.seen machine.old).stands ask.entry.store.now) (M.seen machine.new).left (PutsStaff M.Disk.Store (sha256 ask.entry.key.now))) }
     ensures left { IfErr result
-        (LeavesStaffKey M.Disk.Store (M.left machine.old) (M.stands machine.old ask.entry.store.now) (M.left machine.new) (sha256 ask.entry.key.now)) }
-    ensures opens { IfErr result (NamesOpening M.Disk.Store (M.stands machine.old ask.entry.store.now) (M.left machine.new)) }
-    ensures back { GivesBack (M.shows machine.old) (M.left machine.old) (M.left machine.new) }
-    ensures there { OnEnded result (HasBoth (M.shows machine.old) (M.stands machine.old ask.entry.store.now) (M.left machine.new)) }
-    ensures asked { AsksPath (M.wanted machine.old) ask.entry.store.now (M.wanted machine.new) }
+        (LeavesStaffKey M.Disk.Store (M.seen machine.old).left ((M.seen machine.old).stands ask.entry.store.now) (M.seen machine.new).left (sha256 ask.entry.key.now)) }
+    ensures opens { IfErr result (NamesOpening M.Disk.Store ((M.seen machine.old).stands ask.entry.store.now) (M.seen machine.new).left) }
+    ensures back { GivesBack (M.seen machine.old).shows (M.seen machine.old).left (M.seen machine.new).left }
+    ensures there { OnEnded result (HasBoth (M.seen machine.old).shows ((M.seen machine.old).stands ask.entry.store.now) (M.seen machine.new).left) }
+    ensures asked { AsksPath (M.seen machine.old).wanted ask.entry.store.now (M.seen machine.new).wanted }
 {
     put_in_store(alloc, ask, machine)?;
     write_whole::<M, W>(output, b"done\n")

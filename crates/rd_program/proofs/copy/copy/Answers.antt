@@ -5,12 +5,12 @@ use Rattle.rd_program.proofs.copy.copy.Goals as goal
 
 pub returns-clause-opens : goal.returns-clause-opens
 returns-clause-opens g c =
-    device_opens c.write_whole.result g.M.Disk.Store (g.M.Machine.stands c.args.machine.now c.args.ask.store.now) (g.M.Machine.left c.copy_store.new.machine) c.write_whole.ensures.device
+    device_opens c.write_whole.result g.M.Disk.Store ((g.M.Machine.seen c.args.machine.now).stands c.args.ask.store.now) (g.M.Machine.seen c.copy_store.new.machine).left c.write_whole.ensures.device
 
 pub returns-clause-not_copied : goal.returns-clause-not_copied
 returns-clause-not_copied g c =
-    device_leaves c.write_whole.result g.M.Disk.Store (g.M.Machine.stands c.args.machine.now c.args.ask.store.now) (g.M.Machine.left c.copy_store.new.machine) (g.M.Machine.made c.args.machine.now)
-    (g.M.Machine.fresh c.args.machine.now c.args.ask.target.now) (g.M.Machine.made c.copy_store.new.machine) c.write_whole.ensures.device c.in_ok-copy_store.ensures.copied.1
+    device_leaves c.write_whole.result g.M.Disk.Store ((g.M.Machine.seen c.args.machine.now).stands c.args.ask.store.now) (g.M.Machine.seen c.copy_store.new.machine).left (g.M.Machine.seen c.args.machine.now).made
+    ((g.M.Machine.seen c.args.machine.now).fresh c.args.ask.target.now) (g.M.Machine.seen c.copy_store.new.machine).made c.write_whole.ensures.device c.in_ok-copy_store.ensures.copied.1
 
 pub returns-in_err-copy_store-clause-refused : goal.returns-in_err-copy_store-clause-refused
 returns-in_err-copy_store-clause-refused g c =

@@ -15,7 +15,7 @@ use Rattle.rd_program.specs.Copying.{CopiesBy}
 use Rattle.rd_program.proofs.CopyLemmas.{copy_done, copy_kept, copy_never}
 use Rattle.rd_program.proofs.StaffKeyLemmas.{at_err_all, left_unput_as, opens_as, put_as, staff_key_never, staff_key_not_1}
 use Rattle.rd_program.proofs.LeftStoresByWords.{no_refusal}
-use Rattle.rd_program.proofs.FileLemmas.{flushed_once, stands_nowhere}
+use Rattle.rd_program.proofs.FileLemmas.{done_as, flushed_once, refused_as, stands_nowhere}
 use Rattle.rd_commands.proofs.RunLemmas.{as_asked}
 use Rattle.std.specs.Prelude.{IsSome}
 use Rattle.rd_program.specs.DiskFiles.{GivesFile, IsOfImage}
@@ -133,14 +133,14 @@ pub returns-in-Init-clause-made : goal.returns-in-Init-clause-made
 returns-in-Init-clause-made g c = λ store key asked.
     let asks : AsksNew c.in-Init.ask store key = subst (IsInitAsk store key) c.in-Init.is asked in
     ok_whole _ c.init.result c.whole-in-Init.result c.whole-in-Init.ensures (on_both c.init.result _ _
-    (made_as _ (g.M.Machine.stands c.args.machine.now) (g.M.Machine.left c.init.new.machine) c.init.result _ store _ key asks.store_is asks.key_is c.init.ensures.made)
+    (made_as _ (g.M.Machine.seen c.args.machine.now).stands (g.M.Machine.seen c.init.new.machine).left c.init.result _ store _ key asks.store_is asks.key_is c.init.ensures.made)
     c.init.ensures.done)
 
 pub returns-in-Init-clause-not_made : goal.returns-in-Init-clause-not_made
 returns-in-Init-clause-not_made g c = λ store key asked.
     let asks : AsksNew c.in-Init.ask store key = subst (IsInitAsk store key) c.in-Init.is asked in
     err_whole _ c.init.result c.whole-in-Init.result c.whole-in-Init.ensures (at_err_both c.init.result _ _ c.init.ensures.refused
-    (left_as _ (g.M.Machine.left c.args.machine.now) (g.M.Machine.stands c.args.machine.now) (g.M.Machine.left c.init.new.machine) c.init.result _ store _ key asks.store_is asks.key_is c.init.ensures.left))
+    (left_as _ (g.M.Machine.seen c.args.machine.now).left (g.M.Machine.seen c.args.machine.now).stands (g.M.Machine.seen c.init.new.machine).left c.init.result _ store _ key asks.store_is asks.key_is c.init.ensures.left))
 
 pub returns-in-Serve-clause-served : goal.returns-in-Serve-clause-served
 returns-in-Serve-clause-served g c = λ store place count rule asked.
@@ -296,319 +296,323 @@ returns-in-OneQuestion-clause-not_answered g c = λ asked. c.ask_once.ensures.re
 
 pub returns-in-Serve-clause-leaves : goal.returns-in-Serve-clause-leaves
 returns-in-Serve-clause-leaves g c =
-    subst (LeavesBy g.M.Disk.Store (g.M.Machine.clock c.args.machine.now) (g.M.Machine.left c.args.machine.now) (g.M.Machine.stands c.args.machine.now) (g.M.Machine.left c.serve.new.machine)) (sym c.in-Serve.is) c.serve.ensures.lasts
+    subst (LeavesBy g.M.Disk.Store (g.M.Machine.seen c.args.machine.now).clock (g.M.Machine.seen c.args.machine.now).left (g.M.Machine.seen c.args.machine.now).stands (g.M.Machine.seen c.serve.new.machine).left) (sym c.in-Serve.is) c.serve.ensures.lasts
 
 pub returns-in-Serve-clause-leaves_refused : goal.returns-in-Serve-clause-leaves_refused
 returns-in-Serve-clause-leaves_refused g c =
     err_whole _ c.serve.result c.whole-in-Serve.result c.whole-in-Serve.ensures
-    (subst (λ ask. IfErr c.serve.result (LeavesRefused g.M.Disk.Store (g.M.Machine.left c.args.machine.now) (g.M.Machine.stands c.args.machine.now) (g.M.Machine.left c.serve.new.machine)
+    (subst (λ ask. IfErr c.serve.result (LeavesRefused g.M.Disk.Store (g.M.Machine.seen c.args.machine.now).left (g.M.Machine.seen c.args.machine.now).stands (g.M.Machine.seen c.serve.new.machine).left
     (g.W.Write.contents c.args.output.now) (g.W.Write.contents c.serve.new.output) ask)) (sym c.in-Serve.is) c.serve.ensures.left)
 
 pub returns-in-Import-clause-leaves : goal.returns-in-Import-clause-leaves
 returns-in-Import-clause-leaves g c =
-    subst (LeavesBy g.M.Disk.Store (g.M.Machine.clock c.args.machine.now) (g.M.Machine.left c.args.machine.now) (g.M.Machine.stands c.args.machine.now) (g.M.Machine.left c.import.new.machine)) (sym c.in-Import.is) c.import.ensures.takes
+    subst (LeavesBy g.M.Disk.Store (g.M.Machine.seen c.args.machine.now).clock (g.M.Machine.seen c.args.machine.now).left (g.M.Machine.seen c.args.machine.now).stands (g.M.Machine.seen c.import.new.machine).left) (sym c.in-Import.is) c.import.ensures.takes
 
 pub returns-in-Import-clause-leaves_refused : goal.returns-in-Import-clause-leaves_refused
 returns-in-Import-clause-leaves_refused g c =
-    subst (λ ask. IfErr c.import.result (LeavesRefused g.M.Disk.Store (g.M.Machine.left c.args.machine.now) (g.M.Machine.stands c.args.machine.now) (g.M.Machine.left c.import.new.machine)
+    subst (λ ask. IfErr c.import.result (LeavesRefused g.M.Disk.Store (g.M.Machine.seen c.args.machine.now).left (g.M.Machine.seen c.args.machine.now).stands (g.M.Machine.seen c.import.new.machine).left
     (g.W.Write.contents c.args.output.now) (g.W.Write.contents c.import.new.output) ask)) (sym c.in-Import.is) c.import.ensures.opens
 
 pub returns-in-OneQuestion-clause-leaves : goal.returns-in-OneQuestion-clause-leaves
 returns-in-OneQuestion-clause-leaves g c =
-    subst (LeavesBy g.M.Disk.Store (g.M.Machine.clock c.args.machine.now) (g.M.Machine.left c.args.machine.now) (g.M.Machine.stands c.args.machine.now) (g.M.Machine.left c.ask_once.new.machine)) (sym c.in-OneQuestion.is) c.ask_once.ensures.steps
+    subst (LeavesBy g.M.Disk.Store (g.M.Machine.seen c.args.machine.now).clock (g.M.Machine.seen c.args.machine.now).left (g.M.Machine.seen c.args.machine.now).stands (g.M.Machine.seen c.ask_once.new.machine).left) (sym c.in-OneQuestion.is) c.ask_once.ensures.steps
 
 pub returns-in-OneQuestion-clause-leaves_refused : goal.returns-in-OneQuestion-clause-leaves_refused
 returns-in-OneQuestion-clause-leaves_refused g c =
-    subst (λ ask. IfErr c.ask_once.result (LeavesRefused g.M.Disk.Store (g.M.Machine.left c.args.machine.now) (g.M.Machine.stands c.args.machine.now) (g.M.Machine.left c.ask_once.new.machine)
+    subst (λ ask. IfErr c.ask_once.result (LeavesRefused g.M.Disk.Store (g.M.Machine.seen c.args.machine.now).left (g.M.Machine.seen c.args.machine.now).stands (g.M.Machine.seen c.ask_once.new.machine).left
     (g.W.Write.contents c.args.output.now) (g.W.Write.contents c.ask_once.new.output) ask)) (sym c.in-OneQuestion.is) c.ask_once.ensures.opens
 
 pub returns-in-File-clause-leaves : goal.returns-in-File-clause-leaves
 returns-in-File-clause-leaves g c =
-    subst (LeavesBy g.M.Disk.Store (g.M.Machine.clock c.args.machine.now) (g.M.Machine.left c.args.machine.now) (g.M.Machine.stands c.args.machine.now) (g.M.Machine.left c.cat.new.machine)) (sym c.in-File.is) tt
+    subst (LeavesBy g.M.Disk.Store (g.M.Machine.seen c.args.machine.now).clock (g.M.Machine.seen c.args.machine.now).left (g.M.Machine.seen c.args.machine.now).stands (g.M.Machine.seen c.cat.new.machine).left) (sym c.in-File.is) tt
 
 pub returns-in-File-clause-leaves_refused : goal.returns-in-File-clause-leaves_refused
 returns-in-File-clause-leaves_refused g c =
-    subst (λ ask. IfErr c.whole.result (LeavesRefused g.M.Disk.Store (g.M.Machine.left c.args.machine.now) (g.M.Machine.stands c.args.machine.now) (g.M.Machine.left c.cat.new.machine)
+    subst (λ ask. IfErr c.whole.result (LeavesRefused g.M.Disk.Store (g.M.Machine.seen c.args.machine.now).left (g.M.Machine.seen c.args.machine.now).stands (g.M.Machine.seen c.cat.new.machine).left
     (g.W.Write.contents c.args.output.now) (g.W.Write.contents c.cat.new.output) ask)) (sym c.in-File.is) (no_refusal c.whole.result)
 
 pub returns-in-Files-clause-leaves : goal.returns-in-Files-clause-leaves
 returns-in-Files-clause-leaves g c =
-    subst (LeavesBy g.M.Disk.Store (g.M.Machine.clock c.args.machine.now) (g.M.Machine.left c.args.machine.now) (g.M.Machine.stands c.args.machine.now) (g.M.Machine.left c.list.new.machine)) (sym c.in-Files.is) tt
+    subst (LeavesBy g.M.Disk.Store (g.M.Machine.seen c.args.machine.now).clock (g.M.Machine.seen c.args.machine.now).left (g.M.Machine.seen c.args.machine.now).stands (g.M.Machine.seen c.list.new.machine).left) (sym c.in-Files.is) tt
 
 pub returns-in-Files-clause-leaves_refused : goal.returns-in-Files-clause-leaves_refused
 returns-in-Files-clause-leaves_refused g c =
-    subst (λ ask. IfErr c.whole-in-Files.result (LeavesRefused g.M.Disk.Store (g.M.Machine.left c.args.machine.now) (g.M.Machine.stands c.args.machine.now) (g.M.Machine.left c.list.new.machine)
+    subst (λ ask. IfErr c.whole-in-Files.result (LeavesRefused g.M.Disk.Store (g.M.Machine.seen c.args.machine.now).left (g.M.Machine.seen c.args.machine.now).stands (g.M.Machine.seen c.list.new.machine).left
     (g.W.Write.contents c.args.output.now) (g.W.Write.contents c.list.new.output) ask)) (sym c.in-Files.is) (no_refusal c.whole-in-Files.result)
 
 pub returns-in-Init-clause-leaves : goal.returns-in-Init-clause-leaves
 returns-in-Init-clause-leaves g c =
-    subst (LeavesBy g.M.Disk.Store (g.M.Machine.clock c.args.machine.now) (g.M.Machine.left c.args.machine.now) (g.M.Machine.stands c.args.machine.now) (g.M.Machine.left c.init.new.machine)) (sym c.in-Init.is) tt
+    subst (LeavesBy g.M.Disk.Store (g.M.Machine.seen c.args.machine.now).clock (g.M.Machine.seen c.args.machine.now).left (g.M.Machine.seen c.args.machine.now).stands (g.M.Machine.seen c.init.new.machine).left) (sym c.in-Init.is) tt
 
 pub returns-in-Init-clause-leaves_refused : goal.returns-in-Init-clause-leaves_refused
 returns-in-Init-clause-leaves_refused g c =
-    subst (λ ask. IfErr c.whole-in-Init.result (LeavesRefused g.M.Disk.Store (g.M.Machine.left c.args.machine.now) (g.M.Machine.stands c.args.machine.now) (g.M.Machine.left c.init.new.machine)
+    subst (λ ask. IfErr c.whole-in-Init.result (LeavesRefused g.M.Disk.Store (g.M.Machine.seen c.args.machine.now).left (g.M.Machine.seen c.args.machine.now).stands (g.M.Machine.seen c.init.new.machine).left
     (g.W.Write.contents c.args.output.now) (g.W.Write.contents c.init.new.output) ask)) (sym c.in-Init.is) (no_refusal c.whole-in-Init.result)
 
 pub returns-in-File-clause-answers : goal.returns-in-File-clause-answers
 returns-in-File-clause-answers g c =
-    subst (λ ask. AnswersBy g.M.Disk.Store (g.M.Machine.clock c.args.machine.now) (g.M.Machine.stands c.args.machine.now) (g.M.Machine.left c.cat.new.machine)
+    subst (λ ask. AnswersBy g.M.Disk.Store (g.M.Machine.seen c.args.machine.now).clock (g.M.Machine.seen c.args.machine.now).stands (g.M.Machine.seen c.cat.new.machine).left
     (g.W.Write.contents c.args.output.now) (g.W.Write.contents c.cat.new.output) ask c.whole.result) (sym c.in-File.is) tt
 
 pub returns-in-File-clause-of_file : goal.returns-in-File-clause-of_file
 returns-in-File-clause-of_file g c =
-    subst (λ ask. GivesFile (g.M.Files.file_bytes c.args.machine.now) (g.W.Write.contents c.args.output.now) (g.W.Write.contents c.cat.new.output) ask c.whole.result) (sym c.in-File.is) (λ other. record {
-      done = ok_whole _ c.cat.result c.whole.result c.whole.ensures (c.cat.ensures.done_file other);
-      refused = err_whole _ c.cat.result c.whole.result c.whole.ensures (c.cat.ensures.refused_file other);
+    subst (λ ask. GivesFile (g.M.Machine.seen c.args.machine.now).files (g.W.Write.contents c.args.output.now) (g.W.Write.contents c.cat.new.output) ask c.whole.result) (sym c.in-File.is) (λ other. record {
+      done = ok_whole _ c.cat.result c.whole.result c.whole.ensures
+          (done_as c.cat.result _ _ c.in-File.ask.image.now (λ image. Serves c.in-File.ask.kind c.in-File.ask.slot image (g.W.Write.contents c.args.output.now) (g.W.Write.contents c.cat.new.output)) (g.met.M.Machine.gives c.args.machine.now).0 (c.cat.ensures.done_file other));
+      refused = err_whole _ c.cat.result c.whole.result c.whole.ensures
+          (refused_as c.cat.result _ _ c.in-File.ask.image.now (λ refusal image. Refuses refusal c.in-File.ask.kind c.in-File.ask.slot image (g.W.Write.contents c.args.output.now) (g.W.Write.contents c.cat.new.output)) (g.met.M.Machine.gives c.args.machine.now).0 (c.cat.ensures.refused_file other));
     })
 
 pub returns-in-File-clause-untouched : goal.returns-in-File-clause-untouched
 returns-in-File-clause-untouched g c = λ of. c.cat.ensures.same
 
 pub returns-in-File-clause-back : goal.returns-in-File-clause-back
-returns-in-File-clause-back g c = λ shows had. subst (λ m. IsSome (g.M.Machine.left m)) (sym c.cat.ensures.same) had
+returns-in-File-clause-back g c = λ shows had. subst (λ m. IsSome (g.M.Machine.seen m).left) (sym c.cat.ensures.same) had
 
 pub returns-in-Files-clause-answers : goal.returns-in-Files-clause-answers
 returns-in-Files-clause-answers g c =
-    subst (λ ask. AnswersBy g.M.Disk.Store (g.M.Machine.clock c.args.machine.now) (g.M.Machine.stands c.args.machine.now) (g.M.Machine.left c.list.new.machine)
+    subst (λ ask. AnswersBy g.M.Disk.Store (g.M.Machine.seen c.args.machine.now).clock (g.M.Machine.seen c.args.machine.now).stands (g.M.Machine.seen c.list.new.machine).left
     (g.W.Write.contents c.args.output.now) (g.W.Write.contents c.list.new.output) ask c.whole-in-Files.result) (sym c.in-Files.is) tt
 
 pub returns-in-Files-clause-of_file : goal.returns-in-Files-clause-of_file
 returns-in-Files-clause-of_file g c =
-    subst (λ ask. GivesFile (g.M.Files.file_bytes c.args.machine.now) (g.W.Write.contents c.args.output.now) (g.W.Write.contents c.list.new.output) ask c.whole-in-Files.result) (sym c.in-Files.is) (λ other. record {
-      done = ok_whole _ c.list.result c.whole-in-Files.result c.whole-in-Files.ensures (c.list.ensures.done_file other);
-      refused = err_whole _ c.list.result c.whole-in-Files.result c.whole-in-Files.ensures (c.list.ensures.refused_file other);
+    subst (λ ask. GivesFile (g.M.Machine.seen c.args.machine.now).files (g.W.Write.contents c.args.output.now) (g.W.Write.contents c.list.new.output) ask c.whole-in-Files.result) (sym c.in-Files.is) (λ other. record {
+      done = ok_whole _ c.list.result c.whole-in-Files.result c.whole-in-Files.ensures
+          (done_as c.list.result _ _ c.in-Files.ask.image.now (λ image. Lists c.in-Files.ask.kind image (g.W.Write.contents c.args.output.now) (g.W.Write.contents c.list.new.output)) (g.met.M.Machine.gives c.args.machine.now).0 (c.list.ensures.done_file other));
+      refused = err_whole _ c.list.result c.whole-in-Files.result c.whole-in-Files.ensures
+          (refused_as c.list.result _ _ c.in-Files.ask.image.now (λ refusal image. RefusesList refusal c.in-Files.ask.kind image (g.W.Write.contents c.args.output.now) (g.W.Write.contents c.list.new.output)) (g.met.M.Machine.gives c.args.machine.now).0 (c.list.ensures.refused_file other));
     })
 
 pub returns-in-Files-clause-untouched : goal.returns-in-Files-clause-untouched
 returns-in-Files-clause-untouched g c = λ of. c.list.ensures.same
 
 pub returns-in-Files-clause-back : goal.returns-in-Files-clause-back
-returns-in-Files-clause-back g c = λ shows had. subst (λ m. IsSome (g.M.Machine.left m)) (sym c.list.ensures.same) had
+returns-in-Files-clause-back g c = λ shows had. subst (λ m. IsSome (g.M.Machine.seen m).left) (sym c.list.ensures.same) had
 
 pub returns-in-Init-clause-answers : goal.returns-in-Init-clause-answers
 returns-in-Init-clause-answers g c =
-    subst (λ ask. AnswersBy g.M.Disk.Store (g.M.Machine.clock c.args.machine.now) (g.M.Machine.stands c.args.machine.now) (g.M.Machine.left c.init.new.machine)
+    subst (λ ask. AnswersBy g.M.Disk.Store (g.M.Machine.seen c.args.machine.now).clock (g.M.Machine.seen c.args.machine.now).stands (g.M.Machine.seen c.init.new.machine).left
     (g.W.Write.contents c.args.output.now) (g.W.Write.contents c.init.new.output) ask c.whole-in-Init.result) (sym c.in-Init.is) tt
 
 pub returns-in-Init-clause-of_file : goal.returns-in-Init-clause-of_file
 returns-in-Init-clause-of_file g c =
-    subst (λ ask. GivesFile (g.M.Files.file_bytes c.args.machine.now) (g.W.Write.contents c.args.output.now) (g.W.Write.contents c.init.new.output) ask c.whole-in-Init.result) (sym c.in-Init.is) tt
+    subst (λ ask. GivesFile (g.M.Machine.seen c.args.machine.now).files (g.W.Write.contents c.args.output.now) (g.W.Write.contents c.init.new.output) ask c.whole-in-Init.result) (sym c.in-Init.is) tt
 
 pub returns-in-Init-clause-untouched : goal.returns-in-Init-clause-untouched
 returns-in-Init-clause-untouched g c = λ of. absurd (subst IsOfImage c.in-Init.is of)
 
 pub returns-in-Serve-clause-answers : goal.returns-in-Serve-clause-answers
 returns-in-Serve-clause-answers g c =
-    subst (λ ask. AnswersBy g.M.Disk.Store (g.M.Machine.clock c.args.machine.now) (g.M.Machine.stands c.args.machine.now) (g.M.Machine.left c.serve.new.machine)
+    subst (λ ask. AnswersBy g.M.Disk.Store (g.M.Machine.seen c.args.machine.now).clock (g.M.Machine.seen c.args.machine.now).stands (g.M.Machine.seen c.serve.new.machine).left
     (g.W.Write.contents c.args.output.now) (g.W.Write.contents c.serve.new.output) ask c.whole-in-Serve.result) (sym c.in-Serve.is) tt
 
 pub returns-in-Serve-clause-of_file : goal.returns-in-Serve-clause-of_file
 returns-in-Serve-clause-of_file g c =
-    subst (λ ask. GivesFile (g.M.Files.file_bytes c.args.machine.now) (g.W.Write.contents c.args.output.now) (g.W.Write.contents c.serve.new.output) ask c.whole-in-Serve.result) (sym c.in-Serve.is) tt
+    subst (λ ask. GivesFile (g.M.Machine.seen c.args.machine.now).files (g.W.Write.contents c.args.output.now) (g.W.Write.contents c.serve.new.output) ask c.whole-in-Serve.result) (sym c.in-Serve.is) tt
 
 pub returns-in-Serve-clause-untouched : goal.returns-in-Serve-clause-untouched
 returns-in-Serve-clause-untouched g c = λ of. absurd (subst IsOfImage c.in-Serve.is of)
 
 pub returns-in-Import-clause-answers : goal.returns-in-Import-clause-answers
 returns-in-Import-clause-answers g c =
-    subst (λ ask. AnswersBy g.M.Disk.Store (g.M.Machine.clock c.args.machine.now) (g.M.Machine.stands c.args.machine.now) (g.M.Machine.left c.import.new.machine)
+    subst (λ ask. AnswersBy g.M.Disk.Store (g.M.Machine.seen c.args.machine.now).clock (g.M.Machine.seen c.args.machine.now).stands (g.M.Machine.seen c.import.new.machine).left
     (g.W.Write.contents c.args.output.now) (g.W.Write.contents c.import.new.output) ask c.import.result) (sym c.in-Import.is) tt
 
 pub returns-in-Import-clause-unasked : goal.returns-in-Import-clause-unasked
-returns-in-Import-clause-unasked g c = subst (λ ask. IsUnaskedBy (g.M.Machine.clock c.args.machine.now) ask c.import.result) (sym c.in-Import.is) c.import.ensures.unasked
+returns-in-Import-clause-unasked g c = subst (λ ask. IsUnaskedBy (g.M.Machine.seen c.args.machine.now).clock ask c.import.result) (sym c.in-Import.is) c.import.ensures.unasked
 
 pub returns-in-OneQuestion-clause-unasked : goal.returns-in-OneQuestion-clause-unasked
-returns-in-OneQuestion-clause-unasked g c = subst (λ ask. IsUnaskedBy (g.M.Machine.clock c.args.machine.now) ask c.ask_once.result) (sym c.in-OneQuestion.is) c.ask_once.ensures.unasked
+returns-in-OneQuestion-clause-unasked g c = subst (λ ask. IsUnaskedBy (g.M.Machine.seen c.args.machine.now).clock ask c.ask_once.result) (sym c.in-OneQuestion.is) c.ask_once.ensures.unasked
 
 pub returns-in-Import-clause-imports : goal.returns-in-Import-clause-imports
 returns-in-Import-clause-imports g c =
-    subst (λ ask. ImportsBy g.M.Disk.Store (g.M.Files.file_bytes c.args.machine.now) (g.M.Files.sheet_bytes c.args.machine.now) (g.M.Machine.clock c.args.machine.now) (g.M.Machine.stands c.args.machine.now)
-    (g.M.Machine.left c.import.new.machine) (g.W.Write.contents c.args.output.now) (g.W.Write.contents c.import.new.output) ask c.import.result) (sym c.in-Import.is) c.import.ensures.rows
+    subst (λ ask. ImportsBy g.M.Disk.Store (g.M.Machine.seen c.args.machine.now).files (g.M.Machine.seen c.args.machine.now).sheets (g.M.Machine.seen c.args.machine.now).clock (g.M.Machine.seen c.args.machine.now).stands
+    (g.M.Machine.seen c.import.new.machine).left (g.W.Write.contents c.args.output.now) (g.W.Write.contents c.import.new.output) ask c.import.result) (sym c.in-Import.is) c.import.ensures.rows
 
 pub returns-in-Import-clause-of_file : goal.returns-in-Import-clause-of_file
 returns-in-Import-clause-of_file g c =
-    subst (λ ask. GivesFile (g.M.Files.file_bytes c.args.machine.now) (g.W.Write.contents c.args.output.now) (g.W.Write.contents c.import.new.output) ask c.import.result) (sym c.in-Import.is) tt
+    subst (λ ask. GivesFile (g.M.Machine.seen c.args.machine.now).files (g.W.Write.contents c.args.output.now) (g.W.Write.contents c.import.new.output) ask c.import.result) (sym c.in-Import.is) tt
 
 pub returns-in-Import-clause-untouched : goal.returns-in-Import-clause-untouched
 returns-in-Import-clause-untouched g c = λ of. absurd (subst IsOfImage c.in-Import.is of)
 
 pub returns-in-OneQuestion-clause-answers : goal.returns-in-OneQuestion-clause-answers
 returns-in-OneQuestion-clause-answers g c =
-    subst (λ ask. AnswersBy g.M.Disk.Store (g.M.Machine.clock c.args.machine.now) (g.M.Machine.stands c.args.machine.now) (g.M.Machine.left c.ask_once.new.machine)
+    subst (λ ask. AnswersBy g.M.Disk.Store (g.M.Machine.seen c.args.machine.now).clock (g.M.Machine.seen c.args.machine.now).stands (g.M.Machine.seen c.ask_once.new.machine).left
     (g.W.Write.contents c.args.output.now) (g.W.Write.contents c.ask_once.new.output) ask c.ask_once.result) (sym c.in-OneQuestion.is) c.ask_once.ensures.answers
 
 pub returns-in-OneQuestion-clause-of_file : goal.returns-in-OneQuestion-clause-of_file
 returns-in-OneQuestion-clause-of_file g c =
-    subst (λ ask. GivesFile (g.M.Files.file_bytes c.args.machine.now) (g.W.Write.contents c.args.output.now) (g.W.Write.contents c.ask_once.new.output) ask c.ask_once.result) (sym c.in-OneQuestion.is) tt
+    subst (λ ask. GivesFile (g.M.Machine.seen c.args.machine.now).files (g.W.Write.contents c.args.output.now) (g.W.Write.contents c.ask_once.new.output) ask c.ask_once.result) (sym c.in-OneQuestion.is) tt
 
 pub returns-in-OneQuestion-clause-untouched : goal.returns-in-OneQuestion-clause-untouched
 returns-in-OneQuestion-clause-untouched g c = λ of. absurd (subst IsOfImage c.in-OneQuestion.is of)
 
 pub returns-in-File-clause-serves : goal.returns-in-File-clause-serves
 returns-in-File-clause-serves g c =
-    subst (λ ask. OnOk c.whole.result (ServesBy g.M.Disk.Store g.M.Door.Door.told g.M.Door.Door.coming (g.M.Machine.door c.args.machine.now) (g.M.Machine.door c.cat.new.machine)
-    (g.M.Machine.stands c.args.machine.now) (g.M.Machine.left c.cat.new.machine) ask)) (sym c.in-File.is)
+    subst (λ ask. OnOk c.whole.result (ServesBy g.M.Disk.Store g.M.Door.Door.told g.M.Door.Door.coming (g.M.Machine.seen c.args.machine.now).doors (g.M.Machine.seen c.cat.new.machine).doors
+    (g.M.Machine.seen c.args.machine.now).stands (g.M.Machine.seen c.cat.new.machine).left ask)) (sym c.in-File.is)
     (stands_nowhere c.whole.result)
 
 pub returns-in-Files-clause-serves : goal.returns-in-Files-clause-serves
 returns-in-Files-clause-serves g c =
-    subst (λ ask. OnOk c.whole-in-Files.result (ServesBy g.M.Disk.Store g.M.Door.Door.told g.M.Door.Door.coming (g.M.Machine.door c.args.machine.now) (g.M.Machine.door c.list.new.machine)
-    (g.M.Machine.stands c.args.machine.now) (g.M.Machine.left c.list.new.machine) ask)) (sym c.in-Files.is)
+    subst (λ ask. OnOk c.whole-in-Files.result (ServesBy g.M.Disk.Store g.M.Door.Door.told g.M.Door.Door.coming (g.M.Machine.seen c.args.machine.now).doors (g.M.Machine.seen c.list.new.machine).doors
+    (g.M.Machine.seen c.args.machine.now).stands (g.M.Machine.seen c.list.new.machine).left ask)) (sym c.in-Files.is)
     (stands_nowhere c.whole-in-Files.result)
 
 pub returns-in-Init-clause-serves : goal.returns-in-Init-clause-serves
 returns-in-Init-clause-serves g c =
-    subst (λ ask. OnOk c.whole-in-Init.result (ServesBy g.M.Disk.Store g.M.Door.Door.told g.M.Door.Door.coming (g.M.Machine.door c.args.machine.now) (g.M.Machine.door c.init.new.machine)
-    (g.M.Machine.stands c.args.machine.now) (g.M.Machine.left c.init.new.machine) ask)) (sym c.in-Init.is)
+    subst (λ ask. OnOk c.whole-in-Init.result (ServesBy g.M.Disk.Store g.M.Door.Door.told g.M.Door.Door.coming (g.M.Machine.seen c.args.machine.now).doors (g.M.Machine.seen c.init.new.machine).doors
+    (g.M.Machine.seen c.args.machine.now).stands (g.M.Machine.seen c.init.new.machine).left ask)) (sym c.in-Init.is)
     (stands_nowhere c.whole-in-Init.result)
 
 pub returns-in-Serve-clause-serves : goal.returns-in-Serve-clause-serves
 returns-in-Serve-clause-serves g c =
-    subst (λ ask. OnOk c.whole-in-Serve.result (ServesBy g.M.Disk.Store g.M.Door.Door.told g.M.Door.Door.coming (g.M.Machine.door c.args.machine.now) (g.M.Machine.door c.serve.new.machine)
-    (g.M.Machine.stands c.args.machine.now) (g.M.Machine.left c.serve.new.machine) ask)) (sym c.in-Serve.is)
+    subst (λ ask. OnOk c.whole-in-Serve.result (ServesBy g.M.Disk.Store g.M.Door.Door.told g.M.Door.Door.coming (g.M.Machine.seen c.args.machine.now).doors (g.M.Machine.seen c.serve.new.machine).doors
+    (g.M.Machine.seen c.args.machine.now).stands (g.M.Machine.seen c.serve.new.machine).left ask)) (sym c.in-Serve.is)
     (ok_whole _ c.serve.result c.whole-in-Serve.result c.whole-in-Serve.ensures c.serve.ensures.visits)
 
 pub returns-in-Import-clause-serves : goal.returns-in-Import-clause-serves
 returns-in-Import-clause-serves g c =
-    subst (λ ask. OnOk c.import.result (ServesBy g.M.Disk.Store g.M.Door.Door.told g.M.Door.Door.coming (g.M.Machine.door c.args.machine.now) (g.M.Machine.door c.import.new.machine)
-    (g.M.Machine.stands c.args.machine.now) (g.M.Machine.left c.import.new.machine) ask)) (sym c.in-Import.is)
+    subst (λ ask. OnOk c.import.result (ServesBy g.M.Disk.Store g.M.Door.Door.told g.M.Door.Door.coming (g.M.Machine.seen c.args.machine.now).doors (g.M.Machine.seen c.import.new.machine).doors
+    (g.M.Machine.seen c.args.machine.now).stands (g.M.Machine.seen c.import.new.machine).left ask)) (sym c.in-Import.is)
     (stands_nowhere c.import.result)
 
 pub returns-in-OneQuestion-clause-serves : goal.returns-in-OneQuestion-clause-serves
 returns-in-OneQuestion-clause-serves g c =
-    subst (λ ask. OnOk c.ask_once.result (ServesBy g.M.Disk.Store g.M.Door.Door.told g.M.Door.Door.coming (g.M.Machine.door c.args.machine.now) (g.M.Machine.door c.ask_once.new.machine)
-    (g.M.Machine.stands c.args.machine.now) (g.M.Machine.left c.ask_once.new.machine) ask)) (sym c.in-OneQuestion.is)
+    subst (λ ask. OnOk c.ask_once.result (ServesBy g.M.Disk.Store g.M.Door.Door.told g.M.Door.Door.coming (g.M.Machine.seen c.args.machine.now).doors (g.M.Machine.seen c.ask_once.new.machine).doors
+    (g.M.Machine.seen c.args.machine.now).stands (g.M.Machine.seen c.ask_once.new.machine).left ask)) (sym c.in-OneQuestion.is)
     (stands_nowhere c.ask_once.result)
 
 -- ---- how long visitors may take
 
 pub returns-in-File-clause-limits : goal.returns-in-File-clause-limits
-returns-in-File-clause-limits g c = subst (λ ask. OnOk c.whole.result (LimitsVisitors (g.M.Machine.shows c.args.machine.now) (g.M.Machine.door_limits c.cat.new.machine) ask)) (sym c.in-File.is) (no_limits c.whole.result)
+returns-in-File-clause-limits g c = subst (λ ask. OnOk c.whole.result (LimitsVisitors (g.M.Machine.seen c.args.machine.now).shows (g.M.Machine.seen c.cat.new.machine).limits ask)) (sym c.in-File.is) (no_limits c.whole.result)
 
 pub returns-in-Files-clause-limits : goal.returns-in-Files-clause-limits
 returns-in-Files-clause-limits g c =
-    subst (λ ask. OnOk c.whole-in-Files.result (LimitsVisitors (g.M.Machine.shows c.args.machine.now) (g.M.Machine.door_limits c.list.new.machine) ask)) (sym c.in-Files.is) (no_limits c.whole-in-Files.result)
+    subst (λ ask. OnOk c.whole-in-Files.result (LimitsVisitors (g.M.Machine.seen c.args.machine.now).shows (g.M.Machine.seen c.list.new.machine).limits ask)) (sym c.in-Files.is) (no_limits c.whole-in-Files.result)
 
 pub returns-in-Init-clause-limits : goal.returns-in-Init-clause-limits
 returns-in-Init-clause-limits g c =
-    subst (λ ask. OnOk c.whole-in-Init.result (LimitsVisitors (g.M.Machine.shows c.args.machine.now) (g.M.Machine.door_limits c.init.new.machine) ask)) (sym c.in-Init.is) (no_limits c.whole-in-Init.result)
+    subst (λ ask. OnOk c.whole-in-Init.result (LimitsVisitors (g.M.Machine.seen c.args.machine.now).shows (g.M.Machine.seen c.init.new.machine).limits ask)) (sym c.in-Init.is) (no_limits c.whole-in-Init.result)
 
 pub returns-in-Serve-clause-limits : goal.returns-in-Serve-clause-limits
 returns-in-Serve-clause-limits g c =
-    subst (λ ask. OnOk c.whole-in-Serve.result (LimitsVisitors (g.M.Machine.shows c.args.machine.now) (g.M.Machine.door_limits c.serve.new.machine) ask)) (sym c.in-Serve.is)
+    subst (λ ask. OnOk c.whole-in-Serve.result (LimitsVisitors (g.M.Machine.seen c.args.machine.now).shows (g.M.Machine.seen c.serve.new.machine).limits ask)) (sym c.in-Serve.is)
     (ok_whole _ c.serve.result c.whole-in-Serve.result c.whole-in-Serve.ensures c.serve.ensures.limits)
 
 pub returns-in-Import-clause-limits : goal.returns-in-Import-clause-limits
 returns-in-Import-clause-limits g c =
-    subst (λ ask. OnOk c.import.result (LimitsVisitors (g.M.Machine.shows c.args.machine.now) (g.M.Machine.door_limits c.import.new.machine) ask)) (sym c.in-Import.is) (no_limits c.import.result)
+    subst (λ ask. OnOk c.import.result (LimitsVisitors (g.M.Machine.seen c.args.machine.now).shows (g.M.Machine.seen c.import.new.machine).limits ask)) (sym c.in-Import.is) (no_limits c.import.result)
 
 pub returns-in-OneQuestion-clause-limits : goal.returns-in-OneQuestion-clause-limits
 returns-in-OneQuestion-clause-limits g c =
-    subst (λ ask. OnOk c.ask_once.result (LimitsVisitors (g.M.Machine.shows c.args.machine.now) (g.M.Machine.door_limits c.ask_once.new.machine) ask)) (sym c.in-OneQuestion.is) (no_limits c.ask_once.result)
+    subst (λ ask. OnOk c.ask_once.result (LimitsVisitors (g.M.Machine.seen c.args.machine.now).shows (g.M.Machine.seen c.ask_once.new.machine).limits ask)) (sym c.in-OneQuestion.is) (no_limits c.ask_once.result)
 
 -- ---- the store, the clock and the sheet
 
 pub returns-in-File-clause-there : goal.returns-in-File-clause-there
 returns-in-File-clause-there g c =
-    subst (λ ask. OnEnded c.whole.result (StandsThere (g.M.Machine.shows c.args.machine.now) (g.M.Machine.stands c.args.machine.now) (g.M.Machine.left c.cat.new.machine) ask)) (sym c.in-File.is)
+    subst (λ ask. OnEnded c.whole.result (StandsThere (g.M.Machine.seen c.args.machine.now).shows (g.M.Machine.seen c.args.machine.now).stands (g.M.Machine.seen c.cat.new.machine).left ask)) (sym c.in-File.is)
     (on_ended_always c.whole.result _ tt)
 
 pub returns-in-File-clause-clock : goal.returns-in-File-clause-clock
 returns-in-File-clause-clock g c =
-    subst (λ ask. IfErr c.whole.result (IsClockDueBy g.M.Disk.Store (g.M.Machine.stands c.args.machine.now) (g.M.Machine.left c.cat.new.machine) ask)) (sym c.in-File.is) (no_refusal c.whole.result)
+    subst (λ ask. IfErr c.whole.result (IsClockDueBy g.M.Disk.Store (g.M.Machine.seen c.args.machine.now).stands (g.M.Machine.seen c.cat.new.machine).left ask)) (sym c.in-File.is) (no_refusal c.whole.result)
 
 pub returns-in-File-clause-bad_sheet : goal.returns-in-File-clause-bad_sheet
 returns-in-File-clause-bad_sheet g c =
-    subst (λ ask. IfErr c.whole.result (RefusesSheetBy (g.M.Files.sheet_bytes c.args.machine.now) ask)) (sym c.in-File.is) (no_refusal c.whole.result)
+    subst (λ ask. IfErr c.whole.result (RefusesSheetBy (g.M.Machine.seen c.args.machine.now).sheets ask)) (sym c.in-File.is) (no_refusal c.whole.result)
 
 pub returns-in-Files-clause-there : goal.returns-in-Files-clause-there
 returns-in-Files-clause-there g c =
-    subst (λ ask. OnEnded c.whole-in-Files.result (StandsThere (g.M.Machine.shows c.args.machine.now) (g.M.Machine.stands c.args.machine.now) (g.M.Machine.left c.list.new.machine) ask)) (sym c.in-Files.is)
+    subst (λ ask. OnEnded c.whole-in-Files.result (StandsThere (g.M.Machine.seen c.args.machine.now).shows (g.M.Machine.seen c.args.machine.now).stands (g.M.Machine.seen c.list.new.machine).left ask)) (sym c.in-Files.is)
     (on_ended_always c.whole-in-Files.result _ tt)
 
 pub returns-in-Files-clause-clock : goal.returns-in-Files-clause-clock
 returns-in-Files-clause-clock g c =
-    subst (λ ask. IfErr c.whole-in-Files.result (IsClockDueBy g.M.Disk.Store (g.M.Machine.stands c.args.machine.now) (g.M.Machine.left c.list.new.machine) ask)) (sym c.in-Files.is) (no_refusal c.whole-in-Files.result)
+    subst (λ ask. IfErr c.whole-in-Files.result (IsClockDueBy g.M.Disk.Store (g.M.Machine.seen c.args.machine.now).stands (g.M.Machine.seen c.list.new.machine).left ask)) (sym c.in-Files.is) (no_refusal c.whole-in-Files.result)
 
 pub returns-in-Files-clause-bad_sheet : goal.returns-in-Files-clause-bad_sheet
 returns-in-Files-clause-bad_sheet g c =
-    subst (λ ask. IfErr c.whole-in-Files.result (RefusesSheetBy (g.M.Files.sheet_bytes c.args.machine.now) ask)) (sym c.in-Files.is) (no_refusal c.whole-in-Files.result)
+    subst (λ ask. IfErr c.whole-in-Files.result (RefusesSheetBy (g.M.Machine.seen c.args.machine.now).sheets ask)) (sym c.in-Files.is) (no_refusal c.whole-in-Files.result)
 
 pub returns-in-Init-clause-there : goal.returns-in-Init-clause-there
 returns-in-Init-clause-there g c =
-    subst (λ ask. OnEnded c.whole-in-Init.result (StandsThere (g.M.Machine.shows c.args.machine.now) (g.M.Machine.stands c.args.machine.now) (g.M.Machine.left c.init.new.machine) ask)) (sym c.in-Init.is)
+    subst (λ ask. OnEnded c.whole-in-Init.result (StandsThere (g.M.Machine.seen c.args.machine.now).shows (g.M.Machine.seen c.args.machine.now).stands (g.M.Machine.seen c.init.new.machine).left ask)) (sym c.in-Init.is)
     (ended_whole _ c.init.result c.whole-in-Init.result c.whole-in-Init.ensures c.init.ensures.there)
 
 pub returns-in-Init-clause-clock : goal.returns-in-Init-clause-clock
 returns-in-Init-clause-clock g c =
-    subst (λ ask. IfErr c.whole-in-Init.result (IsClockDueBy g.M.Disk.Store (g.M.Machine.stands c.args.machine.now) (g.M.Machine.left c.init.new.machine) ask)) (sym c.in-Init.is) (no_refusal c.whole-in-Init.result)
+    subst (λ ask. IfErr c.whole-in-Init.result (IsClockDueBy g.M.Disk.Store (g.M.Machine.seen c.args.machine.now).stands (g.M.Machine.seen c.init.new.machine).left ask)) (sym c.in-Init.is) (no_refusal c.whole-in-Init.result)
 
 pub returns-in-Init-clause-bad_sheet : goal.returns-in-Init-clause-bad_sheet
 returns-in-Init-clause-bad_sheet g c =
-    subst (λ ask. IfErr c.whole-in-Init.result (RefusesSheetBy (g.M.Files.sheet_bytes c.args.machine.now) ask)) (sym c.in-Init.is) (no_refusal c.whole-in-Init.result)
+    subst (λ ask. IfErr c.whole-in-Init.result (RefusesSheetBy (g.M.Machine.seen c.args.machine.now).sheets ask)) (sym c.in-Init.is) (no_refusal c.whole-in-Init.result)
 
 pub returns-in-Serve-clause-there : goal.returns-in-Serve-clause-there
 returns-in-Serve-clause-there g c =
-    subst (λ ask. OnEnded c.whole-in-Serve.result (StandsThere (g.M.Machine.shows c.args.machine.now) (g.M.Machine.stands c.args.machine.now) (g.M.Machine.left c.serve.new.machine) ask)) (sym c.in-Serve.is)
+    subst (λ ask. OnEnded c.whole-in-Serve.result (StandsThere (g.M.Machine.seen c.args.machine.now).shows (g.M.Machine.seen c.args.machine.now).stands (g.M.Machine.seen c.serve.new.machine).left ask)) (sym c.in-Serve.is)
     (ended_whole _ c.serve.result c.whole-in-Serve.result c.whole-in-Serve.ensures c.serve.ensures.there)
 
 pub returns-in-Serve-clause-clock : goal.returns-in-Serve-clause-clock
 returns-in-Serve-clause-clock g c =
-    subst (λ ask. IfErr c.whole-in-Serve.result (IsClockDueBy g.M.Disk.Store (g.M.Machine.stands c.args.machine.now) (g.M.Machine.left c.serve.new.machine) ask)) (sym c.in-Serve.is) (no_refusal c.whole-in-Serve.result)
+    subst (λ ask. IfErr c.whole-in-Serve.result (IsClockDueBy g.M.Disk.Store (g.M.Machine.seen c.args.machine.now).stands (g.M.Machine.seen c.serve.new.machine).left ask)) (sym c.in-Serve.is) (no_refusal c.whole-in-Serve.result)
 
 pub returns-in-Serve-clause-bad_sheet : goal.returns-in-Serve-clause-bad_sheet
 returns-in-Serve-clause-bad_sheet g c =
-    subst (λ ask. IfErr c.whole-in-Serve.result (RefusesSheetBy (g.M.Files.sheet_bytes c.args.machine.now) ask)) (sym c.in-Serve.is) (no_refusal c.whole-in-Serve.result)
+    subst (λ ask. IfErr c.whole-in-Serve.result (RefusesSheetBy (g.M.Machine.seen c.args.machine.now).sheets ask)) (sym c.in-Serve.is) (no_refusal c.whole-in-Serve.result)
 
 pub returns-in-Import-clause-there : goal.returns-in-Import-clause-there
 returns-in-Import-clause-there g c =
-    subst (λ ask. OnEnded c.import.result (StandsThere (g.M.Machine.shows c.args.machine.now) (g.M.Machine.stands c.args.machine.now) (g.M.Machine.left c.import.new.machine) ask)) (sym c.in-Import.is)
+    subst (λ ask. OnEnded c.import.result (StandsThere (g.M.Machine.seen c.args.machine.now).shows (g.M.Machine.seen c.args.machine.now).stands (g.M.Machine.seen c.import.new.machine).left ask)) (sym c.in-Import.is)
     c.import.ensures.there
 
 pub returns-in-Import-clause-clock : goal.returns-in-Import-clause-clock
 returns-in-Import-clause-clock g c =
-    subst (λ ask. IfErr c.import.result (IsClockDueBy g.M.Disk.Store (g.M.Machine.stands c.args.machine.now) (g.M.Machine.left c.import.new.machine) ask)) (sym c.in-Import.is) c.import.ensures.clock
+    subst (λ ask. IfErr c.import.result (IsClockDueBy g.M.Disk.Store (g.M.Machine.seen c.args.machine.now).stands (g.M.Machine.seen c.import.new.machine).left ask)) (sym c.in-Import.is) c.import.ensures.clock
 
 pub returns-in-Import-clause-bad_sheet : goal.returns-in-Import-clause-bad_sheet
 returns-in-Import-clause-bad_sheet g c =
-    subst (λ ask. IfErr c.import.result (RefusesSheetBy (g.M.Files.sheet_bytes c.args.machine.now) ask)) (sym c.in-Import.is) c.import.ensures.bad_sheet
+    subst (λ ask. IfErr c.import.result (RefusesSheetBy (g.M.Machine.seen c.args.machine.now).sheets ask)) (sym c.in-Import.is) c.import.ensures.bad_sheet
 
 pub returns-in-OneQuestion-clause-there : goal.returns-in-OneQuestion-clause-there
 returns-in-OneQuestion-clause-there g c =
-    subst (λ ask. OnEnded c.ask_once.result (StandsThere (g.M.Machine.shows c.args.machine.now) (g.M.Machine.stands c.args.machine.now) (g.M.Machine.left c.ask_once.new.machine) ask)) (sym c.in-OneQuestion.is)
+    subst (λ ask. OnEnded c.ask_once.result (StandsThere (g.M.Machine.seen c.args.machine.now).shows (g.M.Machine.seen c.args.machine.now).stands (g.M.Machine.seen c.ask_once.new.machine).left ask)) (sym c.in-OneQuestion.is)
     c.ask_once.ensures.there
 
 pub returns-in-OneQuestion-clause-clock : goal.returns-in-OneQuestion-clause-clock
 returns-in-OneQuestion-clause-clock g c =
-    subst (λ ask. IfErr c.ask_once.result (IsClockDueBy g.M.Disk.Store (g.M.Machine.stands c.args.machine.now) (g.M.Machine.left c.ask_once.new.machine) ask)) (sym c.in-OneQuestion.is) c.ask_once.ensures.clock
+    subst (λ ask. IfErr c.ask_once.result (IsClockDueBy g.M.Disk.Store (g.M.Machine.seen c.args.machine.now).stands (g.M.Machine.seen c.ask_once.new.machine).left ask)) (sym c.in-OneQuestion.is) c.ask_once.ensures.clock
 
 pub returns-in-OneQuestion-clause-bad_sheet : goal.returns-in-OneQuestion-clause-bad_sheet
 returns-in-OneQuestion-clause-bad_sheet g c =
-    subst (λ ask. IfErr c.ask_once.result (RefusesSheetBy (g.M.Files.sheet_bytes c.args.machine.now) ask)) (sym c.in-OneQuestion.is) (no_refusal c.ask_once.result)
+    subst (λ ask. IfErr c.ask_once.result (RefusesSheetBy (g.M.Machine.seen c.args.machine.now).sheets ask)) (sym c.in-OneQuestion.is) (no_refusal c.ask_once.result)
 
 pub returns-in-File-clause-asked : goal.returns-in-File-clause-asked
 returns-in-File-clause-asked g c =
-    subst (λ ask. AsksBy (g.M.Machine.wanted c.args.machine.now) ask (g.M.Machine.wanted c.cat.new.machine)) (sym c.in-File.is) (ap g.M.Machine.wanted c.cat.ensures.same)
+    subst (λ ask. AsksBy (g.M.Machine.seen c.args.machine.now).wanted ask (g.M.Machine.seen c.cat.new.machine).wanted) (sym c.in-File.is) (ap (λ m. (g.M.Machine.seen m).wanted) c.cat.ensures.same)
 
 pub returns-in-Files-clause-asked : goal.returns-in-Files-clause-asked
 returns-in-Files-clause-asked g c =
-    subst (λ ask. AsksBy (g.M.Machine.wanted c.args.machine.now) ask (g.M.Machine.wanted c.list.new.machine)) (sym c.in-Files.is) (ap g.M.Machine.wanted c.list.ensures.same)
+    subst (λ ask. AsksBy (g.M.Machine.seen c.args.machine.now).wanted ask (g.M.Machine.seen c.list.new.machine).wanted) (sym c.in-Files.is) (ap (λ m. (g.M.Machine.seen m).wanted) c.list.ensures.same)
 
 pub returns-in-Init-clause-asked : goal.returns-in-Init-clause-asked
 returns-in-Init-clause-asked g c =
-    subst (λ ask. AsksBy (g.M.Machine.wanted c.args.machine.now) ask (g.M.Machine.wanted c.init.new.machine)) (sym c.in-Init.is) c.init.ensures.asked
+    subst (λ ask. AsksBy (g.M.Machine.seen c.args.machine.now).wanted ask (g.M.Machine.seen c.init.new.machine).wanted) (sym c.in-Init.is) c.init.ensures.asked
 
 pub returns-in-Serve-clause-asked : goal.returns-in-Serve-clause-asked
 returns-in-Serve-clause-asked g c =
-    subst (λ ask. AsksBy (g.M.Machine.wanted c.args.machine.now) ask (g.M.Machine.wanted c.serve.new.machine)) (sym c.in-Serve.is) c.serve.ensures.asked
+    subst (λ ask. AsksBy (g.M.Machine.seen c.args.machine.now).wanted ask (g.M.Machine.seen c.serve.new.machine).wanted) (sym c.in-Serve.is) c.serve.ensures.asked
 
 pub returns-in-Import-clause-asked : goal.returns-in-Import-clause-asked
 returns-in-Import-clause-asked g c =
-    subst (λ ask. AsksBy (g.M.Machine.wanted c.args.machine.now) ask (g.M.Machine.wanted c.import.new.machine)) (sym c.in-Import.is) c.import.ensures.asked
+    subst (λ ask. AsksBy (g.M.Machine.seen c.args.machine.now).wanted ask (g.M.Machine.seen c.import.new.machine).wanted) (sym c.in-Import.is) c.import.ensures.asked
 
 pub returns-in-OneQuestion-clause-asked : goal.returns-in-OneQuestion-clause-asked
 returns-in-OneQuestion-clause-asked g c =
-    subst (λ ask. AsksBy (g.M.Machine.wanted c.args.machine.now) ask (g.M.Machine.wanted c.ask_once.new.machine)) (sym c.in-OneQuestion.is) c.ask_once.ensures.asked
+    subst (λ ask. AsksBy (g.M.Machine.seen c.args.machine.now).wanted ask (g.M.Machine.seen c.ask_once.new.machine).wanted) (sym c.in-OneQuestion.is) c.ask_once.ensures.asked
 
 -- ---- a key of the staff
 
@@ -647,51 +651,51 @@ returns-in-StaffKey-clause-not_answered g c = λ asked. absurd (subst AsksADesk 
 
 pub returns-in-StaffKey-clause-leaves : goal.returns-in-StaffKey-clause-leaves
 returns-in-StaffKey-clause-leaves g c =
-    subst (LeavesBy g.M.Disk.Store (g.M.Machine.clock c.args.machine.now) (g.M.Machine.left c.args.machine.now) (g.M.Machine.stands c.args.machine.now) (g.M.Machine.left c.staff_key.new.machine)) (sym c.in-StaffKey.is) tt
+    subst (LeavesBy g.M.Disk.Store (g.M.Machine.seen c.args.machine.now).clock (g.M.Machine.seen c.args.machine.now).left (g.M.Machine.seen c.args.machine.now).stands (g.M.Machine.seen c.staff_key.new.machine).left) (sym c.in-StaffKey.is) tt
 
 pub returns-in-StaffKey-clause-leaves_refused : goal.returns-in-StaffKey-clause-leaves_refused
 returns-in-StaffKey-clause-leaves_refused g c =
-    subst (λ ask. IfErr c.whole-in-StaffKey.result (LeavesRefused g.M.Disk.Store (g.M.Machine.left c.args.machine.now) (g.M.Machine.stands c.args.machine.now) (g.M.Machine.left c.staff_key.new.machine)
+    subst (λ ask. IfErr c.whole-in-StaffKey.result (LeavesRefused g.M.Disk.Store (g.M.Machine.seen c.args.machine.now).left (g.M.Machine.seen c.args.machine.now).stands (g.M.Machine.seen c.staff_key.new.machine).left
     (g.W.Write.contents c.args.output.now) (g.W.Write.contents c.staff_key.new.output) ask)) (sym c.in-StaffKey.is) (no_refusal c.whole-in-StaffKey.result)
 
 pub returns-in-StaffKey-clause-answers : goal.returns-in-StaffKey-clause-answers
 returns-in-StaffKey-clause-answers g c =
-    subst (λ ask. AnswersBy g.M.Disk.Store (g.M.Machine.clock c.args.machine.now) (g.M.Machine.stands c.args.machine.now) (g.M.Machine.left c.staff_key.new.machine)
+    subst (λ ask. AnswersBy g.M.Disk.Store (g.M.Machine.seen c.args.machine.now).clock (g.M.Machine.seen c.args.machine.now).stands (g.M.Machine.seen c.staff_key.new.machine).left
     (g.W.Write.contents c.args.output.now) (g.W.Write.contents c.staff_key.new.output) ask c.whole-in-StaffKey.result) (sym c.in-StaffKey.is) tt
 
 pub returns-in-StaffKey-clause-of_file : goal.returns-in-StaffKey-clause-of_file
 returns-in-StaffKey-clause-of_file g c =
-    subst (λ ask. GivesFile (g.M.Files.file_bytes c.args.machine.now) (g.W.Write.contents c.args.output.now) (g.W.Write.contents c.staff_key.new.output) ask c.whole-in-StaffKey.result) (sym c.in-StaffKey.is) tt
+    subst (λ ask. GivesFile (g.M.Machine.seen c.args.machine.now).files (g.W.Write.contents c.args.output.now) (g.W.Write.contents c.staff_key.new.output) ask c.whole-in-StaffKey.result) (sym c.in-StaffKey.is) tt
 
 pub returns-in-StaffKey-clause-untouched : goal.returns-in-StaffKey-clause-untouched
 returns-in-StaffKey-clause-untouched g c = λ of. absurd (subst IsOfImage c.in-StaffKey.is of)
 
 pub returns-in-StaffKey-clause-serves : goal.returns-in-StaffKey-clause-serves
 returns-in-StaffKey-clause-serves g c =
-    subst (λ ask. OnOk c.whole-in-StaffKey.result (ServesBy g.M.Disk.Store g.M.Door.Door.told g.M.Door.Door.coming (g.M.Machine.door c.args.machine.now) (g.M.Machine.door c.staff_key.new.machine)
-    (g.M.Machine.stands c.args.machine.now) (g.M.Machine.left c.staff_key.new.machine) ask)) (sym c.in-StaffKey.is)
+    subst (λ ask. OnOk c.whole-in-StaffKey.result (ServesBy g.M.Disk.Store g.M.Door.Door.told g.M.Door.Door.coming (g.M.Machine.seen c.args.machine.now).doors (g.M.Machine.seen c.staff_key.new.machine).doors
+    (g.M.Machine.seen c.args.machine.now).stands (g.M.Machine.seen c.staff_key.new.machine).left ask)) (sym c.in-StaffKey.is)
     (stands_nowhere c.whole-in-StaffKey.result)
 
 pub returns-in-StaffKey-clause-limits : goal.returns-in-StaffKey-clause-limits
 returns-in-StaffKey-clause-limits g c =
-    subst (λ ask. OnOk c.whole-in-StaffKey.result (LimitsVisitors (g.M.Machine.shows c.args.machine.now) (g.M.Machine.door_limits c.staff_key.new.machine) ask)) (sym c.in-StaffKey.is) (no_limits c.whole-in-StaffKey.result)
+    subst (λ ask. OnOk c.whole-in-StaffKey.result (LimitsVisitors (g.M.Machine.seen c.args.machine.now).shows (g.M.Machine.seen c.staff_key.new.machine).limits ask)) (sym c.in-StaffKey.is) (no_limits c.whole-in-StaffKey.result)
 
 pub returns-in-StaffKey-clause-there : goal.returns-in-StaffKey-clause-there
 returns-in-StaffKey-clause-there g c =
-    subst (λ ask. OnEnded c.whole-in-StaffKey.result (StandsThere (g.M.Machine.shows c.args.machine.now) (g.M.Machine.stands c.args.machine.now) (g.M.Machine.left c.staff_key.new.machine) ask)) (sym c.in-StaffKey.is)
+    subst (λ ask. OnEnded c.whole-in-StaffKey.result (StandsThere (g.M.Machine.seen c.args.machine.now).shows (g.M.Machine.seen c.args.machine.now).stands (g.M.Machine.seen c.staff_key.new.machine).left ask)) (sym c.in-StaffKey.is)
     (ended_whole _ c.staff_key.result c.whole-in-StaffKey.result c.whole-in-StaffKey.ensures c.staff_key.ensures.there)
 
 pub returns-in-StaffKey-clause-clock : goal.returns-in-StaffKey-clause-clock
 returns-in-StaffKey-clause-clock g c =
-    subst (λ ask. IfErr c.whole-in-StaffKey.result (IsClockDueBy g.M.Disk.Store (g.M.Machine.stands c.args.machine.now) (g.M.Machine.left c.staff_key.new.machine) ask)) (sym c.in-StaffKey.is) (no_refusal c.whole-in-StaffKey.result)
+    subst (λ ask. IfErr c.whole-in-StaffKey.result (IsClockDueBy g.M.Disk.Store (g.M.Machine.seen c.args.machine.now).stands (g.M.Machine.seen c.staff_key.new.machine).left ask)) (sym c.in-StaffKey.is) (no_refusal c.whole-in-StaffKey.result)
 
 pub returns-in-StaffKey-clause-bad_sheet : goal.returns-in-StaffKey-clause-bad_sheet
 returns-in-StaffKey-clause-bad_sheet g c =
-    subst (λ ask. IfErr c.whole-in-StaffKey.result (RefusesSheetBy (g.M.Files.sheet_bytes c.args.machine.now) ask)) (sym c.in-StaffKey.is) (no_refusal c.whole-in-StaffKey.result)
+    subst (λ ask. IfErr c.whole-in-StaffKey.result (RefusesSheetBy (g.M.Machine.seen c.args.machine.now).sheets ask)) (sym c.in-StaffKey.is) (no_refusal c.whole-in-StaffKey.result)
 
 pub returns-in-StaffKey-clause-asked : goal.returns-in-StaffKey-clause-asked
 returns-in-StaffKey-clause-asked g c =
-    subst (λ ask. AsksBy (g.M.Machine.wanted c.args.machine.now) ask (g.M.Machine.wanted c.staff_key.new.machine)) (sym c.in-StaffKey.is) c.staff_key.ensures.asked
+    subst (λ ask. AsksBy (g.M.Machine.seen c.args.machine.now).wanted ask (g.M.Machine.seen c.staff_key.new.machine).wanted) (sym c.in-StaffKey.is) c.staff_key.ensures.asked
 
 pub returns-in-StaffKey-clause-made : goal.returns-in-StaffKey-clause-made
 returns-in-StaffKey-clause-made g c = λ store key asked. absurd (subst (IsInitAsk store key) c.in-StaffKey.is asked)
@@ -713,16 +717,16 @@ pub returns-in-StaffKey-clause-put : goal.returns-in-StaffKey-clause-put
 returns-in-StaffKey-clause-put g c = λ store key asked.
     let asks : AsksStaff c.in-StaffKey.ask store key = subst (IsStaffKeyAsk store key) c.in-StaffKey.is asked in
     ok_whole _ c.staff_key.result c.whole-in-StaffKey.result c.whole-in-StaffKey.ensures (on_both c.staff_key.result _ _
-    (put_as g.M.Disk.Store (g.M.Machine.stands c.args.machine.now) (g.M.Machine.left c.staff_key.new.machine) c.staff_key.result _ store _ key asks.store_is asks.key_is c.staff_key.ensures.put)
+    (put_as g.M.Disk.Store (g.M.Machine.seen c.args.machine.now).stands (g.M.Machine.seen c.staff_key.new.machine).left c.staff_key.result _ store _ key asks.store_is asks.key_is c.staff_key.ensures.put)
     c.staff_key.ensures.done)
 
 pub returns-in-StaffKey-clause-not_put : goal.returns-in-StaffKey-clause-not_put
 returns-in-StaffKey-clause-not_put g c = λ store key asked.
     let asks : AsksStaff c.in-StaffKey.ask store key = subst (IsStaffKeyAsk store key) c.in-StaffKey.is asked in
     err_whole _ c.staff_key.result c.whole-in-StaffKey.result c.whole-in-StaffKey.ensures (at_err_all c.staff_key.result _ _ _ c.staff_key.ensures.refused
-    (left_unput_as g.M.Disk.Store (g.M.Machine.left c.args.machine.now) (g.M.Machine.stands c.args.machine.now) (g.M.Machine.left c.staff_key.new.machine) c.staff_key.result _ store _ key
+    (left_unput_as g.M.Disk.Store (g.M.Machine.seen c.args.machine.now).left (g.M.Machine.seen c.args.machine.now).stands (g.M.Machine.seen c.staff_key.new.machine).left c.staff_key.result _ store _ key
     asks.store_is asks.key_is c.staff_key.ensures.left)
-    (opens_as g.M.Disk.Store (g.M.Machine.stands c.args.machine.now) (g.M.Machine.left c.staff_key.new.machine) c.staff_key.result _ store asks.store_is c.staff_key.ensures.opens))
+    (opens_as g.M.Disk.Store (g.M.Machine.seen c.args.machine.now).stands (g.M.Machine.seen c.staff_key.new.machine).left c.staff_key.result _ store asks.store_is c.staff_key.ensures.opens))
 
 pub returns-in-File-clause-put : goal.returns-in-File-clause-put
 returns-in-File-clause-put g c = λ store key asked. absurd (subst (IsStaffKeyAsk store key) c.in-File.is asked)
@@ -764,43 +768,43 @@ returns-in-OneQuestion-clause-not_put g c = λ store key asked. absurd (subst (I
 
 pub returns-in-Import-clause-on_time : goal.returns-in-Import-clause-on_time
 returns-in-Import-clause-on_time g c =
-    subst (λ ask. IsOnTimeBy g.M.Disk.Store (g.M.Machine.clock c.args.machine.now) (g.M.Machine.stands c.args.machine.now) (g.M.Machine.left c.import.new.machine) ask c.import.result)
+    subst (λ ask. IsOnTimeBy g.M.Disk.Store (g.M.Machine.seen c.args.machine.now).clock (g.M.Machine.seen c.args.machine.now).stands (g.M.Machine.seen c.import.new.machine).left ask c.import.result)
     (sym c.in-Import.is) c.import.ensures.on_time
 
 pub returns-in-OneQuestion-clause-on_time : goal.returns-in-OneQuestion-clause-on_time
 returns-in-OneQuestion-clause-on_time g c =
-    subst (λ ask. IsOnTimeBy g.M.Disk.Store (g.M.Machine.clock c.args.machine.now) (g.M.Machine.stands c.args.machine.now) (g.M.Machine.left c.ask_once.new.machine) ask c.ask_once.result)
+    subst (λ ask. IsOnTimeBy g.M.Disk.Store (g.M.Machine.seen c.args.machine.now).clock (g.M.Machine.seen c.args.machine.now).stands (g.M.Machine.seen c.ask_once.new.machine).left ask c.ask_once.result)
     (sym c.in-OneQuestion.is) c.ask_once.ensures.on_time
 
 -- ---- sums
 
 pub returns-in-File-clause-sums : goal.returns-in-File-clause-sums
 returns-in-File-clause-sums g c =
-    subst (λ ask. SumsBy (g.M.Machine.sums c.args.machine.now) ask (g.M.Machine.sums c.cat.new.machine)) (sym c.in-File.is) tt
+    subst (λ ask. SumsBy (g.M.Machine.seen c.args.machine.now).sums ask (g.M.Machine.seen c.cat.new.machine).sums) (sym c.in-File.is) tt
 
 pub returns-in-Files-clause-sums : goal.returns-in-Files-clause-sums
 returns-in-Files-clause-sums g c =
-    subst (λ ask. SumsBy (g.M.Machine.sums c.args.machine.now) ask (g.M.Machine.sums c.list.new.machine)) (sym c.in-Files.is) tt
+    subst (λ ask. SumsBy (g.M.Machine.seen c.args.machine.now).sums ask (g.M.Machine.seen c.list.new.machine).sums) (sym c.in-Files.is) tt
 
 pub returns-in-Init-clause-sums : goal.returns-in-Init-clause-sums
 returns-in-Init-clause-sums g c =
-    subst (λ ask. SumsBy (g.M.Machine.sums c.args.machine.now) ask (g.M.Machine.sums c.init.new.machine)) (sym c.in-Init.is) c.init.ensures.sums
+    subst (λ ask. SumsBy (g.M.Machine.seen c.args.machine.now).sums ask (g.M.Machine.seen c.init.new.machine).sums) (sym c.in-Init.is) c.init.ensures.sums
 
 pub returns-in-Serve-clause-sums : goal.returns-in-Serve-clause-sums
 returns-in-Serve-clause-sums g c =
-    subst (λ ask. SumsBy (g.M.Machine.sums c.args.machine.now) ask (g.M.Machine.sums c.serve.new.machine)) (sym c.in-Serve.is) tt
+    subst (λ ask. SumsBy (g.M.Machine.seen c.args.machine.now).sums ask (g.M.Machine.seen c.serve.new.machine).sums) (sym c.in-Serve.is) tt
 
 pub returns-in-Import-clause-sums : goal.returns-in-Import-clause-sums
 returns-in-Import-clause-sums g c =
-    subst (λ ask. SumsBy (g.M.Machine.sums c.args.machine.now) ask (g.M.Machine.sums c.import.new.machine)) (sym c.in-Import.is) tt
+    subst (λ ask. SumsBy (g.M.Machine.seen c.args.machine.now).sums ask (g.M.Machine.seen c.import.new.machine).sums) (sym c.in-Import.is) tt
 
 pub returns-in-StaffKey-clause-sums : goal.returns-in-StaffKey-clause-sums
 returns-in-StaffKey-clause-sums g c =
-    subst (λ ask. SumsBy (g.M.Machine.sums c.args.machine.now) ask (g.M.Machine.sums c.staff_key.new.machine)) (sym c.in-StaffKey.is) tt
+    subst (λ ask. SumsBy (g.M.Machine.seen c.args.machine.now).sums ask (g.M.Machine.seen c.staff_key.new.machine).sums) (sym c.in-StaffKey.is) tt
 
 pub returns-in-OneQuestion-clause-sums : goal.returns-in-OneQuestion-clause-sums
 returns-in-OneQuestion-clause-sums g c =
-    subst (λ ask. SumsBy (g.M.Machine.sums c.args.machine.now) ask (g.M.Machine.sums c.ask_once.new.machine)) (sym c.in-OneQuestion.is) tt
+    subst (λ ask. SumsBy (g.M.Machine.seen c.args.machine.now).sums ask (g.M.Machine.seen c.ask_once.new.machine).sums) (sym c.in-OneQuestion.is) tt
 
 -- ---- a copy
 
@@ -839,51 +843,51 @@ returns-in-Copy-clause-not_answered g c = λ asked. absurd (subst AsksADesk c.in
 
 pub returns-in-Copy-clause-leaves : goal.returns-in-Copy-clause-leaves
 returns-in-Copy-clause-leaves g c =
-    subst (LeavesBy g.M.Disk.Store (g.M.Machine.clock c.args.machine.now) (g.M.Machine.left c.args.machine.now) (g.M.Machine.stands c.args.machine.now) (g.M.Machine.left c.copy.new.machine)) (sym c.in-Copy.is) c.copy.ensures.leaves
+    subst (LeavesBy g.M.Disk.Store (g.M.Machine.seen c.args.machine.now).clock (g.M.Machine.seen c.args.machine.now).left (g.M.Machine.seen c.args.machine.now).stands (g.M.Machine.seen c.copy.new.machine).left) (sym c.in-Copy.is) c.copy.ensures.leaves
 
 pub returns-in-Copy-clause-leaves_refused : goal.returns-in-Copy-clause-leaves_refused
 returns-in-Copy-clause-leaves_refused g c =
-    subst (λ ask. IfErr c.whole-in-Copy.result (LeavesRefused g.M.Disk.Store (g.M.Machine.left c.args.machine.now) (g.M.Machine.stands c.args.machine.now) (g.M.Machine.left c.copy.new.machine)
+    subst (λ ask. IfErr c.whole-in-Copy.result (LeavesRefused g.M.Disk.Store (g.M.Machine.seen c.args.machine.now).left (g.M.Machine.seen c.args.machine.now).stands (g.M.Machine.seen c.copy.new.machine).left
     (g.W.Write.contents c.args.output.now) (g.W.Write.contents c.copy.new.output) ask)) (sym c.in-Copy.is) (no_refusal c.whole-in-Copy.result)
 
 pub returns-in-Copy-clause-answers : goal.returns-in-Copy-clause-answers
 returns-in-Copy-clause-answers g c =
-    subst (λ ask. AnswersBy g.M.Disk.Store (g.M.Machine.clock c.args.machine.now) (g.M.Machine.stands c.args.machine.now) (g.M.Machine.left c.copy.new.machine)
+    subst (λ ask. AnswersBy g.M.Disk.Store (g.M.Machine.seen c.args.machine.now).clock (g.M.Machine.seen c.args.machine.now).stands (g.M.Machine.seen c.copy.new.machine).left
     (g.W.Write.contents c.args.output.now) (g.W.Write.contents c.copy.new.output) ask c.whole-in-Copy.result) (sym c.in-Copy.is) tt
 
 pub returns-in-Copy-clause-of_file : goal.returns-in-Copy-clause-of_file
 returns-in-Copy-clause-of_file g c =
-    subst (λ ask. GivesFile (g.M.Files.file_bytes c.args.machine.now) (g.W.Write.contents c.args.output.now) (g.W.Write.contents c.copy.new.output) ask c.whole-in-Copy.result) (sym c.in-Copy.is) tt
+    subst (λ ask. GivesFile (g.M.Machine.seen c.args.machine.now).files (g.W.Write.contents c.args.output.now) (g.W.Write.contents c.copy.new.output) ask c.whole-in-Copy.result) (sym c.in-Copy.is) tt
 
 pub returns-in-Copy-clause-untouched : goal.returns-in-Copy-clause-untouched
 returns-in-Copy-clause-untouched g c = λ of. absurd (subst IsOfImage c.in-Copy.is of)
 
 pub returns-in-Copy-clause-serves : goal.returns-in-Copy-clause-serves
 returns-in-Copy-clause-serves g c =
-    subst (λ ask. OnOk c.whole-in-Copy.result (ServesBy g.M.Disk.Store g.M.Door.Door.told g.M.Door.Door.coming (g.M.Machine.door c.args.machine.now) (g.M.Machine.door c.copy.new.machine)
-    (g.M.Machine.stands c.args.machine.now) (g.M.Machine.left c.copy.new.machine) ask)) (sym c.in-Copy.is)
+    subst (λ ask. OnOk c.whole-in-Copy.result (ServesBy g.M.Disk.Store g.M.Door.Door.told g.M.Door.Door.coming (g.M.Machine.seen c.args.machine.now).doors (g.M.Machine.seen c.copy.new.machine).doors
+    (g.M.Machine.seen c.args.machine.now).stands (g.M.Machine.seen c.copy.new.machine).left ask)) (sym c.in-Copy.is)
     (stands_nowhere c.whole-in-Copy.result)
 
 pub returns-in-Copy-clause-limits : goal.returns-in-Copy-clause-limits
 returns-in-Copy-clause-limits g c =
-    subst (λ ask. OnOk c.whole-in-Copy.result (LimitsVisitors (g.M.Machine.shows c.args.machine.now) (g.M.Machine.door_limits c.copy.new.machine) ask)) (sym c.in-Copy.is) (no_limits c.whole-in-Copy.result)
+    subst (λ ask. OnOk c.whole-in-Copy.result (LimitsVisitors (g.M.Machine.seen c.args.machine.now).shows (g.M.Machine.seen c.copy.new.machine).limits ask)) (sym c.in-Copy.is) (no_limits c.whole-in-Copy.result)
 
 pub returns-in-Copy-clause-there : goal.returns-in-Copy-clause-there
 returns-in-Copy-clause-there g c =
-    subst (λ ask. OnEnded c.whole-in-Copy.result (StandsThere (g.M.Machine.shows c.args.machine.now) (g.M.Machine.stands c.args.machine.now) (g.M.Machine.left c.copy.new.machine) ask)) (sym c.in-Copy.is)
+    subst (λ ask. OnEnded c.whole-in-Copy.result (StandsThere (g.M.Machine.seen c.args.machine.now).shows (g.M.Machine.seen c.args.machine.now).stands (g.M.Machine.seen c.copy.new.machine).left ask)) (sym c.in-Copy.is)
     (ended_whole _ c.copy.result c.whole-in-Copy.result c.whole-in-Copy.ensures c.copy.ensures.there)
 
 pub returns-in-Copy-clause-clock : goal.returns-in-Copy-clause-clock
 returns-in-Copy-clause-clock g c =
-    subst (λ ask. IfErr c.whole-in-Copy.result (IsClockDueBy g.M.Disk.Store (g.M.Machine.stands c.args.machine.now) (g.M.Machine.left c.copy.new.machine) ask)) (sym c.in-Copy.is) (no_refusal c.whole-in-Copy.result)
+    subst (λ ask. IfErr c.whole-in-Copy.result (IsClockDueBy g.M.Disk.Store (g.M.Machine.seen c.args.machine.now).stands (g.M.Machine.seen c.copy.new.machine).left ask)) (sym c.in-Copy.is) (no_refusal c.whole-in-Copy.result)
 
 pub returns-in-Copy-clause-bad_sheet : goal.returns-in-Copy-clause-bad_sheet
 returns-in-Copy-clause-bad_sheet g c =
-    subst (λ ask. IfErr c.whole-in-Copy.result (RefusesSheetBy (g.M.Files.sheet_bytes c.args.machine.now) ask)) (sym c.in-Copy.is) (no_refusal c.whole-in-Copy.result)
+    subst (λ ask. IfErr c.whole-in-Copy.result (RefusesSheetBy (g.M.Machine.seen c.args.machine.now).sheets ask)) (sym c.in-Copy.is) (no_refusal c.whole-in-Copy.result)
 
 pub returns-in-Copy-clause-asked : goal.returns-in-Copy-clause-asked
 returns-in-Copy-clause-asked g c =
-    subst (λ ask. AsksBy (g.M.Machine.wanted c.args.machine.now) ask (g.M.Machine.wanted c.copy.new.machine)) (sym c.in-Copy.is) c.copy.ensures.asked
+    subst (λ ask. AsksBy (g.M.Machine.seen c.args.machine.now).wanted ask (g.M.Machine.seen c.copy.new.machine).wanted) (sym c.in-Copy.is) c.copy.ensures.asked
 
 pub returns-in-Copy-clause-made : goal.returns-in-Copy-clause-made
 returns-in-Copy-clause-made g c = λ store key asked. absurd (subst (IsInitAsk store key) c.in-Copy.is asked)
@@ -909,12 +913,12 @@ returns-in-Copy-clause-not_put g c = λ store key asked. absurd (subst (IsStaffK
 
 pub returns-in-Copy-clause-sums : goal.returns-in-Copy-clause-sums
 returns-in-Copy-clause-sums g c =
-    subst (λ ask. SumsBy (g.M.Machine.sums c.args.machine.now) ask (g.M.Machine.sums c.copy.new.machine)) (sym c.in-Copy.is) tt
+    subst (λ ask. SumsBy (g.M.Machine.seen c.args.machine.now).sums ask (g.M.Machine.seen c.copy.new.machine).sums) (sym c.in-Copy.is) tt
 
 pub returns-in-Copy-clause-copies : goal.returns-in-Copy-clause-copies
 returns-in-Copy-clause-copies g c =
-    subst (λ ask. CopiesBy g.M.Disk.Store (g.M.Machine.shows c.args.machine.now) (g.M.Machine.stands c.args.machine.now) (g.M.Machine.left c.copy.new.machine) (g.M.Machine.made c.args.machine.now)
-    (g.M.Machine.fresh c.args.machine.now) (g.M.Machine.made c.copy.new.machine) (g.M.Machine.new_stores c.args.machine.now) (g.M.Machine.new_stores c.copy.new.machine)
+    subst (λ ask. CopiesBy g.M.Disk.Store (g.M.Machine.seen c.args.machine.now).shows (g.M.Machine.seen c.args.machine.now).stands (g.M.Machine.seen c.copy.new.machine).left (g.M.Machine.seen c.args.machine.now).made
+    (g.M.Machine.seen c.args.machine.now).fresh (g.M.Machine.seen c.copy.new.machine).made (g.M.Machine.seen c.args.machine.now).new_stores (g.M.Machine.seen c.copy.new.machine).new_stores
     (g.W.Write.contents c.args.output.now) (g.W.Write.contents c.copy.new.output) ask c.whole-in-Copy.result) (sym c.in-Copy.is) (
       record {
         done = ok_whole _ c.copy.result c.whole-in-Copy.result c.whole-in-Copy.ensures (copy_done c.copy.result _ _ _ c.copy.ensures.copied c.copy.ensures.done);
@@ -926,128 +930,128 @@ returns-in-Copy-clause-copies g c =
 
 pub returns-in-File-clause-copies : goal.returns-in-File-clause-copies
 returns-in-File-clause-copies g c =
-    subst (λ ask. CopiesBy g.M.Disk.Store (g.M.Machine.shows c.args.machine.now) (g.M.Machine.stands c.args.machine.now) (g.M.Machine.left c.cat.new.machine) (g.M.Machine.made c.args.machine.now)
-    (g.M.Machine.fresh c.args.machine.now) (g.M.Machine.made c.cat.new.machine) (g.M.Machine.new_stores c.args.machine.now) (g.M.Machine.new_stores c.cat.new.machine)
+    subst (λ ask. CopiesBy g.M.Disk.Store (g.M.Machine.seen c.args.machine.now).shows (g.M.Machine.seen c.args.machine.now).stands (g.M.Machine.seen c.cat.new.machine).left (g.M.Machine.seen c.args.machine.now).made
+    (g.M.Machine.seen c.args.machine.now).fresh (g.M.Machine.seen c.cat.new.machine).made (g.M.Machine.seen c.args.machine.now).new_stores (g.M.Machine.seen c.cat.new.machine).new_stores
     (g.W.Write.contents c.args.output.now) (g.W.Write.contents c.cat.new.output) ask c.whole.result) (sym c.in-File.is) tt
 
 pub returns-in-Files-clause-copies : goal.returns-in-Files-clause-copies
 returns-in-Files-clause-copies g c =
-    subst (λ ask. CopiesBy g.M.Disk.Store (g.M.Machine.shows c.args.machine.now) (g.M.Machine.stands c.args.machine.now) (g.M.Machine.left c.list.new.machine) (g.M.Machine.made c.args.machine.now)
-    (g.M.Machine.fresh c.args.machine.now) (g.M.Machine.made c.list.new.machine) (g.M.Machine.new_stores c.args.machine.now) (g.M.Machine.new_stores c.list.new.machine)
+    subst (λ ask. CopiesBy g.M.Disk.Store (g.M.Machine.seen c.args.machine.now).shows (g.M.Machine.seen c.args.machine.now).stands (g.M.Machine.seen c.list.new.machine).left (g.M.Machine.seen c.args.machine.now).made
+    (g.M.Machine.seen c.args.machine.now).fresh (g.M.Machine.seen c.list.new.machine).made (g.M.Machine.seen c.args.machine.now).new_stores (g.M.Machine.seen c.list.new.machine).new_stores
     (g.W.Write.contents c.args.output.now) (g.W.Write.contents c.list.new.output) ask c.whole-in-Files.result) (sym c.in-Files.is) tt
 
 pub returns-in-Init-clause-copies : goal.returns-in-Init-clause-copies
 returns-in-Init-clause-copies g c =
-    subst (λ ask. CopiesBy g.M.Disk.Store (g.M.Machine.shows c.args.machine.now) (g.M.Machine.stands c.args.machine.now) (g.M.Machine.left c.init.new.machine) (g.M.Machine.made c.args.machine.now)
-    (g.M.Machine.fresh c.args.machine.now) (g.M.Machine.made c.init.new.machine) (g.M.Machine.new_stores c.args.machine.now) (g.M.Machine.new_stores c.init.new.machine)
+    subst (λ ask. CopiesBy g.M.Disk.Store (g.M.Machine.seen c.args.machine.now).shows (g.M.Machine.seen c.args.machine.now).stands (g.M.Machine.seen c.init.new.machine).left (g.M.Machine.seen c.args.machine.now).made
+    (g.M.Machine.seen c.args.machine.now).fresh (g.M.Machine.seen c.init.new.machine).made (g.M.Machine.seen c.args.machine.now).new_stores (g.M.Machine.seen c.init.new.machine).new_stores
     (g.W.Write.contents c.args.output.now) (g.W.Write.contents c.init.new.output) ask c.whole-in-Init.result) (sym c.in-Init.is) tt
 
 pub returns-in-Serve-clause-copies : goal.returns-in-Serve-clause-copies
 returns-in-Serve-clause-copies g c =
-    subst (λ ask. CopiesBy g.M.Disk.Store (g.M.Machine.shows c.args.machine.now) (g.M.Machine.stands c.args.machine.now) (g.M.Machine.left c.serve.new.machine) (g.M.Machine.made c.args.machine.now)
-    (g.M.Machine.fresh c.args.machine.now) (g.M.Machine.made c.serve.new.machine) (g.M.Machine.new_stores c.args.machine.now) (g.M.Machine.new_stores c.serve.new.machine)
+    subst (λ ask. CopiesBy g.M.Disk.Store (g.M.Machine.seen c.args.machine.now).shows (g.M.Machine.seen c.args.machine.now).stands (g.M.Machine.seen c.serve.new.machine).left (g.M.Machine.seen c.args.machine.now).made
+    (g.M.Machine.seen c.args.machine.now).fresh (g.M.Machine.seen c.serve.new.machine).made (g.M.Machine.seen c.args.machine.now).new_stores (g.M.Machine.seen c.serve.new.machine).new_stores
     (g.W.Write.contents c.args.output.now) (g.W.Write.contents c.serve.new.output) ask c.whole-in-Serve.result) (sym c.in-Serve.is) tt
 
 pub returns-in-Import-clause-copies : goal.returns-in-Import-clause-copies
 returns-in-Import-clause-copies g c =
-    subst (λ ask. CopiesBy g.M.Disk.Store (g.M.Machine.shows c.args.machine.now) (g.M.Machine.stands c.args.machine.now) (g.M.Machine.left c.import.new.machine) (g.M.Machine.made c.args.machine.now)
-    (g.M.Machine.fresh c.args.machine.now) (g.M.Machine.made c.import.new.machine) (g.M.Machine.new_stores c.args.machine.now) (g.M.Machine.new_stores c.import.new.machine)
+    subst (λ ask. CopiesBy g.M.Disk.Store (g.M.Machine.seen c.args.machine.now).shows (g.M.Machine.seen c.args.machine.now).stands (g.M.Machine.seen c.import.new.machine).left (g.M.Machine.seen c.args.machine.now).made
+    (g.M.Machine.seen c.args.machine.now).fresh (g.M.Machine.seen c.import.new.machine).made (g.M.Machine.seen c.args.machine.now).new_stores (g.M.Machine.seen c.import.new.machine).new_stores
     (g.W.Write.contents c.args.output.now) (g.W.Write.contents c.import.new.output) ask c.import.result) (sym c.in-Import.is) tt
 
 pub returns-in-OneQuestion-clause-copies : goal.returns-in-OneQuestion-clause-copies
 returns-in-OneQuestion-clause-copies g c =
-    subst (λ ask. CopiesBy g.M.Disk.Store (g.M.Machine.shows c.args.machine.now) (g.M.Machine.stands c.args.machine.now) (g.M.Machine.left c.ask_once.new.machine) (g.M.Machine.made c.args.machine.now)
-    (g.M.Machine.fresh c.args.machine.now) (g.M.Machine.made c.ask_once.new.machine) (g.M.Machine.new_stores c.args.machine.now) (g.M.Machine.new_stores c.ask_once.new.machine)
+    subst (λ ask. CopiesBy g.M.Disk.Store (g.M.Machine.seen c.args.machine.now).shows (g.M.Machine.seen c.args.machine.now).stands (g.M.Machine.seen c.ask_once.new.machine).left (g.M.Machine.seen c.args.machine.now).made
+    (g.M.Machine.seen c.args.machine.now).fresh (g.M.Machine.seen c.ask_once.new.machine).made (g.M.Machine.seen c.args.machine.now).new_stores (g.M.Machine.seen c.ask_once.new.machine).new_stores
     (g.W.Write.contents c.args.output.now) (g.W.Write.contents c.ask_once.new.output) ask c.ask_once.result) (sym c.in-OneQuestion.is) tt
 
 pub returns-in-StaffKey-clause-copies : goal.returns-in-StaffKey-clause-copies
 returns-in-StaffKey-clause-copies g c =
-    subst (λ ask. CopiesBy g.M.Disk.Store (g.M.Machine.shows c.args.machine.now) (g.M.Machine.stands c.args.machine.now) (g.M.Machine.left c.staff_key.new.machine) (g.M.Machine.made c.args.machine.now)
-    (g.M.Machine.fresh c.args.machine.now) (g.M.Machine.made c.staff_key.new.machine) (g.M.Machine.new_stores c.args.machine.now) (g.M.Machine.new_stores c.staff_key.new.machine)
+    subst (λ ask. CopiesBy g.M.Disk.Store (g.M.Machine.seen c.args.machine.now).shows (g.M.Machine.seen c.args.machine.now).stands (g.M.Machine.seen c.staff_key.new.machine).left (g.M.Machine.seen c.args.machine.now).made
+    (g.M.Machine.seen c.args.machine.now).fresh (g.M.Machine.seen c.staff_key.new.machine).made (g.M.Machine.seen c.args.machine.now).new_stores (g.M.Machine.seen c.staff_key.new.machine).new_stores
     (g.W.Write.contents c.args.output.now) (g.W.Write.contents c.staff_key.new.output) ask c.whole-in-StaffKey.result) (sym c.in-StaffKey.is) tt
 
 -- ---- the door that was lent
 
 pub returns-in-File-clause-lent : goal.returns-in-File-clause-lent
 returns-in-File-clause-lent g c =
-    subst (λ ask. WritesOnceLentBy (g.M.Machine.shows c.args.machine.now) (g.M.Machine.door_limits c.cat.new.machine)
+    subst (λ ask. WritesOnceLentBy (g.M.Machine.seen c.args.machine.now).shows (g.M.Machine.seen c.cat.new.machine).limits
     (g.W.Write.contents c.args.output.now) (g.W.Write.contents c.cat.new.output) ask) (sym c.in-File.is) tt
 
 pub returns-in-Files-clause-lent : goal.returns-in-Files-clause-lent
 returns-in-Files-clause-lent g c =
-    subst (λ ask. WritesOnceLentBy (g.M.Machine.shows c.args.machine.now) (g.M.Machine.door_limits c.list.new.machine)
+    subst (λ ask. WritesOnceLentBy (g.M.Machine.seen c.args.machine.now).shows (g.M.Machine.seen c.list.new.machine).limits
     (g.W.Write.contents c.args.output.now) (g.W.Write.contents c.list.new.output) ask) (sym c.in-Files.is) tt
 
 pub returns-in-Init-clause-lent : goal.returns-in-Init-clause-lent
 returns-in-Init-clause-lent g c =
-    subst (λ ask. WritesOnceLentBy (g.M.Machine.shows c.args.machine.now) (g.M.Machine.door_limits c.init.new.machine)
+    subst (λ ask. WritesOnceLentBy (g.M.Machine.seen c.args.machine.now).shows (g.M.Machine.seen c.init.new.machine).limits
     (g.W.Write.contents c.args.output.now) (g.W.Write.contents c.init.new.output) ask) (sym c.in-Init.is) tt
 
 pub returns-in-Serve-clause-lent : goal.returns-in-Serve-clause-lent
 returns-in-Serve-clause-lent g c =
-    subst (λ ask. WritesOnceLentBy (g.M.Machine.shows c.args.machine.now) (g.M.Machine.door_limits c.serve.new.machine)
+    subst (λ ask. WritesOnceLentBy (g.M.Machine.seen c.args.machine.now).shows (g.M.Machine.seen c.serve.new.machine).limits
     (g.W.Write.contents c.args.output.now) (g.W.Write.contents c.serve.new.output) ask) (sym c.in-Serve.is) c.serve.ensures.lent
 
 pub returns-in-Import-clause-lent : goal.returns-in-Import-clause-lent
 returns-in-Import-clause-lent g c =
-    subst (λ ask. WritesOnceLentBy (g.M.Machine.shows c.args.machine.now) (g.M.Machine.door_limits c.import.new.machine)
+    subst (λ ask. WritesOnceLentBy (g.M.Machine.seen c.args.machine.now).shows (g.M.Machine.seen c.import.new.machine).limits
     (g.W.Write.contents c.args.output.now) (g.W.Write.contents c.import.new.output) ask) (sym c.in-Import.is) tt
 
 pub returns-in-OneQuestion-clause-lent : goal.returns-in-OneQuestion-clause-lent
 returns-in-OneQuestion-clause-lent g c =
-    subst (λ ask. WritesOnceLentBy (g.M.Machine.shows c.args.machine.now) (g.M.Machine.door_limits c.ask_once.new.machine)
+    subst (λ ask. WritesOnceLentBy (g.M.Machine.seen c.args.machine.now).shows (g.M.Machine.seen c.ask_once.new.machine).limits
     (g.W.Write.contents c.args.output.now) (g.W.Write.contents c.ask_once.new.output) ask) (sym c.in-OneQuestion.is) tt
 
 pub returns-in-StaffKey-clause-lent : goal.returns-in-StaffKey-clause-lent
 returns-in-StaffKey-clause-lent g c =
-    subst (λ ask. WritesOnceLentBy (g.M.Machine.shows c.args.machine.now) (g.M.Machine.door_limits c.staff_key.new.machine)
+    subst (λ ask. WritesOnceLentBy (g.M.Machine.seen c.args.machine.now).shows (g.M.Machine.seen c.staff_key.new.machine).limits
     (g.W.Write.contents c.args.output.now) (g.W.Write.contents c.staff_key.new.output) ask) (sym c.in-StaffKey.is) tt
 
 pub returns-in-Copy-clause-lent : goal.returns-in-Copy-clause-lent
 returns-in-Copy-clause-lent g c =
-    subst (λ ask. WritesOnceLentBy (g.M.Machine.shows c.args.machine.now) (g.M.Machine.door_limits c.copy.new.machine)
+    subst (λ ask. WritesOnceLentBy (g.M.Machine.seen c.args.machine.now).shows (g.M.Machine.seen c.copy.new.machine).limits
     (g.W.Write.contents c.args.output.now) (g.W.Write.contents c.copy.new.output) ask) (sym c.in-Copy.is) tt
 
 -- ---- the clock that is behind
 
 pub returns-in-File-clause-late : goal.returns-in-File-clause-late
 returns-in-File-clause-late g c =
-    subst (λ ask. IfErr c.whole.result (IsBehindBy g.M.Disk.Store (g.M.Machine.clock c.args.machine.now) (g.M.Machine.stands c.args.machine.now) (g.M.Machine.left c.cat.new.machine) ask))
+    subst (λ ask. IfErr c.whole.result (IsBehindBy g.M.Disk.Store (g.M.Machine.seen c.args.machine.now).clock (g.M.Machine.seen c.args.machine.now).stands (g.M.Machine.seen c.cat.new.machine).left ask))
     (sym c.in-File.is) (no_refusal c.whole.result)
 
 pub returns-in-Files-clause-late : goal.returns-in-Files-clause-late
 returns-in-Files-clause-late g c =
-    subst (λ ask. IfErr c.whole-in-Files.result (IsBehindBy g.M.Disk.Store (g.M.Machine.clock c.args.machine.now) (g.M.Machine.stands c.args.machine.now) (g.M.Machine.left c.list.new.machine) ask))
+    subst (λ ask. IfErr c.whole-in-Files.result (IsBehindBy g.M.Disk.Store (g.M.Machine.seen c.args.machine.now).clock (g.M.Machine.seen c.args.machine.now).stands (g.M.Machine.seen c.list.new.machine).left ask))
     (sym c.in-Files.is) (no_refusal c.whole-in-Files.result)
 
 pub returns-in-Init-clause-late : goal.returns-in-Init-clause-late
 returns-in-Init-clause-late g c =
-    subst (λ ask. IfErr c.whole-in-Init.result (IsBehindBy g.M.Disk.Store (g.M.Machine.clock c.args.machine.now) (g.M.Machine.stands c.args.machine.now) (g.M.Machine.left c.init.new.machine) ask))
+    subst (λ ask. IfErr c.whole-in-Init.result (IsBehindBy g.M.Disk.Store (g.M.Machine.seen c.args.machine.now).clock (g.M.Machine.seen c.args.machine.now).stands (g.M.Machine.seen c.init.new.machine).left ask))
     (sym c.in-Init.is) (no_refusal c.whole-in-Init.result)
 
 pub returns-in-Serve-clause-late : goal.returns-in-Serve-clause-late
 returns-in-Serve-clause-late g c =
-    subst (λ ask. IfErr c.whole-in-Serve.result (IsBehindBy g.M.Disk.Store (g.M.Machine.clock c.args.machine.now) (g.M.Machine.stands c.args.machine.now) (g.M.Machine.left c.serve.new.machine) ask))
+    subst (λ ask. IfErr c.whole-in-Serve.result (IsBehindBy g.M.Disk.Store (g.M.Machine.seen c.args.machine.now).clock (g.M.Machine.seen c.args.machine.now).stands (g.M.Machine.seen c.serve.new.machine).left ask))
     (sym c.in-Serve.is) (no_refusal c.whole-in-Serve.result)
 
 pub returns-in-Import-clause-late : goal.returns-in-Import-clause-late
 returns-in-Import-clause-late g c =
-    subst (λ ask. IfErr c.import.result (IsBehindBy g.M.Disk.Store (g.M.Machine.clock c.args.machine.now) (g.M.Machine.stands c.args.machine.now) (g.M.Machine.left c.import.new.machine) ask))
+    subst (λ ask. IfErr c.import.result (IsBehindBy g.M.Disk.Store (g.M.Machine.seen c.args.machine.now).clock (g.M.Machine.seen c.args.machine.now).stands (g.M.Machine.seen c.import.new.machine).left ask))
     (sym c.in-Import.is) c.import.ensures.late
 
 pub returns-in-OneQuestion-clause-late : goal.returns-in-OneQuestion-clause-late
 returns-in-OneQuestion-clause-late g c =
-    subst (λ ask. IfErr c.ask_once.result (IsBehindBy g.M.Disk.Store (g.M.Machine.clock c.args.machine.now) (g.M.Machine.stands c.args.machine.now) (g.M.Machine.left c.ask_once.new.machine) ask))
+    subst (λ ask. IfErr c.ask_once.result (IsBehindBy g.M.Disk.Store (g.M.Machine.seen c.args.machine.now).clock (g.M.Machine.seen c.args.machine.now).stands (g.M.Machine.seen c.ask_once.new.machine).left ask))
     (sym c.in-OneQuestion.is) c.ask_once.ensures.late
 
 pub returns-in-StaffKey-clause-late : goal.returns-in-StaffKey-clause-late
 returns-in-StaffKey-clause-late g c =
-    subst (λ ask. IfErr c.whole-in-StaffKey.result (IsBehindBy g.M.Disk.Store (g.M.Machine.clock c.args.machine.now) (g.M.Machine.stands c.args.machine.now) (g.M.Machine.left c.staff_key.new.machine) ask))
+    subst (λ ask. IfErr c.whole-in-StaffKey.result (IsBehindBy g.M.Disk.Store (g.M.Machine.seen c.args.machine.now).clock (g.M.Machine.seen c.args.machine.now).stands (g.M.Machine.seen c.staff_key.new.machine).left ask))
     (sym c.in-StaffKey.is) (no_refusal c.whole-in-StaffKey.result)
 
 pub returns-in-Copy-clause-late : goal.returns-in-Copy-clause-late
 returns-in-Copy-clause-late g c =
-    subst (λ ask. IfErr c.whole-in-Copy.result (IsBehindBy g.M.Disk.Store (g.M.Machine.clock c.args.machine.now) (g.M.Machine.stands c.args.machine.now) (g.M.Machine.left c.copy.new.machine) ask))
+    subst (λ ask. IfErr c.whole-in-Copy.result (IsBehindBy g.M.Disk.Store (g.M.Machine.seen c.args.machine.now).clock (g.M.Machine.seen c.args.machine.now).stands (g.M.Machine.seen c.copy.new.machine).left ask))
     (sym c.in-Copy.is) (no_refusal c.whole-in-Copy.result)
 
 -- ---- what was flushed
@@ -1094,86 +1098,86 @@ returns-in-Copy-clause-flushed g c =
 
 pub returns-in-File-clause-makes : goal.returns-in-File-clause-makes
 returns-in-File-clause-makes g c =
-    subst (λ ask. MakesBy g.M.Disk.Store (g.M.Machine.left c.args.machine.now) (g.M.Machine.stands c.args.machine.now) (g.M.Machine.left c.cat.new.machine)
+    subst (λ ask. MakesBy g.M.Disk.Store (g.M.Machine.seen c.args.machine.now).left (g.M.Machine.seen c.args.machine.now).stands (g.M.Machine.seen c.cat.new.machine).left
     (g.W.Write.contents c.args.output.now) (g.W.Write.contents c.cat.new.output) ask c.whole.result) (sym c.in-File.is) tt
 
 pub returns-in-Files-clause-makes : goal.returns-in-Files-clause-makes
 returns-in-Files-clause-makes g c =
-    subst (λ ask. MakesBy g.M.Disk.Store (g.M.Machine.left c.args.machine.now) (g.M.Machine.stands c.args.machine.now) (g.M.Machine.left c.list.new.machine)
+    subst (λ ask. MakesBy g.M.Disk.Store (g.M.Machine.seen c.args.machine.now).left (g.M.Machine.seen c.args.machine.now).stands (g.M.Machine.seen c.list.new.machine).left
     (g.W.Write.contents c.args.output.now) (g.W.Write.contents c.list.new.output) ask c.whole-in-Files.result) (sym c.in-Files.is) tt
 
 pub returns-in-Init-clause-makes : goal.returns-in-Init-clause-makes
 returns-in-Init-clause-makes g c =
-    subst (λ ask. MakesBy g.M.Disk.Store (g.M.Machine.left c.args.machine.now) (g.M.Machine.stands c.args.machine.now) (g.M.Machine.left c.init.new.machine)
+    subst (λ ask. MakesBy g.M.Disk.Store (g.M.Machine.seen c.args.machine.now).left (g.M.Machine.seen c.args.machine.now).stands (g.M.Machine.seen c.init.new.machine).left
     (g.W.Write.contents c.args.output.now) (g.W.Write.contents c.init.new.output) ask c.whole-in-Init.result) (sym c.in-Init.is)
-    (made_by g.M.Disk.Store (g.M.Machine.left c.args.machine.now) (g.M.Machine.stands c.args.machine.now) (g.M.Machine.left c.init.new.machine) _ _ c.in-Init.ask c.init.result c.whole-in-Init.result c.whole-in-Init.ensures
+    (made_by g.M.Disk.Store (g.M.Machine.seen c.args.machine.now).left (g.M.Machine.seen c.args.machine.now).stands (g.M.Machine.seen c.init.new.machine).left _ _ c.in-Init.ask c.init.result c.whole-in-Init.result c.whole-in-Init.ensures
     c.init.ensures.made c.init.ensures.done c.init.ensures.refused c.init.ensures.left)
 
 pub returns-in-Serve-clause-makes : goal.returns-in-Serve-clause-makes
 returns-in-Serve-clause-makes g c =
-    subst (λ ask. MakesBy g.M.Disk.Store (g.M.Machine.left c.args.machine.now) (g.M.Machine.stands c.args.machine.now) (g.M.Machine.left c.serve.new.machine)
+    subst (λ ask. MakesBy g.M.Disk.Store (g.M.Machine.seen c.args.machine.now).left (g.M.Machine.seen c.args.machine.now).stands (g.M.Machine.seen c.serve.new.machine).left
     (g.W.Write.contents c.args.output.now) (g.W.Write.contents c.serve.new.output) ask c.whole-in-Serve.result) (sym c.in-Serve.is) tt
 
 pub returns-in-Import-clause-makes : goal.returns-in-Import-clause-makes
 returns-in-Import-clause-makes g c =
-    subst (λ ask. MakesBy g.M.Disk.Store (g.M.Machine.left c.args.machine.now) (g.M.Machine.stands c.args.machine.now) (g.M.Machine.left c.import.new.machine)
+    subst (λ ask. MakesBy g.M.Disk.Store (g.M.Machine.seen c.args.machine.now).left (g.M.Machine.seen c.args.machine.now).stands (g.M.Machine.seen c.import.new.machine).left
     (g.W.Write.contents c.args.output.now) (g.W.Write.contents c.import.new.output) ask c.import.result) (sym c.in-Import.is) tt
 
 pub returns-in-OneQuestion-clause-makes : goal.returns-in-OneQuestion-clause-makes
 returns-in-OneQuestion-clause-makes g c =
-    subst (λ ask. MakesBy g.M.Disk.Store (g.M.Machine.left c.args.machine.now) (g.M.Machine.stands c.args.machine.now) (g.M.Machine.left c.ask_once.new.machine)
+    subst (λ ask. MakesBy g.M.Disk.Store (g.M.Machine.seen c.args.machine.now).left (g.M.Machine.seen c.args.machine.now).stands (g.M.Machine.seen c.ask_once.new.machine).left
     (g.W.Write.contents c.args.output.now) (g.W.Write.contents c.ask_once.new.output) ask c.ask_once.result) (sym c.in-OneQuestion.is) tt
 
 pub returns-in-StaffKey-clause-makes : goal.returns-in-StaffKey-clause-makes
 returns-in-StaffKey-clause-makes g c =
-    subst (λ ask. MakesBy g.M.Disk.Store (g.M.Machine.left c.args.machine.now) (g.M.Machine.stands c.args.machine.now) (g.M.Machine.left c.staff_key.new.machine)
+    subst (λ ask. MakesBy g.M.Disk.Store (g.M.Machine.seen c.args.machine.now).left (g.M.Machine.seen c.args.machine.now).stands (g.M.Machine.seen c.staff_key.new.machine).left
     (g.W.Write.contents c.args.output.now) (g.W.Write.contents c.staff_key.new.output) ask c.whole-in-StaffKey.result) (sym c.in-StaffKey.is) tt
 
 pub returns-in-Copy-clause-makes : goal.returns-in-Copy-clause-makes
 returns-in-Copy-clause-makes g c =
-    subst (λ ask. MakesBy g.M.Disk.Store (g.M.Machine.left c.args.machine.now) (g.M.Machine.stands c.args.machine.now) (g.M.Machine.left c.copy.new.machine)
+    subst (λ ask. MakesBy g.M.Disk.Store (g.M.Machine.seen c.args.machine.now).left (g.M.Machine.seen c.args.machine.now).stands (g.M.Machine.seen c.copy.new.machine).left
     (g.W.Write.contents c.args.output.now) (g.W.Write.contents c.copy.new.output) ask c.whole-in-Copy.result) (sym c.in-Copy.is) tt
 
 pub returns-in-File-clause-puts : goal.returns-in-File-clause-puts
 returns-in-File-clause-puts g c =
-    subst (λ ask. PutsBy g.M.Disk.Store (g.M.Machine.left c.args.machine.now) (g.M.Machine.stands c.args.machine.now) (g.M.Machine.left c.cat.new.machine)
+    subst (λ ask. PutsBy g.M.Disk.Store (g.M.Machine.seen c.args.machine.now).left (g.M.Machine.seen c.args.machine.now).stands (g.M.Machine.seen c.cat.new.machine).left
     (g.W.Write.contents c.args.output.now) (g.W.Write.contents c.cat.new.output) ask c.whole.result) (sym c.in-File.is) tt
 
 pub returns-in-Files-clause-puts : goal.returns-in-Files-clause-puts
 returns-in-Files-clause-puts g c =
-    subst (λ ask. PutsBy g.M.Disk.Store (g.M.Machine.left c.args.machine.now) (g.M.Machine.stands c.args.machine.now) (g.M.Machine.left c.list.new.machine)
+    subst (λ ask. PutsBy g.M.Disk.Store (g.M.Machine.seen c.args.machine.now).left (g.M.Machine.seen c.args.machine.now).stands (g.M.Machine.seen c.list.new.machine).left
     (g.W.Write.contents c.args.output.now) (g.W.Write.contents c.list.new.output) ask c.whole-in-Files.result) (sym c.in-Files.is) tt
 
 pub returns-in-Init-clause-puts : goal.returns-in-Init-clause-puts
 returns-in-Init-clause-puts g c =
-    subst (λ ask. PutsBy g.M.Disk.Store (g.M.Machine.left c.args.machine.now) (g.M.Machine.stands c.args.machine.now) (g.M.Machine.left c.init.new.machine)
+    subst (λ ask. PutsBy g.M.Disk.Store (g.M.Machine.seen c.args.machine.now).left (g.M.Machine.seen c.args.machine.now).stands (g.M.Machine.seen c.init.new.machine).left
     (g.W.Write.contents c.args.output.now) (g.W.Write.contents c.init.new.output) ask c.whole-in-Init.result) (sym c.in-Init.is) tt
 
 pub returns-in-Serve-clause-puts : goal.returns-in-Serve-clause-puts
 returns-in-Serve-clause-puts g c =
-    subst (λ ask. PutsBy g.M.Disk.Store (g.M.Machine.left c.args.machine.now) (g.M.Machine.stands c.args.machine.now) (g.M.Machine.left c.serve.new.machine)
+    subst (λ ask. PutsBy g.M.Disk.Store (g.M.Machine.seen c.args.machine.now).left (g.M.Machine.seen c.args.machine.now).stands (g.M.Machine.seen c.serve.new.machine).left
     (g.W.Write.contents c.args.output.now) (g.W.Write.contents c.serve.new.output) ask c.whole-in-Serve.result) (sym c.in-Serve.is) tt
 
 pub returns-in-Import-clause-puts : goal.returns-in-Import-clause-puts
 returns-in-Import-clause-puts g c =
-    subst (λ ask. PutsBy g.M.Disk.Store (g.M.Machine.left c.args.machine.now) (g.M.Machine.stands c.args.machine.now) (g.M.Machine.left c.import.new.machine)
+    subst (λ ask. PutsBy g.M.Disk.Store (g.M.Machine.seen c.args.machine.now).left (g.M.Machine.seen c.args.machine.now).stands (g.M.Machine.seen c.import.new.machine).left
     (g.W.Write.contents c.args.output.now) (g.W.Write.contents c.import.new.output) ask c.import.result) (sym c.in-Import.is) tt
 
 pub returns-in-OneQuestion-clause-puts : goal.returns-in-OneQuestion-clause-puts
 returns-in-OneQuestion-clause-puts g c =
-    subst (λ ask. PutsBy g.M.Disk.Store (g.M.Machine.left c.args.machine.now) (g.M.Machine.stands c.args.machine.now) (g.M.Machine.left c.ask_once.new.machine)
+    subst (λ ask. PutsBy g.M.Disk.Store (g.M.Machine.seen c.args.machine.now).left (g.M.Machine.seen c.args.machine.now).stands (g.M.Machine.seen c.ask_once.new.machine).left
     (g.W.Write.contents c.args.output.now) (g.W.Write.contents c.ask_once.new.output) ask c.ask_once.result) (sym c.in-OneQuestion.is) tt
 
 pub returns-in-StaffKey-clause-puts : goal.returns-in-StaffKey-clause-puts
 returns-in-StaffKey-clause-puts g c =
-    subst (λ ask. PutsBy g.M.Disk.Store (g.M.Machine.left c.args.machine.now) (g.M.Machine.stands c.args.machine.now) (g.M.Machine.left c.staff_key.new.machine)
+    subst (λ ask. PutsBy g.M.Disk.Store (g.M.Machine.seen c.args.machine.now).left (g.M.Machine.seen c.args.machine.now).stands (g.M.Machine.seen c.staff_key.new.machine).left
     (g.W.Write.contents c.args.output.now) (g.W.Write.contents c.staff_key.new.output) ask c.whole-in-StaffKey.result) (sym c.in-StaffKey.is)
-    (put_by g.M.Disk.Store (g.M.Machine.left c.args.machine.now) (g.M.Machine.stands c.args.machine.now) (g.M.Machine.left c.staff_key.new.machine) _ _ c.in-StaffKey.ask c.staff_key.result c.whole-in-StaffKey.result
+    (put_by g.M.Disk.Store (g.M.Machine.seen c.args.machine.now).left (g.M.Machine.seen c.args.machine.now).stands (g.M.Machine.seen c.staff_key.new.machine).left _ _ c.in-StaffKey.ask c.staff_key.result c.whole-in-StaffKey.result
     c.whole-in-StaffKey.ensures c.staff_key.ensures.put c.staff_key.ensures.done c.staff_key.ensures.refused c.staff_key.ensures.left c.staff_key.ensures.opens)
 
 pub returns-in-Copy-clause-puts : goal.returns-in-Copy-clause-puts
 returns-in-Copy-clause-puts g c =
-    subst (λ ask. PutsBy g.M.Disk.Store (g.M.Machine.left c.args.machine.now) (g.M.Machine.stands c.args.machine.now) (g.M.Machine.left c.copy.new.machine)
+    subst (λ ask. PutsBy g.M.Disk.Store (g.M.Machine.seen c.args.machine.now).left (g.M.Machine.seen c.args.machine.now).stands (g.M.Machine.seen c.copy.new.machine).left
     (g.W.Write.contents c.args.output.now) (g.W.Write.contents c.copy.new.output) ask c.whole-in-Copy.result) (sym c.in-Copy.is) tt
 
 pub returns-in-File-clause-listens : goal.returns-in-File-clause-listens
@@ -1261,51 +1265,51 @@ returns-in-Extract-clause-kept g c = err_whole _ c.extract.result c.whole-in-Ext
 
 pub returns-in-Extract-clause-leaves : goal.returns-in-Extract-clause-leaves
 returns-in-Extract-clause-leaves g c =
-    subst (LeavesBy g.M.Disk.Store (g.M.Machine.clock c.args.machine.now) (g.M.Machine.left c.args.machine.now) (g.M.Machine.stands c.args.machine.now) (g.M.Machine.left c.extract.new.machine)) (sym c.in-Extract.is) tt
+    subst (LeavesBy g.M.Disk.Store (g.M.Machine.seen c.args.machine.now).clock (g.M.Machine.seen c.args.machine.now).left (g.M.Machine.seen c.args.machine.now).stands (g.M.Machine.seen c.extract.new.machine).left) (sym c.in-Extract.is) tt
 
 pub returns-in-Extract-clause-leaves_refused : goal.returns-in-Extract-clause-leaves_refused
 returns-in-Extract-clause-leaves_refused g c =
-    subst (λ ask. IfErr c.whole-in-Extract.result (LeavesRefused g.M.Disk.Store (g.M.Machine.left c.args.machine.now) (g.M.Machine.stands c.args.machine.now) (g.M.Machine.left c.extract.new.machine)
+    subst (λ ask. IfErr c.whole-in-Extract.result (LeavesRefused g.M.Disk.Store (g.M.Machine.seen c.args.machine.now).left (g.M.Machine.seen c.args.machine.now).stands (g.M.Machine.seen c.extract.new.machine).left
     (g.W.Write.contents c.args.output.now) (g.W.Write.contents c.extract.new.output) ask)) (sym c.in-Extract.is) (no_refusal c.whole-in-Extract.result)
 
 pub returns-in-Extract-clause-answers : goal.returns-in-Extract-clause-answers
 returns-in-Extract-clause-answers g c =
-    subst (λ ask. AnswersBy g.M.Disk.Store (g.M.Machine.clock c.args.machine.now) (g.M.Machine.stands c.args.machine.now) (g.M.Machine.left c.extract.new.machine)
+    subst (λ ask. AnswersBy g.M.Disk.Store (g.M.Machine.seen c.args.machine.now).clock (g.M.Machine.seen c.args.machine.now).stands (g.M.Machine.seen c.extract.new.machine).left
     (g.W.Write.contents c.args.output.now) (g.W.Write.contents c.extract.new.output) ask c.whole-in-Extract.result) (sym c.in-Extract.is) tt
 
 pub returns-in-Extract-clause-of_file : goal.returns-in-Extract-clause-of_file
 returns-in-Extract-clause-of_file g c =
-    subst (λ ask. GivesFile (g.M.Files.file_bytes c.args.machine.now) (g.W.Write.contents c.args.output.now) (g.W.Write.contents c.extract.new.output) ask c.whole-in-Extract.result) (sym c.in-Extract.is) tt
+    subst (λ ask. GivesFile (g.M.Machine.seen c.args.machine.now).files (g.W.Write.contents c.args.output.now) (g.W.Write.contents c.extract.new.output) ask c.whole-in-Extract.result) (sym c.in-Extract.is) tt
 
 pub returns-in-Extract-clause-untouched : goal.returns-in-Extract-clause-untouched
 returns-in-Extract-clause-untouched g c = λ of. absurd (subst IsOfImage c.in-Extract.is of)
 
 pub returns-in-Extract-clause-serves : goal.returns-in-Extract-clause-serves
 returns-in-Extract-clause-serves g c =
-    subst (λ ask. OnOk c.whole-in-Extract.result (ServesBy g.M.Disk.Store g.M.Door.Door.told g.M.Door.Door.coming (g.M.Machine.door c.args.machine.now) (g.M.Machine.door c.extract.new.machine)
-    (g.M.Machine.stands c.args.machine.now) (g.M.Machine.left c.extract.new.machine) ask)) (sym c.in-Extract.is)
+    subst (λ ask. OnOk c.whole-in-Extract.result (ServesBy g.M.Disk.Store g.M.Door.Door.told g.M.Door.Door.coming (g.M.Machine.seen c.args.machine.now).doors (g.M.Machine.seen c.extract.new.machine).doors
+    (g.M.Machine.seen c.args.machine.now).stands (g.M.Machine.seen c.extract.new.machine).left ask)) (sym c.in-Extract.is)
     (stands_nowhere c.whole-in-Extract.result)
 
 pub returns-in-Extract-clause-limits : goal.returns-in-Extract-clause-limits
 returns-in-Extract-clause-limits g c =
-    subst (λ ask. OnOk c.whole-in-Extract.result (LimitsVisitors (g.M.Machine.shows c.args.machine.now) (g.M.Machine.door_limits c.extract.new.machine) ask)) (sym c.in-Extract.is) (no_limits c.whole-in-Extract.result)
+    subst (λ ask. OnOk c.whole-in-Extract.result (LimitsVisitors (g.M.Machine.seen c.args.machine.now).shows (g.M.Machine.seen c.extract.new.machine).limits ask)) (sym c.in-Extract.is) (no_limits c.whole-in-Extract.result)
 
 pub returns-in-Extract-clause-there : goal.returns-in-Extract-clause-there
 returns-in-Extract-clause-there g c =
-    subst (λ ask. OnEnded c.whole-in-Extract.result (StandsThere (g.M.Machine.shows c.args.machine.now) (g.M.Machine.stands c.args.machine.now) (g.M.Machine.left c.extract.new.machine) ask)) (sym c.in-Extract.is)
+    subst (λ ask. OnEnded c.whole-in-Extract.result (StandsThere (g.M.Machine.seen c.args.machine.now).shows (g.M.Machine.seen c.args.machine.now).stands (g.M.Machine.seen c.extract.new.machine).left ask)) (sym c.in-Extract.is)
     (on_ended_always c.whole-in-Extract.result _ tt)
 
 pub returns-in-Extract-clause-clock : goal.returns-in-Extract-clause-clock
 returns-in-Extract-clause-clock g c =
-    subst (λ ask. IfErr c.whole-in-Extract.result (IsClockDueBy g.M.Disk.Store (g.M.Machine.stands c.args.machine.now) (g.M.Machine.left c.extract.new.machine) ask)) (sym c.in-Extract.is) (no_refusal c.whole-in-Extract.result)
+    subst (λ ask. IfErr c.whole-in-Extract.result (IsClockDueBy g.M.Disk.Store (g.M.Machine.seen c.args.machine.now).stands (g.M.Machine.seen c.extract.new.machine).left ask)) (sym c.in-Extract.is) (no_refusal c.whole-in-Extract.result)
 
 pub returns-in-Extract-clause-bad_sheet : goal.returns-in-Extract-clause-bad_sheet
 returns-in-Extract-clause-bad_sheet g c =
-    subst (λ ask. IfErr c.whole-in-Extract.result (RefusesSheetBy (g.M.Files.sheet_bytes c.args.machine.now) ask)) (sym c.in-Extract.is) (no_refusal c.whole-in-Extract.result)
+    subst (λ ask. IfErr c.whole-in-Extract.result (RefusesSheetBy (g.M.Machine.seen c.args.machine.now).sheets ask)) (sym c.in-Extract.is) (no_refusal c.whole-in-Extract.result)
 
 pub returns-in-Extract-clause-asked : goal.returns-in-Extract-clause-asked
 returns-in-Extract-clause-asked g c =
-    subst (λ ask. AsksBy (g.M.Machine.wanted c.args.machine.now) ask (g.M.Machine.wanted c.extract.new.machine)) (sym c.in-Extract.is) c.extract.ensures.asked
+    subst (λ ask. AsksBy (g.M.Machine.seen c.args.machine.now).wanted ask (g.M.Machine.seen c.extract.new.machine).wanted) (sym c.in-Extract.is) c.extract.ensures.asked
 
 pub returns-in-Extract-clause-put : goal.returns-in-Extract-clause-put
 returns-in-Extract-clause-put g c = λ store key asked. absurd (subst (IsStaffKeyAsk store key) c.in-Extract.is asked)
@@ -1315,22 +1319,22 @@ returns-in-Extract-clause-not_put g c = λ store key asked. absurd (subst (IsSta
 
 pub returns-in-Extract-clause-sums : goal.returns-in-Extract-clause-sums
 returns-in-Extract-clause-sums g c =
-    subst (λ ask. SumsBy (g.M.Machine.sums c.args.machine.now) ask (g.M.Machine.sums c.extract.new.machine)) (sym c.in-Extract.is) tt
+    subst (λ ask. SumsBy (g.M.Machine.seen c.args.machine.now).sums ask (g.M.Machine.seen c.extract.new.machine).sums) (sym c.in-Extract.is) tt
 
 pub returns-in-Extract-clause-copies : goal.returns-in-Extract-clause-copies
 returns-in-Extract-clause-copies g c =
-    subst (λ ask. CopiesBy g.M.Disk.Store (g.M.Machine.shows c.args.machine.now) (g.M.Machine.stands c.args.machine.now) (g.M.Machine.left c.extract.new.machine) (g.M.Machine.made c.args.machine.now)
-    (g.M.Machine.fresh c.args.machine.now) (g.M.Machine.made c.extract.new.machine) (g.M.Machine.new_stores c.args.machine.now) (g.M.Machine.new_stores c.extract.new.machine)
+    subst (λ ask. CopiesBy g.M.Disk.Store (g.M.Machine.seen c.args.machine.now).shows (g.M.Machine.seen c.args.machine.now).stands (g.M.Machine.seen c.extract.new.machine).left (g.M.Machine.seen c.args.machine.now).made
+    (g.M.Machine.seen c.args.machine.now).fresh (g.M.Machine.seen c.extract.new.machine).made (g.M.Machine.seen c.args.machine.now).new_stores (g.M.Machine.seen c.extract.new.machine).new_stores
     (g.W.Write.contents c.args.output.now) (g.W.Write.contents c.extract.new.output) ask c.whole-in-Extract.result) (sym c.in-Extract.is) tt
 
 pub returns-in-Extract-clause-lent : goal.returns-in-Extract-clause-lent
 returns-in-Extract-clause-lent g c =
-    subst (λ ask. WritesOnceLentBy (g.M.Machine.shows c.args.machine.now) (g.M.Machine.door_limits c.extract.new.machine)
+    subst (λ ask. WritesOnceLentBy (g.M.Machine.seen c.args.machine.now).shows (g.M.Machine.seen c.extract.new.machine).limits
     (g.W.Write.contents c.args.output.now) (g.W.Write.contents c.extract.new.output) ask) (sym c.in-Extract.is) tt
 
 pub returns-in-Extract-clause-late : goal.returns-in-Extract-clause-late
 returns-in-Extract-clause-late g c =
-    subst (λ ask. IfErr c.whole-in-Extract.result (IsBehindBy g.M.Disk.Store (g.M.Machine.clock c.args.machine.now) (g.M.Machine.stands c.args.machine.now) (g.M.Machine.left c.extract.new.machine) ask))
+    subst (λ ask. IfErr c.whole-in-Extract.result (IsBehindBy g.M.Disk.Store (g.M.Machine.seen c.args.machine.now).clock (g.M.Machine.seen c.args.machine.now).stands (g.M.Machine.seen c.extract.new.machine).left ask))
     (sym c.in-Extract.is) (no_refusal c.whole-in-Extract.result)
 
 pub returns-in-Extract-clause-flushed : goal.returns-in-Extract-clause-flushed
@@ -1338,12 +1342,12 @@ returns-in-Extract-clause-flushed g c = ok_whole _ c.extract.result c.whole-in-E
 
 pub returns-in-Extract-clause-makes : goal.returns-in-Extract-clause-makes
 returns-in-Extract-clause-makes g c =
-    subst (λ ask. MakesBy g.M.Disk.Store (g.M.Machine.left c.args.machine.now) (g.M.Machine.stands c.args.machine.now) (g.M.Machine.left c.extract.new.machine)
+    subst (λ ask. MakesBy g.M.Disk.Store (g.M.Machine.seen c.args.machine.now).left (g.M.Machine.seen c.args.machine.now).stands (g.M.Machine.seen c.extract.new.machine).left
     (g.W.Write.contents c.args.output.now) (g.W.Write.contents c.extract.new.output) ask c.whole-in-Extract.result) (sym c.in-Extract.is) tt
 
 pub returns-in-Extract-clause-puts : goal.returns-in-Extract-clause-puts
 returns-in-Extract-clause-puts g c =
-    subst (λ ask. PutsBy g.M.Disk.Store (g.M.Machine.left c.args.machine.now) (g.M.Machine.stands c.args.machine.now) (g.M.Machine.left c.extract.new.machine)
+    subst (λ ask. PutsBy g.M.Disk.Store (g.M.Machine.seen c.args.machine.now).left (g.M.Machine.seen c.args.machine.now).stands (g.M.Machine.seen c.extract.new.machine).left
     (g.W.Write.contents c.args.output.now) (g.W.Write.contents c.extract.new.output) ask c.whole-in-Extract.result) (sym c.in-Extract.is) tt
 
 pub returns-in-Extract-clause-listens : goal.returns-in-Extract-clause-listens
@@ -1352,7 +1356,7 @@ returns-in-Extract-clause-listens g c =
 
 pub returns-in-Extract-clause-extracts : goal.returns-in-Extract-clause-extracts
 returns-in-Extract-clause-extracts g c =
-    subst (λ ask. ExtractsBy (g.M.Files.file_bytes c.args.machine.now) (g.R.Read.remaining c.args.input.now) (g.M.Machine.written c.args.machine.now) (g.M.Machine.written c.extract.new.machine)
+    subst (λ ask. ExtractsBy (g.M.Machine.seen c.args.machine.now).files (g.R.Read.remaining c.args.input.now) (g.M.Machine.seen c.args.machine.now).written (g.M.Machine.seen c.extract.new.machine).written
     (g.W.Write.contents c.args.output.now) (g.W.Write.contents c.extract.new.output) ask c.whole-in-Extract.result) (sym c.in-Extract.is)
     (extracted_by _ _ _ _ _ _ c.in-Extract.ask c.extract.result c.whole-in-Extract.result c.whole-in-Extract.ensures c.extract.ensures.extracted c.extract.ensures.refused)
 
@@ -1388,59 +1392,59 @@ returns-in-Sift-clause-not_answered g c = λ asked. absurd (subst AsksADesk c.in
 
 pub returns-in-Sift-clause-leaves : goal.returns-in-Sift-clause-leaves
 returns-in-Sift-clause-leaves g c =
-    subst (LeavesBy g.M.Disk.Store (g.M.Machine.clock c.args.machine.now) (g.M.Machine.left c.args.machine.now) (g.M.Machine.stands c.args.machine.now) (g.M.Machine.left c.sift.new.machine)) (sym c.in-Sift.is) c.sift.ensures.takes
+    subst (LeavesBy g.M.Disk.Store (g.M.Machine.seen c.args.machine.now).clock (g.M.Machine.seen c.args.machine.now).left (g.M.Machine.seen c.args.machine.now).stands (g.M.Machine.seen c.sift.new.machine).left) (sym c.in-Sift.is) c.sift.ensures.takes
 
 pub returns-in-Sift-clause-leaves_refused : goal.returns-in-Sift-clause-leaves_refused
 returns-in-Sift-clause-leaves_refused g c =
-    subst (λ ask. IfErr c.sift.result (LeavesRefused g.M.Disk.Store (g.M.Machine.left c.args.machine.now) (g.M.Machine.stands c.args.machine.now) (g.M.Machine.left c.sift.new.machine)
+    subst (λ ask. IfErr c.sift.result (LeavesRefused g.M.Disk.Store (g.M.Machine.seen c.args.machine.now).left (g.M.Machine.seen c.args.machine.now).stands (g.M.Machine.seen c.sift.new.machine).left
     (g.W.Write.contents c.args.output.now) (g.W.Write.contents c.sift.new.output) ask)) (sym c.in-Sift.is) c.sift.ensures.opens
 
 pub returns-in-Sift-clause-answers : goal.returns-in-Sift-clause-answers
 returns-in-Sift-clause-answers g c =
-    subst (λ ask. AnswersBy g.M.Disk.Store (g.M.Machine.clock c.args.machine.now) (g.M.Machine.stands c.args.machine.now) (g.M.Machine.left c.sift.new.machine)
+    subst (λ ask. AnswersBy g.M.Disk.Store (g.M.Machine.seen c.args.machine.now).clock (g.M.Machine.seen c.args.machine.now).stands (g.M.Machine.seen c.sift.new.machine).left
     (g.W.Write.contents c.args.output.now) (g.W.Write.contents c.sift.new.output) ask c.sift.result) (sym c.in-Sift.is) tt
 
 pub returns-in-Sift-clause-of_file : goal.returns-in-Sift-clause-of_file
 returns-in-Sift-clause-of_file g c =
-    subst (λ ask. GivesFile (g.M.Files.file_bytes c.args.machine.now) (g.W.Write.contents c.args.output.now) (g.W.Write.contents c.sift.new.output) ask c.sift.result) (sym c.in-Sift.is) tt
+    subst (λ ask. GivesFile (g.M.Machine.seen c.args.machine.now).files (g.W.Write.contents c.args.output.now) (g.W.Write.contents c.sift.new.output) ask c.sift.result) (sym c.in-Sift.is) tt
 
 pub returns-in-Sift-clause-untouched : goal.returns-in-Sift-clause-untouched
 returns-in-Sift-clause-untouched g c = λ of. absurd (subst IsOfImage c.in-Sift.is of)
 
 pub returns-in-Sift-clause-unasked : goal.returns-in-Sift-clause-unasked
-returns-in-Sift-clause-unasked g c = subst (λ ask. IsUnaskedBy (g.M.Machine.clock c.args.machine.now) ask c.sift.result) (sym c.in-Sift.is) c.sift.ensures.unasked
+returns-in-Sift-clause-unasked g c = subst (λ ask. IsUnaskedBy (g.M.Machine.seen c.args.machine.now).clock ask c.sift.result) (sym c.in-Sift.is) c.sift.ensures.unasked
 
 pub returns-in-Sift-clause-imports : goal.returns-in-Sift-clause-imports
 returns-in-Sift-clause-imports g c =
-    subst (λ ask. ImportsBy g.M.Disk.Store (g.M.Files.file_bytes c.args.machine.now) (g.M.Files.sheet_bytes c.args.machine.now) (g.M.Machine.clock c.args.machine.now) (g.M.Machine.stands c.args.machine.now)
-    (g.M.Machine.left c.sift.new.machine) (g.W.Write.contents c.args.output.now) (g.W.Write.contents c.sift.new.output) ask c.sift.result) (sym c.in-Sift.is) tt
+    subst (λ ask. ImportsBy g.M.Disk.Store (g.M.Machine.seen c.args.machine.now).files (g.M.Machine.seen c.args.machine.now).sheets (g.M.Machine.seen c.args.machine.now).clock (g.M.Machine.seen c.args.machine.now).stands
+    (g.M.Machine.seen c.sift.new.machine).left (g.W.Write.contents c.args.output.now) (g.W.Write.contents c.sift.new.output) ask c.sift.result) (sym c.in-Sift.is) tt
 
 pub returns-in-Sift-clause-serves : goal.returns-in-Sift-clause-serves
 returns-in-Sift-clause-serves g c =
-    subst (λ ask. OnOk c.sift.result (ServesBy g.M.Disk.Store g.M.Door.Door.told g.M.Door.Door.coming (g.M.Machine.door c.args.machine.now) (g.M.Machine.door c.sift.new.machine)
-    (g.M.Machine.stands c.args.machine.now) (g.M.Machine.left c.sift.new.machine) ask)) (sym c.in-Sift.is)
+    subst (λ ask. OnOk c.sift.result (ServesBy g.M.Disk.Store g.M.Door.Door.told g.M.Door.Door.coming (g.M.Machine.seen c.args.machine.now).doors (g.M.Machine.seen c.sift.new.machine).doors
+    (g.M.Machine.seen c.args.machine.now).stands (g.M.Machine.seen c.sift.new.machine).left ask)) (sym c.in-Sift.is)
     (stands_nowhere c.sift.result)
 
 pub returns-in-Sift-clause-limits : goal.returns-in-Sift-clause-limits
 returns-in-Sift-clause-limits g c =
-    subst (λ ask. OnOk c.sift.result (LimitsVisitors (g.M.Machine.shows c.args.machine.now) (g.M.Machine.door_limits c.sift.new.machine) ask)) (sym c.in-Sift.is) (no_limits c.sift.result)
+    subst (λ ask. OnOk c.sift.result (LimitsVisitors (g.M.Machine.seen c.args.machine.now).shows (g.M.Machine.seen c.sift.new.machine).limits ask)) (sym c.in-Sift.is) (no_limits c.sift.result)
 
 pub returns-in-Sift-clause-there : goal.returns-in-Sift-clause-there
 returns-in-Sift-clause-there g c =
-    subst (λ ask. OnEnded c.sift.result (StandsThere (g.M.Machine.shows c.args.machine.now) (g.M.Machine.stands c.args.machine.now) (g.M.Machine.left c.sift.new.machine) ask)) (sym c.in-Sift.is)
+    subst (λ ask. OnEnded c.sift.result (StandsThere (g.M.Machine.seen c.args.machine.now).shows (g.M.Machine.seen c.args.machine.now).stands (g.M.Machine.seen c.sift.new.machine).left ask)) (sym c.in-Sift.is)
     c.sift.ensures.there
 
 pub returns-in-Sift-clause-clock : goal.returns-in-Sift-clause-clock
 returns-in-Sift-clause-clock g c =
-    subst (λ ask. IfErr c.sift.result (IsClockDueBy g.M.Disk.Store (g.M.Machine.stands c.args.machine.now) (g.M.Machine.left c.sift.new.machine) ask)) (sym c.in-Sift.is) c.sift.ensures.clock
+    subst (λ ask. IfErr c.sift.result (IsClockDueBy g.M.Disk.Store (g.M.Machine.seen c.args.machine.now).stands (g.M.Machine.seen c.sift.new.machine).left ask)) (sym c.in-Sift.is) c.sift.ensures.clock
 
 pub returns-in-Sift-clause-bad_sheet : goal.returns-in-Sift-clause-bad_sheet
 returns-in-Sift-clause-bad_sheet g c =
-    subst (λ ask. IfErr c.sift.result (RefusesSheetBy (g.M.Files.sheet_bytes c.args.machine.now) ask)) (sym c.in-Sift.is) c.sift.ensures.bad_sheet
+    subst (λ ask. IfErr c.sift.result (RefusesSheetBy (g.M.Machine.seen c.args.machine.now).sheets ask)) (sym c.in-Sift.is) c.sift.ensures.bad_sheet
 
 pub returns-in-Sift-clause-asked : goal.returns-in-Sift-clause-asked
 returns-in-Sift-clause-asked g c =
-    subst (λ ask. AsksBy (g.M.Machine.wanted c.args.machine.now) ask (g.M.Machine.wanted c.sift.new.machine)) (sym c.in-Sift.is) c.sift.ensures.asked
+    subst (λ ask. AsksBy (g.M.Machine.seen c.args.machine.now).wanted ask (g.M.Machine.seen c.sift.new.machine).wanted) (sym c.in-Sift.is) c.sift.ensures.asked
 
 pub returns-in-Sift-clause-put : goal.returns-in-Sift-clause-put
 returns-in-Sift-clause-put g c = λ store key asked. absurd (subst (IsStaffKeyAsk store key) c.in-Sift.is asked)
@@ -1450,27 +1454,27 @@ returns-in-Sift-clause-not_put g c = λ store key asked. absurd (subst (IsStaffK
 
 pub returns-in-Sift-clause-on_time : goal.returns-in-Sift-clause-on_time
 returns-in-Sift-clause-on_time g c =
-    subst (λ ask. IsOnTimeBy g.M.Disk.Store (g.M.Machine.clock c.args.machine.now) (g.M.Machine.stands c.args.machine.now) (g.M.Machine.left c.sift.new.machine) ask c.sift.result)
+    subst (λ ask. IsOnTimeBy g.M.Disk.Store (g.M.Machine.seen c.args.machine.now).clock (g.M.Machine.seen c.args.machine.now).stands (g.M.Machine.seen c.sift.new.machine).left ask c.sift.result)
     (sym c.in-Sift.is) c.sift.ensures.on_time
 
 pub returns-in-Sift-clause-sums : goal.returns-in-Sift-clause-sums
 returns-in-Sift-clause-sums g c =
-    subst (λ ask. SumsBy (g.M.Machine.sums c.args.machine.now) ask (g.M.Machine.sums c.sift.new.machine)) (sym c.in-Sift.is) tt
+    subst (λ ask. SumsBy (g.M.Machine.seen c.args.machine.now).sums ask (g.M.Machine.seen c.sift.new.machine).sums) (sym c.in-Sift.is) tt
 
 pub returns-in-Sift-clause-copies : goal.returns-in-Sift-clause-copies
 returns-in-Sift-clause-copies g c =
-    subst (λ ask. CopiesBy g.M.Disk.Store (g.M.Machine.shows c.args.machine.now) (g.M.Machine.stands c.args.machine.now) (g.M.Machine.left c.sift.new.machine) (g.M.Machine.made c.args.machine.now)
-    (g.M.Machine.fresh c.args.machine.now) (g.M.Machine.made c.sift.new.machine) (g.M.Machine.new_stores c.args.machine.now) (g.M.Machine.new_stores c.sift.new.machine)
+    subst (λ ask. CopiesBy g.M.Disk.Store (g.M.Machine.seen c.args.machine.now).shows (g.M.Machine.seen c.args.machine.now).stands (g.M.Machine.seen c.sift.new.machine).left (g.M.Machine.seen c.args.machine.now).made
+    (g.M.Machine.seen c.args.machine.now).fresh (g.M.Machine.seen c.sift.new.machine).made (g.M.Machine.seen c.args.machine.now).new_stores (g.M.Machine.seen c.sift.new.machine).new_stores
     (g.W.Write.contents c.args.output.now) (g.W.Write.contents c.sift.new.output) ask c.sift.result) (sym c.in-Sift.is) tt
 
 pub returns-in-Sift-clause-lent : goal.returns-in-Sift-clause-lent
 returns-in-Sift-clause-lent g c =
-    subst (λ ask. WritesOnceLentBy (g.M.Machine.shows c.args.machine.now) (g.M.Machine.door_limits c.sift.new.machine)
+    subst (λ ask. WritesOnceLentBy (g.M.Machine.seen c.args.machine.now).shows (g.M.Machine.seen c.sift.new.machine).limits
     (g.W.Write.contents c.args.output.now) (g.W.Write.contents c.sift.new.output) ask) (sym c.in-Sift.is) tt
 
 pub returns-in-Sift-clause-late : goal.returns-in-Sift-clause-late
 returns-in-Sift-clause-late g c =
-    subst (λ ask. IfErr c.sift.result (IsBehindBy g.M.Disk.Store (g.M.Machine.clock c.args.machine.now) (g.M.Machine.stands c.args.machine.now) (g.M.Machine.left c.sift.new.machine) ask))
+    subst (λ ask. IfErr c.sift.result (IsBehindBy g.M.Disk.Store (g.M.Machine.seen c.args.machine.now).clock (g.M.Machine.seen c.args.machine.now).stands (g.M.Machine.seen c.sift.new.machine).left ask))
     (sym c.in-Sift.is) c.sift.ensures.late
 
 pub returns-in-Sift-clause-flushed : goal.returns-in-Sift-clause-flushed
@@ -1479,12 +1483,12 @@ returns-in-Sift-clause-flushed g c =
 
 pub returns-in-Sift-clause-makes : goal.returns-in-Sift-clause-makes
 returns-in-Sift-clause-makes g c =
-    subst (λ ask. MakesBy g.M.Disk.Store (g.M.Machine.left c.args.machine.now) (g.M.Machine.stands c.args.machine.now) (g.M.Machine.left c.sift.new.machine)
+    subst (λ ask. MakesBy g.M.Disk.Store (g.M.Machine.seen c.args.machine.now).left (g.M.Machine.seen c.args.machine.now).stands (g.M.Machine.seen c.sift.new.machine).left
     (g.W.Write.contents c.args.output.now) (g.W.Write.contents c.sift.new.output) ask c.sift.result) (sym c.in-Sift.is) tt
 
 pub returns-in-Sift-clause-puts : goal.returns-in-Sift-clause-puts
 returns-in-Sift-clause-puts g c =
-    subst (λ ask. PutsBy g.M.Disk.Store (g.M.Machine.left c.args.machine.now) (g.M.Machine.stands c.args.machine.now) (g.M.Machine.left c.sift.new.machine)
+    subst (λ ask. PutsBy g.M.Disk.Store (g.M.Machine.seen c.args.machine.now).left (g.M.Machine.seen c.args.machine.now).stands (g.M.Machine.seen c.sift.new.machine).left
     (g.W.Write.contents c.args.output.now) (g.W.Write.contents c.sift.new.output) ask c.sift.result) (sym c.in-Sift.is) tt
 
 pub returns-in-Sift-clause-listens : goal.returns-in-Sift-clause-listens
@@ -1493,8 +1497,8 @@ returns-in-Sift-clause-listens g c =
 
 pub returns-in-Sift-clause-sifts : goal.returns-in-Sift-clause-sifts
 returns-in-Sift-clause-sifts g c =
-    subst (λ ask. SiftsBy g.M.Disk.Store (g.M.Files.file_bytes c.args.machine.now) (g.M.Files.sheet_bytes c.args.machine.now) (g.M.Machine.clock c.args.machine.now) (g.M.Machine.stands c.args.machine.now)
-    (g.M.Machine.left c.sift.new.machine) (g.W.Write.contents c.args.output.now) (g.W.Write.contents c.sift.new.output) ask c.sift.result) (sym c.in-Sift.is) c.sift.ensures.sifted
+    subst (λ ask. SiftsBy g.M.Disk.Store (g.M.Machine.seen c.args.machine.now).files (g.M.Machine.seen c.args.machine.now).sheets (g.M.Machine.seen c.args.machine.now).clock (g.M.Machine.seen c.args.machine.now).stands
+    (g.M.Machine.seen c.sift.new.machine).left (g.W.Write.contents c.args.output.now) (g.W.Write.contents c.sift.new.output) ask c.sift.result) (sym c.in-Sift.is) c.sift.ensures.sifted
 
 pub returns-in-Sift-clause-imported : goal.returns-in-Sift-clause-imported
 returns-in-Sift-clause-imported g c = λ tells. absurd (subst TakesRows c.in-Sift.is tells)

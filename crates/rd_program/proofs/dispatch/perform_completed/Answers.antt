@@ -5,7 +5,7 @@ use Rattle.std.proofs.lemmas.Result.{IfErr-weaker, IfOk-weaker}
 use Rattle.rd_commands.proofs.ReadLimits.{reads_after, reads_within}
 use Rattle.rd_program.specs.Completing.{Completes}
 use Rattle.rd_program.specs.Leaves.{GivesBack}
-use Rattle.rd_program.specs.Performing.{CompletesSo, Performs, sight}
+use Rattle.rd_program.specs.Performing.{CompletesSo, Performs}
 use Rattle.rd_program.proofs.CompletingLemmas.{early_never, extracts_none, kept_alike, reads_nothing_more, whole_alike}
 use Rattle.rd_program.proofs.dispatch.perform_completed.Goals as goal
 
@@ -30,7 +30,7 @@ returns-in-Ok-clause-flushed g c = c.perform.ensures.flushed
 
 pub returns-in-Ok-clause-back : goal.returns-in-Ok-clause-back
 returns-in-Ok-clause-back g c =
-    subst (λ machine. GivesBack (g.M.Machine.shows machine) (g.M.Machine.left machine) (g.M.Machine.left c.perform.new.machine)) c.read_operands.ensures.same c.perform.ensures.back
+    subst (λ machine. GivesBack (g.M.Machine.seen machine).shows (g.M.Machine.seen machine).left (g.M.Machine.seen c.perform.new.machine).left) c.read_operands.ensures.same c.perform.ensures.back
 
 pub returns-in-Ok-clause-limit : goal.returns-in-Ok-clause-limit
 returns-in-Ok-clause-limit g c =
@@ -42,12 +42,12 @@ returns-in-Ok-clause-completed g c =
     let alike = whole_alike _ _ c.args.told c.completed-ask.result (c.completed-ask.ensures _ _ c.in-Ok.ensures.read) in
     inl (subst
     (λ machine. CompletesSo g.M.Disk.Store g.M.Door.Door.told g.M.Door.Door.coming
-    (sight g.M.Machine.shows g.M.Machine.clock g.M.Files.file_bytes g.M.Files.sheet_bytes g.M.Machine.stands g.M.Machine.left g.M.Machine.wanted g.M.Machine.sums g.M.Machine.door g.M.Machine.door_limits g.M.Machine.made g.M.Machine.fresh g.M.Machine.new_stores g.M.Machine.written machine)
-    (sight g.M.Machine.shows g.M.Machine.clock g.M.Files.file_bytes g.M.Files.sheet_bytes g.M.Machine.stands g.M.Machine.left g.M.Machine.wanted g.M.Machine.sums g.M.Machine.door g.M.Machine.door_limits g.M.Machine.made g.M.Machine.fresh g.M.Machine.new_stores g.M.Machine.written c.perform.new.machine)
+    (g.M.Machine.seen machine)
+    (g.M.Machine.seen c.perform.new.machine)
     (g.R.Read.remaining c.args.input.now) (g.W.Write.contents c.args.output.now) (g.W.Write.contents c.perform.new.output) c.args.told c.perform.result)
     c.read_operands.ensures.same (record {
       ask = c.completed-ask.result;
-      whole = subst (λ machine. Completes (g.M.Files.file_bytes machine) (g.R.Read.remaining c.args.input.now) c.args.told c.completed-ask.result) (sym c.read_operands.ensures.same)
+      whole = subst (λ machine. Completes (g.M.Machine.seen machine).files (g.R.Read.remaining c.args.input.now) c.args.told c.completed-ask.result) (sym c.read_operands.ensures.same)
           (c.completed-ask.ensures _ _ c.in-Ok.ensures.read);
       performs = record {
         gives = c.perform.ensures.of_file;
@@ -85,7 +85,7 @@ returns-in-Err-clause-kept g c = λ one. inl (Keeps-refl _)
 
 pub returns-in-Err-clause-back : goal.returns-in-Err-clause-back
 returns-in-Err-clause-back g c =
-    subst (λ machine. GivesBack (g.M.Machine.shows c.args.machine.now) (g.M.Machine.left c.args.machine.now) (g.M.Machine.left machine)) (sym c.read_operands.ensures.same) (λ shows had. had)
+    subst (λ machine. GivesBack (g.M.Machine.seen c.args.machine.now).shows (g.M.Machine.seen c.args.machine.now).left (g.M.Machine.seen machine).left) (sym c.read_operands.ensures.same) (λ shows had. had)
 
 pub returns-in-Err-clause-limit : goal.returns-in-Err-clause-limit
 returns-in-Err-clause-limit g c = reads_within _ _ _ _ (omega arith) c.read_operands.ensures.limit
@@ -94,6 +94,6 @@ pub returns-in-Err-clause-completed : goal.returns-in-Err-clause-completed
 returns-in-Err-clause-completed g c = inr (record {
   refused = refl;
   why = c.in-Err.ensures.refused;
-  same = ap (sight g.M.Machine.shows g.M.Machine.clock g.M.Files.file_bytes g.M.Files.sheet_bytes g.M.Machine.stands g.M.Machine.left g.M.Machine.wanted g.M.Machine.sums g.M.Machine.door g.M.Machine.door_limits g.M.Machine.made g.M.Machine.fresh g.M.Machine.new_stores g.M.Machine.written) c.read_operands.ensures.same;
+  same = ap g.M.Machine.seen c.read_operands.ensures.same;
   kept = Keeps-refl _;
 })

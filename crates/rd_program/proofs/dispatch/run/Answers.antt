@@ -29,7 +29,7 @@ use Rattle.std.specs.Io.KnownBytes.{Appends}
 use Rattle.rd_program.proofs.AnswerLemmas.{check_asks, check_of_desk, export_is_whole, show_is_whole}
 use Rattle.rd_program.proofs.ImportLemmas.{done_lines, import_tells, in_part_is_one, not_in_rows, one_is_some, rows_of, rows_tell}
 use Rattle.rd_program.proofs.LeftStores.{none_still, still_left}
-use Rattle.rd_program.specs.Doors.Wanted.{NewAt, StoreAt}
+use Rattle.rd_program.specs.World.Wanted.{NewAt, StoreAt}
 use Rattle.rd_program.proofs.Named.{asks_by, asks_neither, asks_none, command_of_store, copy_asks, has_both_by, one_of_status, sums_by, sums_none}
 use Rattle.rd_program.proofs.ShowLemmas.{memory_no_accession, once_due, once_finds, once_not_shown, once_shows}
 use Rattle.rd_program.specs.Copying.{OpensDesk}
@@ -257,18 +257,18 @@ returns-in-Err-clause-keeps g c = record {
 pub returns-in-Ok-perform_told-clause-one_store : goal.returns-in-Ok-perform_told-clause-one_store
 returns-in-Ok-perform_told-clause-one_store g c = record {
   there = λ well store names.
-      has_both_by (g.M.Machine.shows c.args.machine.now) (g.M.Machine.stands c.args.machine.now) (g.M.Machine.left c.perform_told.new.machine) _ c.in-Ok.told.ask store c.in-Ok.ensures.read names
+      has_both_by (g.M.Machine.seen c.args.machine.now).shows (g.M.Machine.seen c.args.machine.now).stands (g.M.Machine.seen c.perform_told.new.machine).left _ c.in-Ok.told.ask store c.in-Ok.ensures.read names
       (c.in-Ok-perform_told.ensures.plain (named_plain _ c.in-Ok.told.beside c.in-Ok.ensures.beside store names)).performs.there;
   asked = λ store names.
-      asks_by (g.M.Machine.wanted c.args.machine.now) (g.M.Machine.wanted c.perform_told.new.machine) _ c.in-Ok.told.ask store c.in-Ok.ensures.read names
+      asks_by (g.M.Machine.seen c.args.machine.now).wanted (g.M.Machine.seen c.perform_told.new.machine).wanted _ c.in-Ok.told.ask store c.in-Ok.ensures.read names
       (c.in-Ok-perform_told.ensures.plain (named_plain _ c.in-Ok.told.beside c.in-Ok.ensures.beside store (inl names))).performs.wanted;
   asked_copy = λ store target summed asks.
-      copy_asks (g.M.Machine.wanted c.args.machine.now) (g.M.Machine.wanted c.perform_told.new.machine) c.in-Ok.told.ask store target summed (c.in-Ok.ensures.read.copy store target summed asks)
+      copy_asks (g.M.Machine.seen c.args.machine.now).wanted (g.M.Machine.seen c.perform_told.new.machine).wanted c.in-Ok.told.ask store target summed (c.in-Ok.ensures.read.copy store target summed asks)
       (c.in-Ok-perform_told.ensures.plain (copy_plain _ c.in-Ok.told.beside c.in-Ok.ensures.beside store target summed asks)).performs.wanted;
   unasked = λ store moment rule asks.
-      unasked_by _ _ (g.M.Machine.clock c.args.machine.now) c.in-Ok.told.ask (Ok c.in-Ok-perform_told.done) store moment rule c.in-Ok.ensures.read asks (c.in-Ok-perform_told.ensures.plain (at_plain _ c.in-Ok.told.beside c.in-Ok.ensures.beside store moment rule asks)).performs.unasked (λ none. absurd none);
+      unasked_by _ _ (g.M.Machine.seen c.args.machine.now).clock c.in-Ok.told.ask (Ok c.in-Ok-perform_told.done) store moment rule c.in-Ok.ensures.read asks (c.in-Ok-perform_told.ensures.plain (at_plain _ c.in-Ok.told.beside c.in-Ok.ensures.beside store moment rule asks)).performs.unasked (λ none. absurd none);
   on_time = λ zero store rule goes trusts.
-      on_time_by g.M.Disk.Store (g.M.Machine.clock c.args.machine.now) (g.M.Machine.stands c.args.machine.now) (g.M.Machine.left c.perform_told.new.machine) c.in-Ok-perform_told.done store rule _ c.in-Ok.told.ask
+      on_time_by g.M.Disk.Store (g.M.Machine.seen c.args.machine.now).clock (g.M.Machine.seen c.args.machine.now).stands (g.M.Machine.seen c.perform_told.new.machine).left c.in-Ok-perform_told.done store rule _ c.in-Ok.told.ask
       c.in-Ok.ensures.read goes (c.in-Ok.ensures.trust false trusts) (c.in-Ok-perform_told.ensures.plain (at_plain _ c.in-Ok.told.beside c.in-Ok.ensures.beside store None rule (goes_at _ store rule goes))).performs.on_time;
   late = λ three. absurd (omega (arith, c.status.ensures.most, three));
 }
@@ -277,21 +277,21 @@ pub returns-in-Err-perform_told-clause-one_store : goal.returns-in-Err-perform_t
 returns-in-Err-perform_told-clause-one_store g c = record {
   there = λ well store names.
       let some = not_done c.in-Err-perform_told.refused in
-      has_both_by (g.M.Machine.shows c.args.machine.now) (g.M.Machine.stands c.args.machine.now) (g.M.Machine.left c.perform_told.new.machine) _ c.in-Ok.told.ask store c.in-Ok.ensures.read names
+      has_both_by (g.M.Machine.seen c.args.machine.now).shows (g.M.Machine.seen c.args.machine.now).stands (g.M.Machine.seen c.perform_told.new.machine).left _ c.in-Ok.told.ask store c.in-Ok.ensures.read names
       ((c.in-Err-perform_told.ensures.plain (named_plain _ c.in-Ok.told.beside c.in-Ok.ensures.beside store names)).performs.there (one_of_status (status_of c.in-Err-perform_told.refused) (subst (λ s. s ≤ 1) c.tell_and_keep.ensures.status well) some));
   asked = λ store names.
-      asks_by (g.M.Machine.wanted c.args.machine.now) (g.M.Machine.wanted c.perform_told.new.machine) _ c.in-Ok.told.ask store c.in-Ok.ensures.read names
+      asks_by (g.M.Machine.seen c.args.machine.now).wanted (g.M.Machine.seen c.perform_told.new.machine).wanted _ c.in-Ok.told.ask store c.in-Ok.ensures.read names
       (c.in-Err-perform_told.ensures.plain (named_plain _ c.in-Ok.told.beside c.in-Ok.ensures.beside store (inl names))).performs.wanted;
   asked_copy = λ store target summed asks.
-      copy_asks (g.M.Machine.wanted c.args.machine.now) (g.M.Machine.wanted c.perform_told.new.machine) c.in-Ok.told.ask store target summed (c.in-Ok.ensures.read.copy store target summed asks)
+      copy_asks (g.M.Machine.seen c.args.machine.now).wanted (g.M.Machine.seen c.perform_told.new.machine).wanted c.in-Ok.told.ask store target summed (c.in-Ok.ensures.read.copy store target summed asks)
       (c.in-Err-perform_told.ensures.plain (copy_plain _ c.in-Ok.told.beside c.in-Ok.ensures.beside store target summed asks)).performs.wanted;
   unasked = λ store moment rule asks.
-      unasked_by _ _ (g.M.Machine.clock c.args.machine.now) c.in-Ok.told.ask (Err c.in-Err-perform_told.refused) store moment rule c.in-Ok.ensures.read asks (c.in-Err-perform_told.ensures.plain (at_plain _ c.in-Ok.told.beside c.in-Ok.ensures.beside store moment rule asks)).performs.unasked
+      unasked_by _ _ (g.M.Machine.seen c.args.machine.now).clock c.in-Ok.told.ask (Err c.in-Err-perform_told.refused) store moment rule c.in-Ok.ensures.read asks (c.in-Err-perform_told.ensures.plain (at_plain _ c.in-Ok.told.beside c.in-Ok.ensures.beside store moment rule asks)).performs.unasked
       (λ is. tells IsUnaskedRefusal c.in-Err-perform_told.refused _ _ _ is c.tell_and_keep.ensures.status c.tell_and_keep.ensures.written);
   on_time = λ zero. absurd (not_done c.in-Err-perform_told.refused (sym c.tell_and_keep.ensures.status ∙ zero));
   late = λ three store moment rule asks.
       tells _ c.in-Err-perform_told.refused _ _ _
-      (behind_by g.M.Disk.Store (g.M.Machine.clock c.args.machine.now) (g.M.Machine.stands c.args.machine.now) (g.M.Machine.left c.perform_told.new.machine) _ store moment rule
+      (behind_by g.M.Disk.Store (g.M.Machine.seen c.args.machine.now).clock (g.M.Machine.seen c.args.machine.now).stands (g.M.Machine.seen c.perform_told.new.machine).left _ store moment rule
       c.in-Ok.told.ask c.in-Err-perform_told.refused c.in-Ok.ensures.read asks (c.in-Ok.ensures.trust true)
       (c.in-Err-perform_told.ensures.plain (at_plain _ c.in-Ok.told.beside c.in-Ok.ensures.beside store moment rule asks)).performs.late)
       c.tell_and_keep.ensures.status c.tell_and_keep.ensures.written;
@@ -302,11 +302,11 @@ returns-in-Err-clause-one_store g c = record {
   there = λ well store names.
       let memory = c.tell_unread.ensures.memory (c.in-Err.ensures.unread (command_of_store _ store names)) in
       let three : c.tell_unread.result ≡ 3 = memory.0 in absurd (omega (arith, well));
-  asked = λ store names. asks_none (g.M.Machine.wanted c.args.machine.now) store;
-  asked_copy = λ store target summed asks. asks_neither (g.M.Machine.wanted c.args.machine.now) (StoreAt store) (NewAt target);
+  asked = λ store names. asks_none (g.M.Machine.seen c.args.machine.now).wanted store;
+  asked_copy = λ store target summed asks. asks_neither (g.M.Machine.seen c.args.machine.now).wanted (StoreAt store) (NewAt target);
   unasked = λ store moment rule asks.
       let none = c.in-Err.ensures.unread (command_at _ store moment rule asks) in
-      always _ (moment_of moment (g.M.Machine.clock c.args.machine.now)) (tells IsUnaskedRefusal NoMemory _ _ _ (inr (inr refl)) (c.tell_unread.ensures.memory none).0 (c.tell_unread.ensures.no_memory none));
+      always _ (moment_of moment (g.M.Machine.seen c.args.machine.now).clock) (tells IsUnaskedRefusal NoMemory _ _ _ (inr (inr refl)) (c.tell_unread.ensures.memory none).0 (c.tell_unread.ensures.no_memory none));
   on_time = λ zero store rule goes trusts.
       let memory = c.tell_unread.ensures.memory (c.in-Err.ensures.unread (command_at _ store None rule (goes_at _ store rule goes))) in
       let three : c.tell_unread.result ≡ 3 = memory.0 in absurd (omega arith);
@@ -430,7 +430,7 @@ returns-in-Ok-perform_told-clause-cat g c = record {
       absurd (not_in_rows _ c.in-Ok.told.ask c.in-Ok.ensures.read (c.in-Ok-perform_told.ensures.in_part (c.status.ensures.in_part some)) (inl (kind, codes "-", slot, asked)));
   cut = λ three. absurd (omega (arith, c.status.ensures.most, three));
   file_done = λ zero kind path slot other asks.
-      one_file_done (g.M.Files.file_bytes c.args.machine.now) (g.W.Write.contents c.args.output.now) (g.W.Write.contents c.perform_told.new.output) c.in-Ok-perform_told.done
+      one_file_done (g.M.Machine.seen c.args.machine.now).files (g.W.Write.contents c.args.output.now) (g.W.Write.contents c.perform_told.new.output) c.in-Ok-perform_told.done
       c.in-Ok.told.ask kind path slot other (c.in-Ok.ensures.read.file kind path slot asks) (c.in-Ok-perform_told.ensures.plain (file_plain _ c.in-Ok.told c.in-Ok.ensures.all kind path slot (c.in-Ok.ensures.read.file kind path slot asks))).performs.gives;
   file_told = λ some kind path slot other asked.
       absurd (not_in_rows _ c.in-Ok.told.ask c.in-Ok.ensures.read (c.in-Ok-perform_told.ensures.in_part (c.status.ensures.in_part some)) (inl (kind, path, slot, asked)));
@@ -452,8 +452,8 @@ returns-in-Err-perform_told-clause-cat g c = record {
       ((c.in-Err-perform_told.ensures.plain (file_plain _ c.in-Ok.told c.in-Ok.ensures.all kind (codes "-") slot (c.in-Ok.ensures.read.file kind (codes "-") slot asked))).refused kind slot (c.in-Ok.ensures.read.file kind (codes "-") slot asked));
   file_done = λ zero. absurd (not_done c.in-Err-perform_told.refused (sym c.tell_and_keep.ensures.status ∙ zero));
   file_told = λ some kind path slot other asks.
-      of_known (g.M.Files.file_bytes c.args.machine.now path) (λ image why. tells _ c.in-Err-perform_told.refused _ _ _ why c.tell_and_keep.ensures.status c.tell_and_keep.ensures.written)
-      (one_file_refused (g.M.Files.file_bytes c.args.machine.now) (g.W.Write.contents c.args.output.now) (g.W.Write.contents c.perform_told.new.output) c.in-Err-perform_told.refused
+      of_known ((g.M.Machine.seen c.args.machine.now).files path) (λ image why. tells _ c.in-Err-perform_told.refused _ _ _ why c.tell_and_keep.ensures.status c.tell_and_keep.ensures.written)
+      (one_file_refused (g.M.Machine.seen c.args.machine.now).files (g.W.Write.contents c.args.output.now) (g.W.Write.contents c.perform_told.new.output) c.in-Err-perform_told.refused
       c.in-Ok.told.ask kind path slot other (c.in-Ok.ensures.read.file kind path slot asks) (c.in-Err-perform_told.ensures.plain (file_plain _ c.in-Ok.told c.in-Ok.ensures.all kind path slot (c.in-Ok.ensures.read.file kind path slot asks))).performs.gives);
 }
 
@@ -476,7 +476,7 @@ returns-in-Err-clause-cat g c = record {
   file_told = λ some kind path slot other asked.
       let none = c.in-Err.ensures.unread (inl (inl (kind, path, slot, asked))) in
       let memory = c.tell_unread.ensures.memory none in
-      of_all (g.M.Files.file_bytes c.args.machine.now path) (λ image. tells _ NoMemory _ _ _ memory.1 memory.0 (c.tell_unread.ensures.no_memory none));
+      of_all ((g.M.Machine.seen c.args.machine.now).files path) (λ image. tells _ NoMemory _ _ _ memory.1 memory.0 (c.tell_unread.ensures.no_memory none));
 }
 
 -- ---- the files of an image
@@ -488,7 +488,7 @@ returns-in-Ok-perform_told-clause-list g c = record {
   list_due = λ some kind asked.
       absurd (not_in_rows _ c.in-Ok.told.ask c.in-Ok.ensures.read (c.in-Ok-perform_told.ensures.in_part (c.status.ensures.in_part some)) (inr (inl (kind, codes "-", asked))));
   file_listed = λ zero kind path other asks.
-      files_done (g.M.Files.file_bytes c.args.machine.now) (g.W.Write.contents c.args.output.now) (g.W.Write.contents c.perform_told.new.output) c.in-Ok-perform_told.done
+      files_done (g.M.Machine.seen c.args.machine.now).files (g.W.Write.contents c.args.output.now) (g.W.Write.contents c.perform_told.new.output) c.in-Ok-perform_told.done
       c.in-Ok.told.ask kind path other (c.in-Ok.ensures.read.files kind path asks) (c.in-Ok-perform_told.ensures.plain (files_plain _ c.in-Ok.told c.in-Ok.ensures.all kind path (c.in-Ok.ensures.read.files kind path asks))).performs.gives;
   list_file_told = λ some kind path other asked.
       absurd (not_in_rows _ c.in-Ok.told.ask c.in-Ok.ensures.read (c.in-Ok-perform_told.ensures.in_part (c.status.ensures.in_part some)) (inr (inl (kind, path, asked))));
@@ -502,8 +502,8 @@ returns-in-Err-perform_told-clause-list g c = record {
       ((c.in-Err-perform_told.ensures.plain (files_plain _ c.in-Ok.told c.in-Ok.ensures.all kind (codes "-") (c.in-Ok.ensures.read.files kind (codes "-") asked))).list_refused kind (c.in-Ok.ensures.read.files kind (codes "-") asked));
   file_listed = λ zero. absurd (not_done c.in-Err-perform_told.refused (sym c.tell_and_keep.ensures.status ∙ zero));
   list_file_told = λ some kind path other asks.
-      of_known (g.M.Files.file_bytes c.args.machine.now path) (λ image why. tells _ c.in-Err-perform_told.refused _ _ _ why c.tell_and_keep.ensures.status c.tell_and_keep.ensures.written)
-      (files_refused (g.M.Files.file_bytes c.args.machine.now) (g.W.Write.contents c.args.output.now) (g.W.Write.contents c.perform_told.new.output) c.in-Err-perform_told.refused
+      of_known ((g.M.Machine.seen c.args.machine.now).files path) (λ image why. tells _ c.in-Err-perform_told.refused _ _ _ why c.tell_and_keep.ensures.status c.tell_and_keep.ensures.written)
+      (files_refused (g.M.Machine.seen c.args.machine.now).files (g.W.Write.contents c.args.output.now) (g.W.Write.contents c.perform_told.new.output) c.in-Err-perform_told.refused
       c.in-Ok.told.ask kind path other (c.in-Ok.ensures.read.files kind path asks) (c.in-Err-perform_told.ensures.plain (files_plain _ c.in-Ok.told c.in-Ok.ensures.all kind path (c.in-Ok.ensures.read.files kind path asks))).performs.gives);
 }
 
@@ -522,7 +522,7 @@ returns-in-Err-clause-list g c = record {
   list_file_told = λ some kind path other asked.
       let none = c.in-Err.ensures.unread (inr (inl (kind, path, asked))) in
       let memory = c.tell_unread.ensures.memory none in
-      of_all (g.M.Files.file_bytes c.args.machine.now path) (λ image. tells _ NoMemory _ _ _ memory.1 memory.0 (c.tell_unread.ensures.no_memory none));
+      of_all ((g.M.Machine.seen c.args.machine.now).files path) (λ image. tells _ NoMemory _ _ _ memory.1 memory.0 (c.tell_unread.ensures.no_memory none));
 }
 
 -- ---- a desk that is made
@@ -553,7 +553,7 @@ returns-in-Err-clause-init g c = λ store key asks.
     record {
       made = λ zero. let three : c.tell_unread.result ≡ 3 = memory.0 in absurd (omega arith);
       init_due = λ some.
-          tells _ NoMemory _ _ _ ((memory.1, inr (inr refl)), none_still (g.M.Machine.left c.args.machine.now)) memory.0 (c.tell_unread.ensures.no_memory none);
+          tells _ NoMemory _ _ _ ((memory.1, inr (inr refl)), none_still (g.M.Machine.seen c.args.machine.now).left) memory.0 (c.tell_unread.ensures.no_memory none);
     }
 
 -- ---- visits
@@ -567,17 +567,17 @@ returns-in-Ok-perform_told-clause-serve g c = λ store place count rule asks.
       serve_due = λ some.
           absurd (not_in_rows _ c.in-Ok.told.ask c.in-Ok.ensures.read (c.in-Ok-perform_told.ensures.in_part (c.status.ensures.in_part some)) (inr (inr (inr (inl (store, place, count, rule, asks))))));
       visits = λ zero.
-          serves_by g.M.Disk.Store g.M.Door.Door.told g.M.Door.Door.coming (g.M.Machine.door c.args.machine.now) (g.M.Machine.door c.perform_told.new.machine)
-          (g.M.Machine.stands c.args.machine.now) (g.M.Machine.left c.perform_told.new.machine) c.in-Ok.told.ask store place count rule read does.performs.serves;
+          serves_by g.M.Disk.Store g.M.Door.Door.told g.M.Door.Door.coming (g.M.Machine.seen c.args.machine.now).doors (g.M.Machine.seen c.perform_told.new.machine).doors
+          (g.M.Machine.seen c.args.machine.now).stands (g.M.Machine.seen c.perform_told.new.machine).left c.in-Ok.told.ask store place count rule read does.performs.serves;
       limits = λ zero.
-          limits_by _ (g.M.Machine.shows c.args.machine.now) (g.M.Machine.door_limits c.perform_told.new.machine) c.in-Ok.told.ask store place count rule c.in-Ok.ensures.read asks
+          limits_by _ (g.M.Machine.seen c.args.machine.now).shows (g.M.Machine.seen c.perform_told.new.machine).limits c.in-Ok.told.ask store place count rule c.in-Ok.ensures.read asks
           does.performs.limits;
       lent =
-          lent_by (g.M.Machine.shows c.args.machine.now) (g.M.Machine.door_limits c.perform_told.new.machine) (g.W.Write.contents c.args.output.now) (g.W.Write.contents c.perform_told.new.output)
+          lent_by (g.M.Machine.seen c.args.machine.now).shows (g.M.Machine.seen c.perform_told.new.machine).limits (g.W.Write.contents c.args.output.now) (g.W.Write.contents c.perform_told.new.output)
           c.in-Ok.told.ask store place count rule read does.performs.lent;
       serve_leaves =
-          serve_leaves g.M.Disk.Store (g.M.Machine.clock c.args.machine.now) (g.M.Machine.left c.args.machine.now) (g.M.Machine.stands c.args.machine.now)
-          (g.M.Machine.left c.perform_told.new.machine) c.in-Ok.told.ask store place count rule read does.performs.leaves;
+          serve_leaves g.M.Disk.Store (g.M.Machine.seen c.args.machine.now).clock (g.M.Machine.seen c.args.machine.now).left (g.M.Machine.seen c.args.machine.now).stands
+          (g.M.Machine.seen c.perform_told.new.machine).left c.in-Ok.told.ask store place count rule read does.performs.leaves;
     }
 
 pub returns-in-Err-perform_told-clause-serve : goal.returns-in-Err-perform_told-clause-serve
@@ -589,18 +589,18 @@ returns-in-Err-perform_told-clause-serve g c = λ store place count rule asks.
       serve_due = λ some.
           tells _ c.in-Err-perform_told.refused _ _ _ (
             does.not_served store place count rule read,
-            serve_refused g.M.Disk.Store (g.M.Machine.clock c.args.machine.now) (g.M.Machine.left c.args.machine.now) (g.M.Machine.stands c.args.machine.now) (g.M.Machine.left c.perform_told.new.machine)
+            serve_refused g.M.Disk.Store (g.M.Machine.seen c.args.machine.now).clock (g.M.Machine.seen c.args.machine.now).left (g.M.Machine.seen c.args.machine.now).stands (g.M.Machine.seen c.perform_told.new.machine).left
                 c.in-Ok.told.ask store place count rule (g.W.Write.contents c.args.output.now) (g.W.Write.contents c.perform_told.new.output) c.in-Err-perform_told.refused read does.performs.leaves_refused,
           )
           c.tell_and_keep.ensures.status c.tell_and_keep.ensures.written;
       visits = λ zero. absurd (not_done c.in-Err-perform_told.refused (sym c.tell_and_keep.ensures.status ∙ zero));
       limits = λ zero. absurd (not_done c.in-Err-perform_told.refused (sym c.tell_and_keep.ensures.status ∙ zero));
       lent =
-          lent_by (g.M.Machine.shows c.args.machine.now) (g.M.Machine.door_limits c.perform_told.new.machine) (g.W.Write.contents c.args.output.now) (g.W.Write.contents c.perform_told.new.output)
+          lent_by (g.M.Machine.seen c.args.machine.now).shows (g.M.Machine.seen c.perform_told.new.machine).limits (g.W.Write.contents c.args.output.now) (g.W.Write.contents c.perform_told.new.output)
           c.in-Ok.told.ask store place count rule read does.performs.lent;
       serve_leaves =
-          serve_leaves g.M.Disk.Store (g.M.Machine.clock c.args.machine.now) (g.M.Machine.left c.args.machine.now) (g.M.Machine.stands c.args.machine.now)
-          (g.M.Machine.left c.perform_told.new.machine) c.in-Ok.told.ask store place count rule read does.performs.leaves;
+          serve_leaves g.M.Disk.Store (g.M.Machine.seen c.args.machine.now).clock (g.M.Machine.seen c.args.machine.now).left (g.M.Machine.seen c.args.machine.now).stands
+          (g.M.Machine.seen c.perform_told.new.machine).left c.in-Ok.told.ask store place count rule read does.performs.leaves;
     }
 
 pub returns-in-Err-clause-serve : goal.returns-in-Err-clause-serve
@@ -610,12 +610,12 @@ returns-in-Err-clause-serve g c = λ store place count rule asks.
     record {
       served = λ zero. let three : c.tell_unread.result ≡ 3 = memory.0 in absurd (omega arith);
       serve_due = λ some.
-          tells _ NoMemory _ _ _ (none_written _ _ (serve_text place count) memory.1, inr (still_left (g.M.Machine.left c.args.machine.now) (g.M.Machine.stands c.args.machine.now store) _))
+          tells _ NoMemory _ _ _ (none_written _ _ (serve_text place count) memory.1, inr (still_left (g.M.Machine.seen c.args.machine.now).left ((g.M.Machine.seen c.args.machine.now).stands store) _))
           memory.0 (c.tell_unread.ensures.no_memory none);
       visits = λ zero. let three : c.tell_unread.result ≡ 3 = memory.0 in absurd (omega arith);
       limits = λ zero. let three : c.tell_unread.result ≡ 3 = memory.0 in absurd (omega arith);
       lent = λ shows. inl memory.1;
-      serve_leaves = still_left (g.M.Machine.left c.args.machine.now) (g.M.Machine.stands c.args.machine.now store) _;
+      serve_leaves = still_left (g.M.Machine.seen c.args.machine.now).left ((g.M.Machine.seen c.args.machine.now).stands store) _;
     }
 
 -- ---- an import
@@ -625,23 +625,23 @@ returns-in-Ok-perform_told-clause-import g c = λ store key sheet moment rule as
     let does = c.in-Ok-perform_told.ensures.plain (import_plain _ c.in-Ok.told.beside c.in-Ok.ensures.beside store key sheet moment rule asks) in
     let read = c.in-Ok.ensures.read.import store key sheet moment rule asks in
     let lines = does.imported (import_tells _ c.in-Ok.told.ask c.in-Ok.ensures.read (store, key, sheet, moment, rule, asks)) in
-    let taken = imports_by g.M.Disk.Store (g.M.Files.file_bytes c.args.machine.now) (g.M.Files.sheet_bytes c.args.machine.now) (g.M.Machine.clock c.args.machine.now) (g.M.Machine.stands c.args.machine.now)
-    (g.M.Machine.left c.perform_told.new.machine) (g.W.Write.contents c.args.output.now) (g.W.Write.contents c.perform_told.new.output) c.in-Ok.told.ask c.in-Ok-perform_told.done store key sheet moment rule
+    let taken = imports_by g.M.Disk.Store (g.M.Machine.seen c.args.machine.now).files (g.M.Machine.seen c.args.machine.now).sheets (g.M.Machine.seen c.args.machine.now).clock (g.M.Machine.seen c.args.machine.now).stands
+    (g.M.Machine.seen c.perform_told.new.machine).left (g.W.Write.contents c.args.output.now) (g.W.Write.contents c.perform_told.new.output) c.in-Ok.told.ask c.in-Ok-perform_told.done store key sheet moment rule
     read does.performs.imports in
     record {
       imported = λ zero. done_lines c.in-Ok-perform_told.done _ _ (c.status.ensures.whole zero) lines;
       import_due = λ some. inl (in_part_is_one _ c.status.ensures.most some, Keeps-refl _, rows_of c.in-Ok-perform_told.done _ _ lines);
       rows = λ zero.
-          subst (λ done. EndsWith (g.M.Machine.stands c.args.machine.now store) (g.M.Machine.left c.perform_told.new.machine) (TakesSheetIn g.M.Disk.Store (g.M.Files.file_bytes c.args.machine.now) (sha256 (trim_ows key))
-          (IsDayBy (moment_of moment (g.M.Machine.clock c.args.machine.now)) rule) (g.M.Files.sheet_bytes c.args.machine.now sheet) (g.W.Write.contents c.args.output.now) (g.W.Write.contents c.perform_told.new.output) done))
+          subst (λ done. EndsWith ((g.M.Machine.seen c.args.machine.now).stands store) (g.M.Machine.seen c.perform_told.new.machine).left (TakesSheetIn g.M.Disk.Store (g.M.Machine.seen c.args.machine.now).files (sha256 (trim_ows key))
+          (IsDayBy (moment_of moment (g.M.Machine.seen c.args.machine.now).clock) rule) ((g.M.Machine.seen c.args.machine.now).sheets sheet) (g.W.Write.contents c.args.output.now) (g.W.Write.contents c.perform_told.new.output) done))
           (c.status.ensures.whole zero) taken;
       rows_in_part = λ one.
-          inl (subst (λ done. EndsWith (g.M.Machine.stands c.args.machine.now store) (g.M.Machine.left c.perform_told.new.machine) (TakesSheetIn g.M.Disk.Store (g.M.Files.file_bytes c.args.machine.now) (sha256 (trim_ows key))
-          (IsDayBy (moment_of moment (g.M.Machine.clock c.args.machine.now)) rule) (g.M.Files.sheet_bytes c.args.machine.now sheet) (g.W.Write.contents c.args.output.now) (g.W.Write.contents c.perform_told.new.output) done))
+          inl (subst (λ done. EndsWith ((g.M.Machine.seen c.args.machine.now).stands store) (g.M.Machine.seen c.perform_told.new.machine).left (TakesSheetIn g.M.Disk.Store (g.M.Machine.seen c.args.machine.now).files (sha256 (trim_ows key))
+          (IsDayBy (moment_of moment (g.M.Machine.seen c.args.machine.now).clock) rule) ((g.M.Machine.seen c.args.machine.now).sheets sheet) (g.W.Write.contents c.args.output.now) (g.W.Write.contents c.perform_told.new.output) done))
           (c.status.ensures.in_part (one_is_some one)) taken);
       import_leaves =
-          import_leaves g.M.Disk.Store (g.M.Machine.clock c.args.machine.now) (g.M.Machine.left c.args.machine.now) (g.M.Machine.stands c.args.machine.now)
-          (g.M.Machine.left c.perform_told.new.machine) c.in-Ok.told.ask store key sheet moment rule read does.performs.leaves;
+          import_leaves g.M.Disk.Store (g.M.Machine.seen c.args.machine.now).clock (g.M.Machine.seen c.args.machine.now).left (g.M.Machine.seen c.args.machine.now).stands
+          (g.M.Machine.seen c.perform_told.new.machine).left c.in-Ok.told.ask store key sheet moment rule read does.performs.leaves;
     }
 
 pub returns-in-Err-perform_told-clause-import : goal.returns-in-Err-perform_told-clause-import
@@ -649,15 +649,15 @@ returns-in-Err-perform_told-clause-import g c = λ store key sheet moment rule a
     let does = c.in-Err-perform_told.ensures.plain (import_plain _ c.in-Ok.told.beside c.in-Ok.ensures.beside store key sheet moment rule asks) in
     let read = c.in-Ok.ensures.read.import store key sheet moment rule asks in
     let refused = does.not_imported (import_tells _ c.in-Ok.told.ask c.in-Ok.ensures.read (store, key, sheet, moment, rule, asks)) in
-    let of_sheet = sheet_of_words (g.M.Files.sheet_bytes c.args.machine.now) c.in-Ok.told.ask c.in-Err-perform_told.refused store key sheet moment rule read does.performs.bad_sheet in
+    let of_sheet = sheet_of_words (g.M.Machine.seen c.args.machine.now).sheets c.in-Ok.told.ask c.in-Err-perform_told.refused store key sheet moment rule read does.performs.bad_sheet in
     record {
       imported = λ zero. absurd (not_done c.in-Err-perform_told.refused (sym c.tell_and_keep.ensures.status ∙ zero));
       import_due = λ some.
           inr (tells _ c.in-Err-perform_told.refused _ _ _ (
             refused,
-            import_names g.M.Disk.Store (g.M.Machine.clock c.args.machine.now) (g.M.Machine.left c.args.machine.now) (g.M.Machine.stands c.args.machine.now) (g.M.Machine.left c.perform_told.new.machine)
+            import_names g.M.Disk.Store (g.M.Machine.seen c.args.machine.now).clock (g.M.Machine.seen c.args.machine.now).left (g.M.Machine.seen c.args.machine.now).stands (g.M.Machine.seen c.perform_told.new.machine).left
                 c.in-Ok.told.ask store key sheet moment rule (g.W.Write.contents c.args.output.now) (g.W.Write.contents c.perform_told.new.output) c.in-Err-perform_told.refused read does.performs.leaves_refused,
-            import_clock g.M.Disk.Store (g.M.Machine.stands c.args.machine.now) (g.M.Machine.left c.perform_told.new.machine) c.in-Err-perform_told.refused store moment rule c.in-Ok.told.ask key sheet
+            import_clock g.M.Disk.Store (g.M.Machine.seen c.args.machine.now).stands (g.M.Machine.seen c.perform_told.new.machine).left c.in-Err-perform_told.refused store moment rule c.in-Ok.told.ask key sheet
                 read does.performs.clock_due,
             of_sheet,
           )
@@ -667,11 +667,11 @@ returns-in-Err-perform_told-clause-import g c = λ store key sheet moment rule a
           let bad = import_at_1 _ _ c.in-Err-perform_told.refused refused (sym c.tell_and_keep.ensures.status ∙ one) in
           inr (
             tells (λ refusal. refusal ≡ BadSheet) c.in-Err-perform_told.refused _ _ _ bad c.tell_and_keep.ensures.status c.tell_and_keep.ensures.written,
-            subst (λ refusal. IfSome (g.M.Files.sheet_bytes c.args.machine.now sheet) (λ bytes. IsBadSheetDue bytes refusal)) bad of_sheet,
+            subst (λ refusal. IfSome ((g.M.Machine.seen c.args.machine.now).sheets sheet) (λ bytes. IsBadSheetDue bytes refusal)) bad of_sheet,
           );
       import_leaves =
-          import_leaves g.M.Disk.Store (g.M.Machine.clock c.args.machine.now) (g.M.Machine.left c.args.machine.now) (g.M.Machine.stands c.args.machine.now)
-          (g.M.Machine.left c.perform_told.new.machine) c.in-Ok.told.ask store key sheet moment rule read does.performs.leaves;
+          import_leaves g.M.Disk.Store (g.M.Machine.seen c.args.machine.now).clock (g.M.Machine.seen c.args.machine.now).left (g.M.Machine.seen c.args.machine.now).stands
+          (g.M.Machine.seen c.perform_told.new.machine).left c.in-Ok.told.ask store key sheet moment rule read does.performs.leaves;
     }
 
 pub returns-in-Err-clause-import : goal.returns-in-Err-clause-import
@@ -681,11 +681,11 @@ returns-in-Err-clause-import g c = λ store key sheet moment rule asks.
     record {
       imported = λ zero. let three : c.tell_unread.result ≡ 3 = memory.0 in absurd (omega arith);
       import_due = λ some.
-          inr (tells _ NoMemory _ _ _ (inr (inl (inr (inr (inr (inr refl)))), memory.1), tt, tt, no_memory_sheet (g.M.Files.sheet_bytes c.args.machine.now sheet))
+          inr (tells _ NoMemory _ _ _ (inr (inl (inr (inr (inr (inr refl)))), memory.1), tt, tt, no_memory_sheet ((g.M.Machine.seen c.args.machine.now).sheets sheet))
           memory.0 (c.tell_unread.ensures.no_memory none));
       rows = λ zero. let three : c.tell_unread.result ≡ 3 = memory.0 in absurd (omega arith);
       rows_in_part = λ one. absurd (c.tell_unread.ensures.not_refused one);
-      import_leaves = still_left (g.M.Machine.left c.args.machine.now) (g.M.Machine.stands c.args.machine.now store) _;
+      import_leaves = still_left (g.M.Machine.seen c.args.machine.now).left ((g.M.Machine.seen c.args.machine.now).stands store) _;
     }
 
 -- ---- a check
@@ -695,27 +695,27 @@ returns-in-Ok-perform_told-clause-check g c = λ store key acc moment rule asks.
     let does = c.in-Ok-perform_told.ensures.plain (check_plain _ c.in-Ok.told.beside c.in-Ok.ensures.beside store key acc moment rule asks) in
     let read = c.in-Ok.ensures.read.check store key acc moment rule asks in
     let line = does.checked acc (check_asks _ acc c.in-Ok.told.ask c.in-Ok.ensures.read (store, key, moment, rule, asks)) in
-    let found = once_finds g.M.Disk.Store (g.M.Machine.clock c.args.machine.now) (g.M.Machine.stands c.args.machine.now) (g.M.Machine.left c.perform_told.new.machine)
+    let found = once_finds g.M.Disk.Store (g.M.Machine.seen c.args.machine.now).clock (g.M.Machine.seen c.args.machine.now).stands (g.M.Machine.seen c.perform_told.new.machine).left
     (g.W.Write.contents c.args.output.now) (g.W.Write.contents c.perform_told.new.output) (Ok c.in-Ok-perform_told.done)
     store (Some key) acc moment rule c.in-Ok.told.ask read does.performs.answers in
     record {
       sound = λ zero. subst (TellsCheck acc _ _) (c.status.ensures.whole zero) line;
       found_sound = λ zero.
-          subst (λ done. EndsWith (g.M.Machine.stands c.args.machine.now store) (g.M.Machine.left c.perform_told.new.machine)
-          (FindsStore g.M.Disk.Store (IsDayBy (moment_of moment (g.M.Machine.clock c.args.machine.now)) rule) (Some (sha256 (trim_ows key))) acc (found_by done)))
+          subst (λ done. EndsWith ((g.M.Machine.seen c.args.machine.now).stands store) (g.M.Machine.seen c.perform_told.new.machine).left
+          (FindsStore g.M.Disk.Store (IsDayBy (moment_of moment (g.M.Machine.seen c.args.machine.now).clock) rule) (Some (sha256 (trim_ows key))) acc (found_by done)))
           (c.status.ensures.whole zero) found;
       check_due = λ some.
           inl (
             in_part_is_one _ c.status.ensures.most some,
             Keeps-refl _,
             subst (TellsCheck acc _ _) (c.status.ensures.in_part some) line,
-            subst (λ done. EndsWith (g.M.Machine.stands c.args.machine.now store) (g.M.Machine.left c.perform_told.new.machine)
-                (FindsStore g.M.Disk.Store (IsDayBy (moment_of moment (g.M.Machine.clock c.args.machine.now)) rule) (Some (sha256 (trim_ows key))) acc (found_by done)))
+            subst (λ done. EndsWith ((g.M.Machine.seen c.args.machine.now).stands store) (g.M.Machine.seen c.perform_told.new.machine).left
+                (FindsStore g.M.Disk.Store (IsDayBy (moment_of moment (g.M.Machine.seen c.args.machine.now).clock) rule) (Some (sha256 (trim_ows key))) acc (found_by done)))
                 (c.status.ensures.in_part some) found,
           );
       check_leaves =
-          once_leaves g.M.Disk.Store (g.M.Machine.clock c.args.machine.now) (g.M.Machine.left c.args.machine.now) (g.M.Machine.stands c.args.machine.now)
-          (g.M.Machine.left c.perform_told.new.machine) c.in-Ok.told.ask store (Some key) (Check acc) moment rule read does.performs.leaves;
+          once_leaves g.M.Disk.Store (g.M.Machine.seen c.args.machine.now).clock (g.M.Machine.seen c.args.machine.now).left (g.M.Machine.seen c.args.machine.now).stands
+          (g.M.Machine.seen c.perform_told.new.machine).left c.in-Ok.told.ask store (Some key) (Check acc) moment rule read does.performs.leaves;
     }
 
 pub returns-in-Err-perform_told-clause-check : goal.returns-in-Err-perform_told-clause-check
@@ -729,19 +729,19 @@ returns-in-Err-perform_told-clause-check g c = λ store key acc moment rule asks
       check_due = λ some.
           inr (tells _ c.in-Err-perform_told.refused _ _ _ (
             does.not_answered asked,
-            once_names g.M.Disk.Store (g.M.Machine.clock c.args.machine.now) (g.M.Machine.left c.args.machine.now) (g.M.Machine.stands c.args.machine.now) (g.M.Machine.left c.perform_told.new.machine)
+            once_names g.M.Disk.Store (g.M.Machine.seen c.args.machine.now).clock (g.M.Machine.seen c.args.machine.now).left (g.M.Machine.seen c.args.machine.now).stands (g.M.Machine.seen c.perform_told.new.machine).left
                 c.in-Ok.told.ask store (Some key) (Check acc) moment rule (g.W.Write.contents c.args.output.now) (g.W.Write.contents c.perform_told.new.output) c.in-Err-perform_told.refused read
                 does.performs.leaves_refused,
-            once_due g.M.Disk.Store (g.M.Machine.clock c.args.machine.now) (g.M.Machine.stands c.args.machine.now) (g.M.Machine.left c.perform_told.new.machine)
+            once_due g.M.Disk.Store (g.M.Machine.seen c.args.machine.now).clock (g.M.Machine.seen c.args.machine.now).stands (g.M.Machine.seen c.perform_told.new.machine).left
                 (g.W.Write.contents c.args.output.now) (g.W.Write.contents c.perform_told.new.output) (Err c.in-Err-perform_told.refused)
                 store (Some key) (Check acc) moment rule c.in-Ok.told.ask read does.performs.answers (inl refl),
-            once_clock g.M.Disk.Store (g.M.Machine.stands c.args.machine.now) (g.M.Machine.left c.perform_told.new.machine) c.in-Err-perform_told.refused store moment rule c.in-Ok.told.ask (Some key) (Check acc)
+            once_clock g.M.Disk.Store (g.M.Machine.seen c.args.machine.now).stands (g.M.Machine.seen c.perform_told.new.machine).left c.in-Err-perform_told.refused store moment rule c.in-Ok.told.ask (Some key) (Check acc)
                 read does.performs.clock_due,
           )
           c.tell_and_keep.ensures.status c.tell_and_keep.ensures.written);
       check_leaves =
-          once_leaves g.M.Disk.Store (g.M.Machine.clock c.args.machine.now) (g.M.Machine.left c.args.machine.now) (g.M.Machine.stands c.args.machine.now)
-          (g.M.Machine.left c.perform_told.new.machine) c.in-Ok.told.ask store (Some key) (Check acc) moment rule read does.performs.leaves;
+          once_leaves g.M.Disk.Store (g.M.Machine.seen c.args.machine.now).clock (g.M.Machine.seen c.args.machine.now).left (g.M.Machine.seen c.args.machine.now).stands
+          (g.M.Machine.seen c.perform_told.new.machine).left c.in-Ok.told.ask store (Some key) (Check acc) moment rule read does.performs.leaves;
     }
 
 pub returns-in-Err-clause-check : goal.returns-in-Err-clause-check
@@ -752,7 +752,7 @@ returns-in-Err-clause-check g c = λ store key acc moment rule asks.
       sound = λ zero. let three : c.tell_unread.result ≡ 3 = memory.0 in absurd (omega arith);
       found_sound = λ zero. let three : c.tell_unread.result ≡ 3 = memory.0 in absurd (omega arith);
       check_due = λ some. inr (tells _ NoMemory _ _ _ (inl (inr (inl (inr refl)), memory.1), tt, tt, tt) memory.0 (c.tell_unread.ensures.no_memory none));
-      check_leaves = still_left (g.M.Machine.left c.args.machine.now) (g.M.Machine.stands c.args.machine.now store) _;
+      check_leaves = still_left (g.M.Machine.seen c.args.machine.now).left ((g.M.Machine.seen c.args.machine.now).stands store) _;
     }
 
 -- ---- the catalogue
@@ -763,14 +763,14 @@ returns-in-Ok-perform_told-clause-export g c = λ store key moment rule asks.
     let read = c.in-Ok.ensures.read.export store key moment rule asks in
     record {
       exported = λ zero.
-          once_shows g.M.Disk.Store (g.M.Machine.clock c.args.machine.now) (g.M.Machine.stands c.args.machine.now) (g.M.Machine.left c.perform_told.new.machine)
+          once_shows g.M.Disk.Store (g.M.Machine.seen c.args.machine.now).clock (g.M.Machine.seen c.args.machine.now).stands (g.M.Machine.seen c.perform_told.new.machine).left
           (g.W.Write.contents c.args.output.now) (g.W.Write.contents c.perform_told.new.output) (Ok c.in-Ok-perform_told.done)
           store key Catalogue moment rule c.in-Ok.told.ask read does.performs.answers request.Catalogue refl;
       export_due = λ some.
           absurd (export_is_whole _ c.in-Ok.told.ask c.in-Ok.ensures.read (store, key, moment, rule, asks) (c.in-Ok-perform_told.ensures.in_part (c.status.ensures.in_part some)));
       export_leaves =
-          once_leaves g.M.Disk.Store (g.M.Machine.clock c.args.machine.now) (g.M.Machine.left c.args.machine.now) (g.M.Machine.stands c.args.machine.now)
-          (g.M.Machine.left c.perform_told.new.machine) c.in-Ok.told.ask store key Catalogue moment rule read does.performs.leaves;
+          once_leaves g.M.Disk.Store (g.M.Machine.seen c.args.machine.now).clock (g.M.Machine.seen c.args.machine.now).left (g.M.Machine.seen c.args.machine.now).stands
+          (g.M.Machine.seen c.perform_told.new.machine).left c.in-Ok.told.ask store key Catalogue moment rule read does.performs.leaves;
     }
 
 pub returns-in-Err-perform_told-clause-export : goal.returns-in-Err-perform_told-clause-export
@@ -781,22 +781,22 @@ returns-in-Err-perform_told-clause-export g c = λ store key moment rule asks.
       exported = λ zero. absurd (not_done c.in-Err-perform_told.refused (sym c.tell_and_keep.ensures.status ∙ zero));
       export_due = λ some.
           tells _ c.in-Err-perform_told.refused _ _ _ (
-            once_not_shown g.M.Disk.Store (g.M.Machine.clock c.args.machine.now) (g.M.Machine.stands c.args.machine.now) (g.M.Machine.left c.perform_told.new.machine)
+            once_not_shown g.M.Disk.Store (g.M.Machine.seen c.args.machine.now).clock (g.M.Machine.seen c.args.machine.now).stands (g.M.Machine.seen c.perform_told.new.machine).left
                 (g.W.Write.contents c.args.output.now) (g.W.Write.contents c.perform_told.new.output) (Err c.in-Err-perform_told.refused)
                 store key Catalogue moment rule c.in-Ok.told.ask read does.performs.answers request.Catalogue refl,
-            once_names g.M.Disk.Store (g.M.Machine.clock c.args.machine.now) (g.M.Machine.left c.args.machine.now) (g.M.Machine.stands c.args.machine.now) (g.M.Machine.left c.perform_told.new.machine)
+            once_names g.M.Disk.Store (g.M.Machine.seen c.args.machine.now).clock (g.M.Machine.seen c.args.machine.now).left (g.M.Machine.seen c.args.machine.now).stands (g.M.Machine.seen c.perform_told.new.machine).left
                 c.in-Ok.told.ask store key Catalogue moment rule (g.W.Write.contents c.args.output.now) (g.W.Write.contents c.perform_told.new.output) c.in-Err-perform_told.refused read
                 does.performs.leaves_refused,
-            once_due g.M.Disk.Store (g.M.Machine.clock c.args.machine.now) (g.M.Machine.stands c.args.machine.now) (g.M.Machine.left c.perform_told.new.machine)
+            once_due g.M.Disk.Store (g.M.Machine.seen c.args.machine.now).clock (g.M.Machine.seen c.args.machine.now).stands (g.M.Machine.seen c.perform_told.new.machine).left
                 (g.W.Write.contents c.args.output.now) (g.W.Write.contents c.perform_told.new.output) (Err c.in-Err-perform_told.refused)
                 store key Catalogue moment rule c.in-Ok.told.ask read does.performs.answers (inr refl),
-            once_clock g.M.Disk.Store (g.M.Machine.stands c.args.machine.now) (g.M.Machine.left c.perform_told.new.machine) c.in-Err-perform_told.refused store moment rule c.in-Ok.told.ask key Catalogue read
+            once_clock g.M.Disk.Store (g.M.Machine.seen c.args.machine.now).stands (g.M.Machine.seen c.perform_told.new.machine).left c.in-Err-perform_told.refused store moment rule c.in-Ok.told.ask key Catalogue read
                 does.performs.clock_due,
           )
           c.tell_and_keep.ensures.status c.tell_and_keep.ensures.written;
       export_leaves =
-          once_leaves g.M.Disk.Store (g.M.Machine.clock c.args.machine.now) (g.M.Machine.left c.args.machine.now) (g.M.Machine.stands c.args.machine.now)
-          (g.M.Machine.left c.perform_told.new.machine) c.in-Ok.told.ask store key Catalogue moment rule read does.performs.leaves;
+          once_leaves g.M.Disk.Store (g.M.Machine.seen c.args.machine.now).clock (g.M.Machine.seen c.args.machine.now).left (g.M.Machine.seen c.args.machine.now).stands
+          (g.M.Machine.seen c.perform_told.new.machine).left c.in-Ok.told.ask store key Catalogue moment rule read does.performs.leaves;
     }
 
 pub returns-in-Err-clause-export : goal.returns-in-Err-clause-export
@@ -807,7 +807,7 @@ returns-in-Err-clause-export g c = λ store key moment rule asks.
       exported = λ zero. let three : c.tell_unread.result ≡ 3 = memory.0 in absurd (omega arith);
       export_due = λ some.
           tells _ NoMemory _ _ _ ((inl (inr (inl (inr refl)), memory.1), memory_no_accession), tt, tt, tt) memory.0 (c.tell_unread.ensures.no_memory none);
-      export_leaves = still_left (g.M.Machine.left c.args.machine.now) (g.M.Machine.stands c.args.machine.now store) _;
+      export_leaves = still_left (g.M.Machine.seen c.args.machine.now).left ((g.M.Machine.seen c.args.machine.now).stands store) _;
     }
 
 -- ---- what is shown
@@ -818,14 +818,14 @@ returns-in-Ok-perform_told-clause-show g c = λ store key what moment rule asks.
     let read = c.in-Ok.ensures.read.show store key what moment rule asks in
     record {
       shown = λ zero.
-          once_shows g.M.Disk.Store (g.M.Machine.clock c.args.machine.now) (g.M.Machine.stands c.args.machine.now) (g.M.Machine.left c.perform_told.new.machine)
+          once_shows g.M.Disk.Store (g.M.Machine.seen c.args.machine.now).clock (g.M.Machine.seen c.args.machine.now).stands (g.M.Machine.seen c.perform_told.new.machine).left
           (g.W.Write.contents c.args.output.now) (g.W.Write.contents c.perform_told.new.output) (Ok c.in-Ok-perform_told.done)
           store (Some key) (Show what) moment rule c.in-Ok.told.ask read does.performs.answers (what_of what) refl;
       show_due = λ some.
           absurd (show_is_whole _ c.in-Ok.told.ask c.in-Ok.ensures.read (store, key, what, moment, rule, asks) (c.in-Ok-perform_told.ensures.in_part (c.status.ensures.in_part some)));
       show_leaves =
-          once_leaves g.M.Disk.Store (g.M.Machine.clock c.args.machine.now) (g.M.Machine.left c.args.machine.now) (g.M.Machine.stands c.args.machine.now)
-          (g.M.Machine.left c.perform_told.new.machine) c.in-Ok.told.ask store (Some key) (Show what) moment rule read does.performs.leaves;
+          once_leaves g.M.Disk.Store (g.M.Machine.seen c.args.machine.now).clock (g.M.Machine.seen c.args.machine.now).left (g.M.Machine.seen c.args.machine.now).stands
+          (g.M.Machine.seen c.perform_told.new.machine).left c.in-Ok.told.ask store (Some key) (Show what) moment rule read does.performs.leaves;
     }
 
 pub returns-in-Err-perform_told-clause-show : goal.returns-in-Err-perform_told-clause-show
@@ -836,22 +836,22 @@ returns-in-Err-perform_told-clause-show g c = λ store key what moment rule asks
       shown = λ zero. absurd (not_done c.in-Err-perform_told.refused (sym c.tell_and_keep.ensures.status ∙ zero));
       show_due = λ some.
           tells _ c.in-Err-perform_told.refused _ _ _ (
-            once_not_shown g.M.Disk.Store (g.M.Machine.clock c.args.machine.now) (g.M.Machine.stands c.args.machine.now) (g.M.Machine.left c.perform_told.new.machine)
+            once_not_shown g.M.Disk.Store (g.M.Machine.seen c.args.machine.now).clock (g.M.Machine.seen c.args.machine.now).stands (g.M.Machine.seen c.perform_told.new.machine).left
                 (g.W.Write.contents c.args.output.now) (g.W.Write.contents c.perform_told.new.output) (Err c.in-Err-perform_told.refused)
                 store (Some key) (Show what) moment rule c.in-Ok.told.ask read does.performs.answers (what_of what) refl,
-            once_names g.M.Disk.Store (g.M.Machine.clock c.args.machine.now) (g.M.Machine.left c.args.machine.now) (g.M.Machine.stands c.args.machine.now) (g.M.Machine.left c.perform_told.new.machine)
+            once_names g.M.Disk.Store (g.M.Machine.seen c.args.machine.now).clock (g.M.Machine.seen c.args.machine.now).left (g.M.Machine.seen c.args.machine.now).stands (g.M.Machine.seen c.perform_told.new.machine).left
                 c.in-Ok.told.ask store (Some key) (Show what) moment rule (g.W.Write.contents c.args.output.now) (g.W.Write.contents c.perform_told.new.output) c.in-Err-perform_told.refused read
                 does.performs.leaves_refused,
-            once_due g.M.Disk.Store (g.M.Machine.clock c.args.machine.now) (g.M.Machine.stands c.args.machine.now) (g.M.Machine.left c.perform_told.new.machine)
+            once_due g.M.Disk.Store (g.M.Machine.seen c.args.machine.now).clock (g.M.Machine.seen c.args.machine.now).stands (g.M.Machine.seen c.perform_told.new.machine).left
                 (g.W.Write.contents c.args.output.now) (g.W.Write.contents c.perform_told.new.output) (Err c.in-Err-perform_told.refused)
                 store (Some key) (Show what) moment rule c.in-Ok.told.ask read does.performs.answers (inl refl),
-            once_clock g.M.Disk.Store (g.M.Machine.stands c.args.machine.now) (g.M.Machine.left c.perform_told.new.machine) c.in-Err-perform_told.refused store moment rule c.in-Ok.told.ask (Some key) (Show what)
+            once_clock g.M.Disk.Store (g.M.Machine.seen c.args.machine.now).stands (g.M.Machine.seen c.perform_told.new.machine).left c.in-Err-perform_told.refused store moment rule c.in-Ok.told.ask (Some key) (Show what)
                 read does.performs.clock_due,
           )
           c.tell_and_keep.ensures.status c.tell_and_keep.ensures.written;
       show_leaves =
-          once_leaves g.M.Disk.Store (g.M.Machine.clock c.args.machine.now) (g.M.Machine.left c.args.machine.now) (g.M.Machine.stands c.args.machine.now)
-          (g.M.Machine.left c.perform_told.new.machine) c.in-Ok.told.ask store (Some key) (Show what) moment rule read does.performs.leaves;
+          once_leaves g.M.Disk.Store (g.M.Machine.seen c.args.machine.now).clock (g.M.Machine.seen c.args.machine.now).left (g.M.Machine.seen c.args.machine.now).stands
+          (g.M.Machine.seen c.perform_told.new.machine).left c.in-Ok.told.ask store (Some key) (Show what) moment rule read does.performs.leaves;
     }
 
 pub returns-in-Err-clause-show : goal.returns-in-Err-clause-show
@@ -862,7 +862,7 @@ returns-in-Err-clause-show g c = λ store key what moment rule asks.
       shown = λ zero. let three : c.tell_unread.result ≡ 3 = memory.0 in absurd (omega arith);
       show_due = λ some.
           tells _ NoMemory _ _ _ ((inl (inr (inl (inr refl)), memory.1), memory_no_accession), tt, tt, tt) memory.0 (c.tell_unread.ensures.no_memory none);
-      show_leaves = still_left (g.M.Machine.left c.args.machine.now) (g.M.Machine.stands c.args.machine.now store) _;
+      show_leaves = still_left (g.M.Machine.seen c.args.machine.now).left ((g.M.Machine.seen c.args.machine.now).stands store) _;
     }
 
 -- ---- a key of the staff
@@ -893,7 +893,7 @@ returns-in-Err-clause-staff_key g c = λ store key asks.
     record {
       put = λ zero. let three : c.tell_unread.result ≡ 3 = memory.0 in absurd (omega arith);
       put_due = λ some.
-          tells _ NoMemory _ _ _ ((memory.1, inr (inr (inr (inr refl)))), none_still (g.M.Machine.left c.args.machine.now), tt) memory.0
+          tells _ NoMemory _ _ _ ((memory.1, inr (inr (inr (inr refl)))), none_still (g.M.Machine.seen c.args.machine.now).left, tt) memory.0
           (c.tell_unread.ensures.no_memory none);
     }
 
@@ -902,17 +902,17 @@ returns-in-Err-clause-staff_key g c = λ store key asks.
 pub returns-in-Ok-perform_told-clause-sums : goal.returns-in-Ok-perform_told-clause-sums
 returns-in-Ok-perform_told-clause-sums g c = λ store key summed asks told.
     let does = c.in-Ok-perform_told.ensures.plain (init_plain _ c.in-Ok.told.beside c.in-Ok.ensures.beside store key asks) in
-    sums_by (g.M.Machine.sums c.args.machine.now) (g.M.Machine.sums c.perform_told.new.machine) c.in-Ok.told.ask store key summed (c.in-Ok.ensures.read.init store key asks)
+    sums_by (g.M.Machine.seen c.args.machine.now).sums (g.M.Machine.seen c.perform_told.new.machine).sums c.in-Ok.told.ask store key summed (c.in-Ok.ensures.read.init store key asks)
     (c.in-Ok.ensures.sums summed told) does.performs.sums
 
 pub returns-in-Err-perform_told-clause-sums : goal.returns-in-Err-perform_told-clause-sums
 returns-in-Err-perform_told-clause-sums g c = λ store key summed asks told.
     let does = c.in-Err-perform_told.ensures.plain (init_plain _ c.in-Ok.told.beside c.in-Ok.ensures.beside store key asks) in
-    sums_by (g.M.Machine.sums c.args.machine.now) (g.M.Machine.sums c.perform_told.new.machine) c.in-Ok.told.ask store key summed (c.in-Ok.ensures.read.init store key asks)
+    sums_by (g.M.Machine.seen c.args.machine.now).sums (g.M.Machine.seen c.perform_told.new.machine).sums c.in-Ok.told.ask store key summed (c.in-Ok.ensures.read.init store key asks)
     (c.in-Ok.ensures.sums summed told) does.performs.sums
 
 pub returns-in-Err-clause-sums : goal.returns-in-Err-clause-sums
-returns-in-Err-clause-sums g c = λ store key summed asks told. sums_none (g.M.Machine.sums c.args.machine.now) summed
+returns-in-Err-clause-sums g c = λ store key summed asks told. sums_none (g.M.Machine.seen c.args.machine.now).sums summed
 
 -- ---- a copy
 
@@ -920,15 +920,15 @@ pub returns-in-Ok-perform_told-clause-copy : goal.returns-in-Ok-perform_told-cla
 returns-in-Ok-perform_told-clause-copy g c = λ store target summed asks.
     let does = c.in-Ok-perform_told.ensures.plain (copy_plain _ c.in-Ok.told.beside c.in-Ok.ensures.beside store target summed asks) in
     let read = c.in-Ok.ensures.read.copy store target summed asks in
-    let runs = copies_by g.M.Disk.Store (g.M.Machine.shows c.args.machine.now) (g.M.Machine.stands c.args.machine.now) (g.M.Machine.left c.perform_told.new.machine) (g.M.Machine.made c.args.machine.now)
-    (g.M.Machine.fresh c.args.machine.now) (g.M.Machine.made c.perform_told.new.machine) (g.M.Machine.new_stores c.args.machine.now) (g.M.Machine.new_stores c.perform_told.new.machine)
+    let runs = copies_by g.M.Disk.Store (g.M.Machine.seen c.args.machine.now).shows (g.M.Machine.seen c.args.machine.now).stands (g.M.Machine.seen c.perform_told.new.machine).left (g.M.Machine.seen c.args.machine.now).made
+    (g.M.Machine.seen c.args.machine.now).fresh (g.M.Machine.seen c.perform_told.new.machine).made (g.M.Machine.seen c.args.machine.now).new_stores (g.M.Machine.seen c.perform_told.new.machine).new_stores
     (g.W.Write.contents c.args.output.now) (g.W.Write.contents c.perform_told.new.output) store target summed c.in-Ok.told.ask (Ok c.in-Ok-perform_told.done) read does.performs.copies in
     record {
       copied = λ zero. runs.0.done;
       copy_due = λ some.
           absurd (not_in_rows _ c.in-Ok.told.ask c.in-Ok.ensures.read (c.in-Ok-perform_told.ensures.in_part (c.status.ensures.in_part some)) (inr (inr (inr (inr (inr (store, target, summed, asks)))))));
       copy_leaves =
-          copy_leaves g.M.Disk.Store (g.M.Machine.clock c.args.machine.now) (g.M.Machine.left c.args.machine.now) (g.M.Machine.stands c.args.machine.now) (g.M.Machine.left c.perform_told.new.machine)
+          copy_leaves g.M.Disk.Store (g.M.Machine.seen c.args.machine.now).clock (g.M.Machine.seen c.args.machine.now).left (g.M.Machine.seen c.args.machine.now).stands (g.M.Machine.seen c.perform_told.new.machine).left
           c.in-Ok.told.ask store target summed read does.performs.leaves;
       copy_back = runs.0.back;
       copy_new = runs.1;
@@ -938,14 +938,14 @@ pub returns-in-Err-perform_told-clause-copy : goal.returns-in-Err-perform_told-c
 returns-in-Err-perform_told-clause-copy g c = λ store target summed asks.
     let does = c.in-Err-perform_told.ensures.plain (copy_plain _ c.in-Ok.told.beside c.in-Ok.ensures.beside store target summed asks) in
     let read = c.in-Ok.ensures.read.copy store target summed asks in
-    let runs = copies_by g.M.Disk.Store (g.M.Machine.shows c.args.machine.now) (g.M.Machine.stands c.args.machine.now) (g.M.Machine.left c.perform_told.new.machine) (g.M.Machine.made c.args.machine.now)
-    (g.M.Machine.fresh c.args.machine.now) (g.M.Machine.made c.perform_told.new.machine) (g.M.Machine.new_stores c.args.machine.now) (g.M.Machine.new_stores c.perform_told.new.machine)
+    let runs = copies_by g.M.Disk.Store (g.M.Machine.seen c.args.machine.now).shows (g.M.Machine.seen c.args.machine.now).stands (g.M.Machine.seen c.perform_told.new.machine).left (g.M.Machine.seen c.args.machine.now).made
+    (g.M.Machine.seen c.args.machine.now).fresh (g.M.Machine.seen c.perform_told.new.machine).made (g.M.Machine.seen c.args.machine.now).new_stores (g.M.Machine.seen c.perform_told.new.machine).new_stores
     (g.W.Write.contents c.args.output.now) (g.W.Write.contents c.perform_told.new.output) store target summed c.in-Ok.told.ask (Err c.in-Err-perform_told.refused) read does.performs.copies in
     record {
       copied = λ zero. absurd (not_done c.in-Err-perform_told.refused (sym c.tell_and_keep.ensures.status ∙ zero));
       copy_due = λ some. tells _ c.in-Err-perform_told.refused _ _ _ runs.0.due c.tell_and_keep.ensures.status c.tell_and_keep.ensures.written;
       copy_leaves =
-          copy_leaves g.M.Disk.Store (g.M.Machine.clock c.args.machine.now) (g.M.Machine.left c.args.machine.now) (g.M.Machine.stands c.args.machine.now) (g.M.Machine.left c.perform_told.new.machine)
+          copy_leaves g.M.Disk.Store (g.M.Machine.seen c.args.machine.now).clock (g.M.Machine.seen c.args.machine.now).left (g.M.Machine.seen c.args.machine.now).stands (g.M.Machine.seen c.perform_told.new.machine).left
           c.in-Ok.told.ask store target summed read does.performs.leaves;
       copy_back = runs.0.back;
       copy_new = runs.1;
@@ -960,13 +960,13 @@ returns-in-Err-clause-copy g c = λ store target summed asks.
       copy_due = λ some.
           tells _ NoMemory _ _ _ (
             (memory.1, inl (inr (inr (inr (inr refl))))),
-            none_still (g.M.Machine.made c.args.machine.now),
+            none_still (g.M.Machine.seen c.args.machine.now).made,
             tt,
           )
           memory.0 (c.tell_unread.ensures.no_memory none);
-      copy_leaves = still_left (g.M.Machine.left c.args.machine.now) (g.M.Machine.stands c.args.machine.now store) _;
+      copy_leaves = still_left (g.M.Machine.seen c.args.machine.now).left ((g.M.Machine.seen c.args.machine.now).stands store) _;
       copy_back = λ shows had. had;
       copy_new =
-          asks_no_new (g.M.Machine.new_stores c.args.machine.now) (g.M.Machine.new_stores c.args.machine.now) target summed
-          (EndsWith (g.M.Machine.stands c.args.machine.now store) (g.M.Machine.left c.args.machine.now) (OpensDesk g.M.Disk.Store)) refl;
+          asks_no_new (g.M.Machine.seen c.args.machine.now).new_stores (g.M.Machine.seen c.args.machine.now).new_stores target summed
+          (EndsWith ((g.M.Machine.seen c.args.machine.now).stands store) (g.M.Machine.seen c.args.machine.now).left (OpensDesk g.M.Disk.Store)) refl;
     }

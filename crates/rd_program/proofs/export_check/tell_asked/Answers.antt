@@ -24,7 +24,7 @@ returns-in_err-day-clause-not_shown g c = λ what is.
 pub returns-in_err-day-clause-due : goal.returns-in_err-day-clause-due
 returns-in_err-day-clause-due g c = λ judged.
     passed_on c.from_residual.result c.in_err-day.field-0.0 _ c.from_residual.ensures.1
-    (day_due g.S.Store (IsDayAt (moment_of c.args.ask.now.when.seconds (g.M.Machine.clock c.args.machine.now)) c.args.desk.now.zone)
+    (day_due g.S.Store (IsDayAt (moment_of c.args.ask.now.when.seconds (g.M.Machine.seen c.args.machine.now).clock) c.args.desk.now.zone)
     (request_of (option_map sha256 (option_map (λ key. key.now) c.args.ask.now.key)) (asked_of c.args.ask.now.question)) c.args.desk.now.store c.question_day.new.desk.store
     c.in_err-day.field-0.0 c.in_err-day.ensures.refused)
 
@@ -34,11 +34,11 @@ returns-in-Catalogue-clause-shown g c = λ what is.
     let same : request.Catalogue ≡ what = cc both in
     let fits : FitsSigned w32 c.in_ok-day.day = search rules in
     ok_from g.S.Store c.args.desk.now.store c.question_day.new.desk.store c.show.new.desk.store (still_same g.S.Store c.args.desk.now.store c.question_day.new.desk.store c.question_day.ensures.reads) c.show.ensures.same.lasts c.show.result
-    (λ stood after. Shows (IsDayAt (moment_of c.args.ask.now.when.seconds (g.M.Machine.clock c.args.machine.now)) c.args.desk.now.zone)
+    (λ stood after. Shows (IsDayAt (moment_of c.args.ask.now.when.seconds (g.M.Machine.seen c.args.machine.now).clock) c.args.desk.now.zone)
     (request_of (option_map sha256 (option_map (λ key. key.now) c.args.ask.now.key)) what) stood (g.W.Write.contents c.args.output.now) (g.W.Write.contents c.show.new.output))
     (shows_asked c.show.result g.S.Store c.question_day.new.desk.store c.show.new.desk.store _
-    (IsDayAt (moment_of c.args.ask.now.when.seconds (g.M.Machine.clock c.args.machine.now)) c.args.desk.now.zone)
-    (subst (IsDayAt (moment_of c.args.ask.now.when.seconds (g.M.Machine.clock c.args.machine.now)) c.args.desk.now.zone) (sym (to_z-of_z w32 c.in_ok-day.day fits)) c.in_ok-day.ensures.day)
+    (IsDayAt (moment_of c.args.ask.now.when.seconds (g.M.Machine.seen c.args.machine.now).clock) c.args.desk.now.zone)
+    (subst (IsDayAt (moment_of c.args.ask.now.when.seconds (g.M.Machine.seen c.args.machine.now).clock) c.args.desk.now.zone) (sym (to_z-of_z w32 c.in_ok-day.day fits)) c.in_ok-day.ensures.day)
     c.badge_of-badge.result (option_map sha256 (option_map (λ key. key.now) c.args.ask.now.key)) c.badge_of-badge.ensures request.Catalogue what
     (g.W.Write.contents c.args.output.now) (g.W.Write.contents c.show.new.output) same c.show.ensures.shown)
 
@@ -55,11 +55,11 @@ pub returns-in-Catalogue-clause-due : goal.returns-in-Catalogue-clause-due
 returns-in-Catalogue-clause-due g c = λ judged.
     let fits : FitsSigned w32 c.in_ok-day.day = search rules in
     due_from g.S.Store c.args.desk.now.store c.question_day.new.desk.store c.show.new.desk.store (still_same g.S.Store c.args.desk.now.store c.question_day.new.desk.store c.question_day.ensures.reads) c.show.ensures.same.lasts c.show.result
-    (IsDayAt (moment_of c.args.ask.now.when.seconds (g.M.Machine.clock c.args.machine.now)) c.args.desk.now.zone)
+    (IsDayAt (moment_of c.args.ask.now.when.seconds (g.M.Machine.seen c.args.machine.now).clock) c.args.desk.now.zone)
     (request_of (option_map sha256 (option_map (λ key. key.now) c.args.ask.now.key)) (asked_of c.args.ask.now.question))
     (due_asked c.show.result g.S.Store c.question_day.new.desk.store c.show.new.desk.store _
-    (IsDayAt (moment_of c.args.ask.now.when.seconds (g.M.Machine.clock c.args.machine.now)) c.args.desk.now.zone)
-    (subst (IsDayAt (moment_of c.args.ask.now.when.seconds (g.M.Machine.clock c.args.machine.now)) c.args.desk.now.zone) (sym (to_z-of_z w32 c.in_ok-day.day fits)) c.in_ok-day.ensures.day)
+    (IsDayAt (moment_of c.args.ask.now.when.seconds (g.M.Machine.seen c.args.machine.now).clock) c.args.desk.now.zone)
+    (subst (IsDayAt (moment_of c.args.ask.now.when.seconds (g.M.Machine.seen c.args.machine.now).clock) c.args.desk.now.zone) (sym (to_z-of_z w32 c.in_ok-day.day fits)) c.in_ok-day.ensures.day)
     c.badge_of-badge.result (option_map sha256 (option_map (λ key. key.now) c.args.ask.now.key)) c.badge_of-badge.ensures request.Catalogue (asked_of c.args.ask.now.question)
     (sym (ap asked_of c.in-Catalogue.is)) (c.show.ensures.due (inr (λ staff. staff))))
 
@@ -74,11 +74,11 @@ returns-in-Check-clause-found g c = λ acc is.
     let same : c.in-Check.acc ≡ acc = subst (IsCheckOf acc) c.in-Check.is is in
     let fits : FitsSigned w32 c.in_ok-day.day = search rules in
     if_ok_from g.S.Store c.args.desk.now.store c.question_day.new.desk.store c.check.new.desk.store (still_same g.S.Store c.args.desk.now.store c.question_day.new.desk.store c.question_day.ensures.reads) c.check.ensures.checks.lasts c.check.result
-    (λ done. Finds (IsDayAt (moment_of c.args.ask.now.when.seconds (g.M.Machine.clock c.args.machine.now)) c.args.desk.now.zone)
+    (λ done. Finds (IsDayAt (moment_of c.args.ask.now.when.seconds (g.M.Machine.seen c.args.machine.now).clock) c.args.desk.now.zone)
     (request_of (option_map sha256 (option_map (λ key. key.now) c.args.ask.now.key)) (request.Check acc)) (found_by done))
     (finds_asked c.check.result g.S.Store c.question_day.new.desk.store c.check.new.desk.store _
-    (IsDayAt (moment_of c.args.ask.now.when.seconds (g.M.Machine.clock c.args.machine.now)) c.args.desk.now.zone)
-    (subst (IsDayAt (moment_of c.args.ask.now.when.seconds (g.M.Machine.clock c.args.machine.now)) c.args.desk.now.zone) (sym (to_z-of_z w32 c.in_ok-day.day fits)) c.in_ok-day.ensures.day)
+    (IsDayAt (moment_of c.args.ask.now.when.seconds (g.M.Machine.seen c.args.machine.now).clock) c.args.desk.now.zone)
+    (subst (IsDayAt (moment_of c.args.ask.now.when.seconds (g.M.Machine.seen c.args.machine.now).clock) c.args.desk.now.zone) (sym (to_z-of_z w32 c.in_ok-day.day fits)) c.in_ok-day.ensures.day)
     c.badge_of-badge.result (option_map sha256 (option_map (λ key. key.now) c.args.ask.now.key)) c.in-Check.acc acc c.badge_of-badge.ensures same c.check.ensures.found)
 
 pub returns-in-Check-clause-due : goal.returns-in-Check-clause-due
@@ -87,11 +87,11 @@ returns-in-Check-clause-due g c = λ judged.
     let there = subst (λ badge. IsSome badge) (sym c.badge_of-badge.ensures) (badge_there c.args.ask.now.key some) in
     let fits : FitsSigned w32 c.in_ok-day.day = search rules in
     due_from g.S.Store c.args.desk.now.store c.question_day.new.desk.store c.check.new.desk.store (still_same g.S.Store c.args.desk.now.store c.question_day.new.desk.store c.question_day.ensures.reads) c.check.ensures.checks.lasts c.check.result
-    (IsDayAt (moment_of c.args.ask.now.when.seconds (g.M.Machine.clock c.args.machine.now)) c.args.desk.now.zone)
+    (IsDayAt (moment_of c.args.ask.now.when.seconds (g.M.Machine.seen c.args.machine.now).clock) c.args.desk.now.zone)
     (request_of (option_map sha256 (option_map (λ key. key.now) c.args.ask.now.key)) (asked_of c.args.ask.now.question))
     (due_asked c.check.result g.S.Store c.question_day.new.desk.store c.check.new.desk.store _
-    (IsDayAt (moment_of c.args.ask.now.when.seconds (g.M.Machine.clock c.args.machine.now)) c.args.desk.now.zone)
-    (subst (IsDayAt (moment_of c.args.ask.now.when.seconds (g.M.Machine.clock c.args.machine.now)) c.args.desk.now.zone) (sym (to_z-of_z w32 c.in_ok-day.day fits)) c.in_ok-day.ensures.day)
+    (IsDayAt (moment_of c.args.ask.now.when.seconds (g.M.Machine.seen c.args.machine.now).clock) c.args.desk.now.zone)
+    (subst (IsDayAt (moment_of c.args.ask.now.when.seconds (g.M.Machine.seen c.args.machine.now).clock) c.args.desk.now.zone) (sym (to_z-of_z w32 c.in_ok-day.day fits)) c.in_ok-day.ensures.day)
     c.badge_of-badge.result (option_map sha256 (option_map (λ key. key.now) c.args.ask.now.key)) c.badge_of-badge.ensures (request.Check c.in-Check.acc) (asked_of c.args.ask.now.question)
     (sym (ap asked_of c.in-Check.is)) (c.check.ensures.due there))
 
@@ -104,11 +104,11 @@ returns-in-Show-clause-shown g c = λ what is.
     let named : what_of c.in-Show.shown ≡ what = cc both in
     let fits : FitsSigned w32 c.in_ok-day.day = search rules in
     ok_from g.S.Store c.args.desk.now.store c.question_day.new.desk.store c.show-in-Show.new.desk.store (still_same g.S.Store c.args.desk.now.store c.question_day.new.desk.store c.question_day.ensures.reads) c.show-in-Show.ensures.same.lasts c.show-in-Show.result
-    (λ stood after. Shows (IsDayAt (moment_of c.args.ask.now.when.seconds (g.M.Machine.clock c.args.machine.now)) c.args.desk.now.zone)
+    (λ stood after. Shows (IsDayAt (moment_of c.args.ask.now.when.seconds (g.M.Machine.seen c.args.machine.now).clock) c.args.desk.now.zone)
     (request_of (option_map sha256 (option_map (λ key. key.now) c.args.ask.now.key)) what) stood (g.W.Write.contents c.args.output.now) (g.W.Write.contents c.show-in-Show.new.output))
     (shows_asked c.show-in-Show.result g.S.Store c.question_day.new.desk.store c.show-in-Show.new.desk.store _
-    (IsDayAt (moment_of c.args.ask.now.when.seconds (g.M.Machine.clock c.args.machine.now)) c.args.desk.now.zone)
-    (subst (IsDayAt (moment_of c.args.ask.now.when.seconds (g.M.Machine.clock c.args.machine.now)) c.args.desk.now.zone) (sym (to_z-of_z w32 c.in_ok-day.day fits)) c.in_ok-day.ensures.day)
+    (IsDayAt (moment_of c.args.ask.now.when.seconds (g.M.Machine.seen c.args.machine.now).clock) c.args.desk.now.zone)
+    (subst (IsDayAt (moment_of c.args.ask.now.when.seconds (g.M.Machine.seen c.args.machine.now).clock) c.args.desk.now.zone) (sym (to_z-of_z w32 c.in_ok-day.day fits)) c.in_ok-day.ensures.day)
     c.badge_of-badge.result (option_map sha256 (option_map (λ key. key.now) c.args.ask.now.key)) c.badge_of-badge.ensures c.what_of.result what
     (g.W.Write.contents c.args.output.now) (g.W.Write.contents c.show-in-Show.new.output) (c.what_of.ensures.asks ∙ named) c.show-in-Show.ensures.shown)
 
@@ -124,11 +124,11 @@ returns-in-Show-clause-due g c = λ judged.
     let there = subst (λ badge. IsSome badge) (sym c.badge_of-badge.ensures) (badge_there c.args.ask.now.key some) in
     let fits : FitsSigned w32 c.in_ok-day.day = search rules in
     due_from g.S.Store c.args.desk.now.store c.question_day.new.desk.store c.show-in-Show.new.desk.store (still_same g.S.Store c.args.desk.now.store c.question_day.new.desk.store c.question_day.ensures.reads) c.show-in-Show.ensures.same.lasts c.show-in-Show.result
-    (IsDayAt (moment_of c.args.ask.now.when.seconds (g.M.Machine.clock c.args.machine.now)) c.args.desk.now.zone)
+    (IsDayAt (moment_of c.args.ask.now.when.seconds (g.M.Machine.seen c.args.machine.now).clock) c.args.desk.now.zone)
     (request_of (option_map sha256 (option_map (λ key. key.now) c.args.ask.now.key)) (asked_of c.args.ask.now.question))
     (due_asked c.show-in-Show.result g.S.Store c.question_day.new.desk.store c.show-in-Show.new.desk.store _
-    (IsDayAt (moment_of c.args.ask.now.when.seconds (g.M.Machine.clock c.args.machine.now)) c.args.desk.now.zone)
-    (subst (IsDayAt (moment_of c.args.ask.now.when.seconds (g.M.Machine.clock c.args.machine.now)) c.args.desk.now.zone) (sym (to_z-of_z w32 c.in_ok-day.day fits)) c.in_ok-day.ensures.day)
+    (IsDayAt (moment_of c.args.ask.now.when.seconds (g.M.Machine.seen c.args.machine.now).clock) c.args.desk.now.zone)
+    (subst (IsDayAt (moment_of c.args.ask.now.when.seconds (g.M.Machine.seen c.args.machine.now).clock) c.args.desk.now.zone) (sym (to_z-of_z w32 c.in_ok-day.day fits)) c.in_ok-day.ensures.day)
     c.badge_of-badge.result (option_map sha256 (option_map (λ key. key.now) c.args.ask.now.key)) c.badge_of-badge.ensures c.what_of.result (asked_of c.args.ask.now.question)
     (c.what_of.ensures.asks ∙ sym (ap asked_of c.in-Show.is)) (c.show-in-Show.ensures.due (inl there)))
 
@@ -154,12 +154,12 @@ returns-in-Show-clause-clock g c =
 
 pub returns-in-Catalogue-clause-on_time : goal.returns-in-Catalogue-clause-on_time
 returns-in-Catalogue-clause-on_time g c = λ dated held.
-    on_time_from g.S.Store c.args.desk.now.store c.question_day.new.desk.store c.show.new.desk.store c.show.ensures.same.lasts (g.M.Machine.clock c.args.machine.now) c.args.desk.now.zone c.in_ok-day.day
+    on_time_from g.S.Store c.args.desk.now.store c.question_day.new.desk.store c.show.new.desk.store c.show.ensures.same.lasts (g.M.Machine.seen c.args.machine.now).clock c.args.desk.now.zone c.in_ok-day.day
     c.show.result c.args.ask.now.when.seconds c.args.ask.now.when.is_trusting held c.in_ok-day.ensures.day (c.in_ok-day.ensures.on_time dated)
 
 pub returns-in-Check-clause-on_time : goal.returns-in-Check-clause-on_time
 returns-in-Check-clause-on_time g c = λ dated held.
-    on_time_from g.S.Store c.args.desk.now.store c.question_day.new.desk.store c.check.new.desk.store c.check.ensures.checks.lasts (g.M.Machine.clock c.args.machine.now) c.args.desk.now.zone c.in_ok-day.day
+    on_time_from g.S.Store c.args.desk.now.store c.question_day.new.desk.store c.check.new.desk.store c.check.ensures.checks.lasts (g.M.Machine.seen c.args.machine.now).clock c.args.desk.now.zone c.in_ok-day.day
     c.check.result c.args.ask.now.when.seconds c.args.ask.now.when.is_trusting held c.in_ok-day.ensures.day (c.in_ok-day.ensures.on_time dated)
 
 pub returns-in-Show-clause-on_time : goal.returns-in-Show-clause-on_time
@@ -169,28 +169,28 @@ returns-in-Show-clause-on_time g c = λ dated. absurd (show_undated c.in-Show.sh
 
 pub returns-in_err-day-clause-steps : goal.returns-in_err-day-clause-steps
 returns-in_err-day-clause-steps g c =
-    still_steps g.S.Store c.args.desk.now.store c.question_day.new.desk.store (option_map sha256 (option_map (λ key. key.now) c.args.ask.now.key)) (IsDayAt (moment_of c.args.ask.now.when.seconds (g.M.Machine.clock c.args.machine.now)) c.args.desk.now.zone) c.args.ask.now.question
+    still_steps g.S.Store c.args.desk.now.store c.question_day.new.desk.store (option_map sha256 (option_map (λ key. key.now) c.args.ask.now.key)) (IsDayAt (moment_of c.args.ask.now.when.seconds (g.M.Machine.seen c.args.machine.now).clock) c.args.desk.now.zone) c.args.ask.now.question
     (still_same g.S.Store c.args.desk.now.store c.question_day.new.desk.store c.question_day.ensures.reads)
 
 pub returns-in-Catalogue-clause-steps : goal.returns-in-Catalogue-clause-steps
 returns-in-Catalogue-clause-steps g c =
     same_from g.S.Store c.args.desk.now.store c.question_day.new.desk.store c.show.new.desk.store (still_same g.S.Store c.args.desk.now.store c.question_day.new.desk.store c.question_day.ensures.reads) c.show.ensures.same.lasts
-    (option_map sha256 (option_map (λ key. key.now) c.args.ask.now.key)) (IsDayAt (moment_of c.args.ask.now.when.seconds (g.M.Machine.clock c.args.machine.now)) c.args.desk.now.zone) c.args.ask.now.question
-    (λ d e same. subst (λ q. StepsOf (option_map sha256 (option_map (λ key. key.now) c.args.ask.now.key)) (IsDayAt (moment_of c.args.ask.now.when.seconds (g.M.Machine.clock c.args.machine.now)) c.args.desk.now.zone) q d e) (sym c.in-Catalogue.is) same) c.show.ensures.same
+    (option_map sha256 (option_map (λ key. key.now) c.args.ask.now.key)) (IsDayAt (moment_of c.args.ask.now.when.seconds (g.M.Machine.seen c.args.machine.now).clock) c.args.desk.now.zone) c.args.ask.now.question
+    (λ d e same. subst (λ q. StepsOf (option_map sha256 (option_map (λ key. key.now) c.args.ask.now.key)) (IsDayAt (moment_of c.args.ask.now.when.seconds (g.M.Machine.seen c.args.machine.now).clock) c.args.desk.now.zone) q d e) (sym c.in-Catalogue.is) same) c.show.ensures.same
 
 pub returns-in-Show-clause-steps : goal.returns-in-Show-clause-steps
 returns-in-Show-clause-steps g c =
     same_from g.S.Store c.args.desk.now.store c.question_day.new.desk.store c.show-in-Show.new.desk.store (still_same g.S.Store c.args.desk.now.store c.question_day.new.desk.store c.question_day.ensures.reads) c.show-in-Show.ensures.same.lasts
-    (option_map sha256 (option_map (λ key. key.now) c.args.ask.now.key)) (IsDayAt (moment_of c.args.ask.now.when.seconds (g.M.Machine.clock c.args.machine.now)) c.args.desk.now.zone) c.args.ask.now.question
-    (λ d e same. subst (λ q. StepsOf (option_map sha256 (option_map (λ key. key.now) c.args.ask.now.key)) (IsDayAt (moment_of c.args.ask.now.when.seconds (g.M.Machine.clock c.args.machine.now)) c.args.desk.now.zone) q d e) (sym c.in-Show.is) same) c.show-in-Show.ensures.same
+    (option_map sha256 (option_map (λ key. key.now) c.args.ask.now.key)) (IsDayAt (moment_of c.args.ask.now.when.seconds (g.M.Machine.seen c.args.machine.now).clock) c.args.desk.now.zone) c.args.ask.now.question
+    (λ d e same. subst (λ q. StepsOf (option_map sha256 (option_map (λ key. key.now) c.args.ask.now.key)) (IsDayAt (moment_of c.args.ask.now.when.seconds (g.M.Machine.seen c.args.machine.now).clock) c.args.desk.now.zone) q d e) (sym c.in-Show.is) same) c.show-in-Show.ensures.same
 
 pub returns-in-Check-clause-steps : goal.returns-in-Check-clause-steps
 returns-in-Check-clause-steps g c =
     let fits : FitsSigned w32 c.in_ok-day.day = search rules in
     check_from g.S.Store c.args.desk.now.store c.question_day.new.desk.store c.check.new.desk.store (still_same g.S.Store c.args.desk.now.store c.question_day.new.desk.store c.question_day.ensures.reads) c.check.ensures.checks.lasts
-    (IsDayAt (moment_of c.args.ask.now.when.seconds (g.M.Machine.clock c.args.machine.now)) c.args.desk.now.zone) _ c.badge_of-badge.result (option_map sha256 (option_map (λ key. key.now) c.args.ask.now.key))
+    (IsDayAt (moment_of c.args.ask.now.when.seconds (g.M.Machine.seen c.args.machine.now).clock) c.args.desk.now.zone) _ c.badge_of-badge.result (option_map sha256 (option_map (λ key. key.now) c.args.ask.now.key))
     c.in-Check.acc c.args.ask.now.question
-    (subst (IsDayAt (moment_of c.args.ask.now.when.seconds (g.M.Machine.clock c.args.machine.now)) c.args.desk.now.zone) (sym (to_z-of_z w32 c.in_ok-day.day fits)) c.in_ok-day.ensures.day)
+    (subst (IsDayAt (moment_of c.args.ask.now.when.seconds (g.M.Machine.seen c.args.machine.now).clock) c.args.desk.now.zone) (sym (to_z-of_z w32 c.in_ok-day.day fits)) c.in_ok-day.ensures.day)
     c.badge_of-badge.ensures c.in-Check.is c.check.ensures.checks
 
 -- ---- the clock that is behind
@@ -202,14 +202,14 @@ returns-in_err-day-clause-late g c =
 pub returns-in-Catalogue-clause-late : goal.returns-in-Catalogue-clause-late
 returns-in-Catalogue-clause-late g c =
     IfErr-weaker c.show.result _ _ (no_behind_on g.S.Store (is_dated c.args.ask.now.question) (must_be_on_time c.args.ask.now.when.seconds c.args.ask.now.when.is_trusting)
-    (moment_of c.args.ask.now.when.seconds (g.M.Machine.clock c.args.machine.now)) c.args.desk.now.zone c.args.desk.now.store c.show.new.desk.store) c.show.ensures.dated
+    (moment_of c.args.ask.now.when.seconds (g.M.Machine.seen c.args.machine.now).clock) c.args.desk.now.zone c.args.desk.now.store c.show.new.desk.store) c.show.ensures.dated
 
 pub returns-in-Check-clause-late : goal.returns-in-Check-clause-late
 returns-in-Check-clause-late g c =
     IfErr-weaker c.check.result _ _ (no_behind_on g.S.Store (is_dated c.args.ask.now.question) (must_be_on_time c.args.ask.now.when.seconds c.args.ask.now.when.is_trusting)
-    (moment_of c.args.ask.now.when.seconds (g.M.Machine.clock c.args.machine.now)) c.args.desk.now.zone c.args.desk.now.store c.check.new.desk.store) c.check.ensures.dated
+    (moment_of c.args.ask.now.when.seconds (g.M.Machine.seen c.args.machine.now).clock) c.args.desk.now.zone c.args.desk.now.store c.check.new.desk.store) c.check.ensures.dated
 
 pub returns-in-Show-clause-late : goal.returns-in-Show-clause-late
 returns-in-Show-clause-late g c =
     IfErr-weaker c.show-in-Show.result _ _ (no_behind_on g.S.Store (is_dated c.args.ask.now.question) (must_be_on_time c.args.ask.now.when.seconds c.args.ask.now.when.is_trusting)
-    (moment_of c.args.ask.now.when.seconds (g.M.Machine.clock c.args.machine.now)) c.args.desk.now.zone c.args.desk.now.store c.show-in-Show.new.desk.store) c.show-in-Show.ensures.dated
+    (moment_of c.args.ask.now.when.seconds (g.M.Machine.seen c.args.machine.now).clock) c.args.desk.now.zone c.args.desk.now.store c.show-in-Show.new.desk.store) c.show-in-Show.ensures.dated

@@ -4,6 +4,7 @@ use Rattle.rd_geometry.specs.Kinds.{size_of}
 use Rattle.rd_volume.specs.Volumes.{AreFounds}
 use Rattle.rd_commands.specs.declared.refusal.Refusal.TheVariants.{NoMemory, WrongSize}
 use Rattle.rd_program.specs.Extracting.{OfImage, RefusesExtract}
+use Rattle.rd_program.proofs.FileLemmas.{shown_as}
 use Rattle.rd_program.proofs.FolderLemmas.{all_of_image, extracts_all, extracts_part, makes_more, makes_same, of_sized, part_of_image, refuses_early, refuses_part, size_refused}
 use Rattle.rd_program.proofs.ShowLemmas.{passed_on}
 use Rattle.rd_program.proofs.extract.extract.Goals.{then-is_given+in_ok-extract_one, else-is_given}
@@ -13,20 +14,20 @@ use Rattle.rd_program.proofs.extract.extract.Goals as goal
 
 pub returns-in_err-image-clause-refused : goal.returns-in_err-image-clause-refused
 returns-in_err-image-clause-refused g c =
-    let made = g.M.Machine.written c.args.machine.now in
+    let made = (g.M.Machine.seen c.args.machine.now).written in
     let out = g.W.Write.contents c.args.output.now in
-    subst (λ machine. IfErr c.from_residual-in_err-image.result (λ refusal. OfImage (g.M.Files.file_bytes c.args.machine.now) (g.R.Read.remaining c.args.input.now) c.args.ask.image.image.now
-    (λ image. RefusesExtract c.args.ask.image.kind image c.args.ask.folder.now made (g.M.Machine.written machine) out out refusal))) (sym c.read_image.ensures.same)
+    subst (λ machine. IfErr c.from_residual-in_err-image.result (λ refusal. OfImage (g.M.Machine.seen c.args.machine.now).files (g.R.Read.remaining c.args.input.now) c.args.ask.image.image.now
+    (λ image. RefusesExtract c.args.ask.image.kind image c.args.ask.folder.now made (g.M.Machine.seen machine).written out out refusal))) (sym c.read_image.ensures.same)
     (passed_on c.from_residual-in_err-image.result WrongSize _ c.from_residual-in_err-image.ensures.1
-    (size_refused _ _ _ c.in_ok-bytes.bytes.items c.args.ask.folder.now c.args.ask.image.kind made out c.in_ok-bytes.ensures.front c.in_ok-bytes.ensures.of_file
+    (size_refused _ _ _ c.in_ok-bytes.bytes.items c.args.ask.folder.now c.args.ask.image.kind made out c.in_ok-bytes.ensures.front (λ other. shown_as _ _ c.args.ask.image.image.now (λ file. c.in_ok-bytes.bytes.items ≡ file) (g.met.M.Machine.gives c.args.machine.now).0 (c.in_ok-bytes.ensures.of_file other))
     (λ sized. let none : false ≡ true = c.in_err-image.ensures.taken.1 (ap length c.as_slice.ensures.value ∙ sized) in absurd (cc none))))
 
 pub returns-in_err-files-clause-refused : goal.returns-in_err-files-clause-refused
 returns-in_err-files-clause-refused g c =
-    let made = g.M.Machine.written c.args.machine.now in
+    let made = (g.M.Machine.seen c.args.machine.now).written in
     let out = g.W.Write.contents c.args.output.now in
-    subst (λ machine. IfErr c.from_residual-in_err-files.result (λ refusal. OfImage (g.M.Files.file_bytes c.args.machine.now) (g.R.Read.remaining c.args.input.now) c.args.ask.image.image.now
-    (λ image. RefusesExtract c.args.ask.image.kind image c.args.ask.folder.now made (g.M.Machine.written machine) out out refusal))) (sym c.read_image.ensures.same)
+    subst (λ machine. IfErr c.from_residual-in_err-files.result (λ refusal. OfImage (g.M.Machine.seen c.args.machine.now).files (g.R.Read.remaining c.args.input.now) c.args.ask.image.image.now
+    (λ image. RefusesExtract c.args.ask.image.kind image c.args.ask.folder.now made (g.M.Machine.seen machine).written out out refusal))) (sym c.read_image.ensures.same)
     (passed_on c.from_residual-in_err-files.result NoMemory _ c.from_residual-in_err-files.ensures.1
     (refuses_early _ _ _ c.args.ask.folder.now c.args.ask.image.kind made out NoMemory tt))
 
@@ -63,7 +64,7 @@ returns-in_err-extract_one-clause-refused g c =
     let part = extracts_part (kind_of c.in_ok-image.image) (bytes_of c.in_ok-image.image) c.args.ask.folder.now files at.file-index c.file-item.result _ _ _ _ _ _ are inside (sym c.file-item.is)
     (sym c.is_given.ensures ∙ c.if-is_given.true) at.invariant.makes c.in_err-extract_one.ensures.failed in
     passed_on c.from_residual-in_err-extract_one.result c.in_err-extract_one.field-0.0 _ c.from_residual-in_err-extract_one.ensures.1
-    (of_sized _ _ _ c.in_ok-bytes.bytes.items (size_of c.args.ask.image.kind) _ c.in_ok-bytes.ensures.front c.in_ok-bytes.ensures.of_file
+    (of_sized _ _ _ c.in_ok-bytes.bytes.items (size_of c.args.ask.image.kind) _ c.in_ok-bytes.ensures.front (λ other. shown_as _ _ c.args.ask.image.image.now (λ file. c.in_ok-bytes.bytes.items ≡ file) (g.met.M.Machine.gives c.args.machine.now).0 (c.in_ok-bytes.ensures.of_file other))
     (ap length (sym c.as_slice.ensures.value) ∙ c.in_ok-image.ensures.taken.0 (refl {a = true}))
     (refuses_part c.args.ask.image.kind c.in_ok-bytes.bytes.items c.args.ask.folder.now _ _ _ _ c.in_err-extract_one.field-0.0 c.in_err-extract_one.ensures.refused
     (part_of_image c.args.ask.image.kind _ c.in_ok-bytes.bytes.items _ c.args.ask.folder.now _ _ _ _ c.in_ok-image.ensures.kind
@@ -75,7 +76,7 @@ returns-clause-extracted g c =
     let files = c.as_slice-file-items.result.now in
     let are : AreFounds (kind_of c.in_ok-image.image) (bytes_of c.in_ok-image.image) files = subst (AreFounds _ _) (sym c.as_slice-file-items.ensures) c.in_ok-files.ensures.files in
     let all = extracts_all (kind_of c.in_ok-image.image) (bytes_of c.in_ok-image.image) c.args.ask.folder.now files at.file-index _ _ _ _ are (omega arith) at.invariant.makes in
-    of_sized _ _ _ c.in_ok-bytes.bytes.items (size_of c.args.ask.image.kind) _ c.in_ok-bytes.ensures.front c.in_ok-bytes.ensures.of_file
+    of_sized _ _ _ c.in_ok-bytes.bytes.items (size_of c.args.ask.image.kind) _ c.in_ok-bytes.ensures.front (λ other. shown_as _ _ c.args.ask.image.image.now (λ file. c.in_ok-bytes.bytes.items ≡ file) (g.met.M.Machine.gives c.args.machine.now).0 (c.in_ok-bytes.ensures.of_file other))
     (ap length (sym c.as_slice.ensures.value) ∙ c.in_ok-image.ensures.taken.0 (refl {a = true}))
     (all_of_image c.args.ask.image.kind _ c.in_ok-bytes.bytes.items _ c.args.ask.folder.now _ _ _ _ c.in_ok-image.ensures.kind
     (c.in_ok-image.ensures.bytes ∙ c.as_slice.ensures.value) all)

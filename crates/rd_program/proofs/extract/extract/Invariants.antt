@@ -8,9 +8,9 @@ use Rattle.rd_program.proofs.extract.extract.Given as goal
 -- the sound files passed were made, and their lines written
 abbrev pub invariant-loop-file : goal.invariant-loop-file
 invariant-loop-file g l = record {
-  makes : MakesFiles (kind_of l.image) (bytes_of l.image) l.ask.folder.now (filter is_given (take l.file-index l.file-items)) (g.M.Machine.written l.fn.machine)
-      (g.M.Machine.written l.machine) (g.W.Write.contents l.fn.output) (g.W.Write.contents l.output);
+  makes : MakesFiles (kind_of l.image) (bytes_of l.image) l.ask.folder.now (filter is_given (take l.file-index l.file-items)) (g.M.Machine.seen l.fn.machine).written
+      (g.M.Machine.seen l.machine).written (g.W.Write.contents l.fn.output) (g.W.Write.contents l.output);
   flushed : IsFlushed g.M.Files.flushed (g.W.Write.contents l.fn.output) (g.W.Write.contents l.output);
-  left : g.M.Machine.left l.machine ≡ g.M.Machine.left l.fn.machine;
-  asked : g.M.Machine.wanted l.machine ≡ g.M.Machine.wanted l.fn.machine;
+  left : (g.M.Machine.seen l.machine).left ≡ (g.M.Machine.seen l.fn.machine).left;
+  asked : (g.M.Machine.seen l.machine).wanted ≡ (g.M.Machine.seen l.fn.machine).wanted;
 }

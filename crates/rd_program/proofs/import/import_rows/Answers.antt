@@ -30,15 +30,15 @@ loop-number-preserved g c = record {
   flushed = inr c.in_ok-row.ensures.flushed;
   same = c.import_fields.ensures.same ∙ c.loop-number.invariant.same;
   zone = c.import_fields.ensures.zone ∙ c.loop-number.invariant.zone;
-  rows = subst (λ d. RowsSoFar g.M.Disk.Store (g.M.Files.file_bytes c.args.machine.now) c.args.giver.badge c.args.giver.day c.args.sheet.now (g.W.Write.contents c.args.output.now)
+  rows = subst (λ d. RowsSoFar g.M.Disk.Store (g.M.Machine.seen c.args.machine.now).files c.args.giver.badge c.args.giver.day c.args.sheet.now (g.W.Write.contents c.args.output.now)
       (g.W.Write.contents c.import_fields.new.output) c.args.desk.now.store c.import_fields.new.desk.store c.next_row-in-loop-number.new.reader (c.loop-number.number + 1) d) (sym c.and-done.ensures)
-      (row_then g.M.Disk.Store (g.M.Files.file_bytes c.args.machine.now) c.args.giver.badge c.args.giver.day c.args.sheet.now (g.W.Write.contents c.args.output.now) c.args.desk.now.store
+      (row_then g.M.Disk.Store (g.M.Machine.seen c.args.machine.now).files c.args.giver.badge c.args.giver.day c.args.sheet.now (g.W.Write.contents c.args.output.now) c.args.desk.now.store
       c.loop-number.desk.store c.import_fields.new.desk.store (g.W.Write.contents c.loop-number.output) (g.W.Write.contents c.import_fields.new.output) c.loop-number.reader c.next_row-in-loop-number.new.reader
       c.loop-number.number c.loop-number.done c.in_ok-row.row c.in_ok-next_row-2.field-0 _ c.in_ok-next_row-2.ensures.reads_on c.loop-number.invariant.rows
       (c.in_ok-next_row-2.ensures.read c.loop-number.invariant.rows.at.untrimmed c.loop-number.invariant.rows.at.ready)
       (c.in_ok-next_row-2.ensures.kept) (c.in_ok-next_row-2.ensures.ready c.loop-number.invariant.rows.at.untrimmed) (search rules)
       (λ o. c.import_fields.ensures.takes.lasts.was_open o)
-      (subst (λ m. GivesLine g.M.Disk.Store (λ line. IsRowTaken (g.M.Files.file_bytes m) c.args.giver.badge c.args.giver.day c.loop-number.number (fields_of c.next_row-in-loop-number.new.fields) line c.in_ok-row.row) (g.W.Write.contents c.loop-number.output) (g.W.Write.contents c.import_fields.new.output) c.loop-number.desk.store c.import_fields.new.desk.store) c.loop-number.invariant.same c.in_ok-row.ensures.row));
+      (subst (λ m. GivesLine g.M.Disk.Store (λ line. IsRowTaken (g.M.Machine.seen m).files c.args.giver.badge c.args.giver.day c.loop-number.number (fields_of c.next_row-in-loop-number.new.fields) line c.in_ok-row.row) (g.W.Write.contents c.loop-number.output) (g.W.Write.contents c.import_fields.new.output) c.loop-number.desk.store c.import_fields.new.desk.store) c.loop-number.invariant.same c.in_ok-row.ensures.row));
   takes = row_more g.M.Disk.Store c.args.giver.badge c.args.giver.day _ c.args.desk.now.store c.loop-number.desk.store c.import_fields.new.desk.store c.loop-number.invariant.takes c.import_fields.ensures.takes;
 }
 
@@ -48,7 +48,7 @@ loop-number-init g c = record {
   flushed = inl (Keeps-refl _);
   same = search rules;
   zone = search rules;
-  rows = before_rows g.M.Disk.Store (g.M.Files.file_bytes c.args.machine.now) c.args.giver.badge c.args.giver.day c.args.sheet.now (g.W.Write.contents c.args.output.now) c.args.desk.now.store
+  rows = before_rows g.M.Disk.Store (g.M.Machine.seen c.args.machine.now).files c.args.giver.badge c.args.giver.day c.args.sheet.now (g.W.Write.contents c.args.output.now) c.args.desk.now.store
       c.from_reader-reader.result c.next_row.new.reader c.in_ok-next_row.field-0 _ (search rules) c.in_ok-next_row.ensures.reads_on
       (record { source = search rules; state_is = search rules; config = search rules; untrimmed = search rules; ready = search rules; well = search rules })
       (c.in_ok-next_row.ensures.read (search rules) (search rules)) c.in_ok-next_row.ensures.kept (c.in_ok-next_row.ensures.ready (search rules)) (search rules) (search rules);
@@ -57,7 +57,7 @@ loop-number-init g c = record {
 
 pub returns-then-not-branch-2-clause-rows : goal.returns-then-not-branch-2-clause-rows
 returns-then-not-branch-2-clause-rows g c is_open =
-    after_rows g.M.Disk.Store (g.M.Files.file_bytes c.args.machine.now) c.args.giver.badge c.args.giver.day c.args.sheet.now (g.W.Write.contents c.args.output.now) c.args.desk.now.store
+    after_rows g.M.Disk.Store (g.M.Machine.seen c.args.machine.now).files c.args.giver.badge c.args.giver.day c.args.sheet.now (g.W.Write.contents c.args.output.now) c.args.desk.now.store
     c.loop-number.desk.store (g.W.Write.contents c.loop-number.output) c.loop-number.reader c.next_row-in-loop-number.new.reader c.loop-number.number c.loop-number.done c.in_ok-next_row-2.field-0 _
     c.loop-number.invariant.rows (c.in_ok-next_row-2.ensures.read c.loop-number.invariant.rows.at.untrimmed c.loop-number.invariant.rows.at.ready)
     c.in_ok-next_row-2.ensures.kept (c.in_ok-next_row-2.ensures.ready c.loop-number.invariant.rows.at.untrimmed) (search rules) is_open
@@ -70,7 +70,7 @@ returns-clause-refused g c = inr (inr (inl refl), front_kept _ _ (rows_of c.loop
 pub returns-in_err-next_row-2-clause-bad_sheet : goal.returns-in_err-next_row-2-clause-bad_sheet
 returns-in_err-next_row-2-clause-bad_sheet g c =
     passed_on c.from_residual-in_err-next_row-2.result c.in_err-next_row-2.field-0.0 _ c.from_residual-in_err-next_row-2.ensures.1
-    (due_if c.args.sheet.now c.in_err-next_row-2.field-0.0 (λ bad. no_sheet_after g.M.Disk.Store (g.M.Files.file_bytes c.args.machine.now) c.args.giver.badge c.args.giver.day c.args.sheet.now
+    (due_if c.args.sheet.now c.in_err-next_row-2.field-0.0 (λ bad. no_sheet_after g.M.Disk.Store (g.M.Machine.seen c.args.machine.now).files c.args.giver.badge c.args.giver.day c.args.sheet.now
     (g.W.Write.contents c.args.output.now) (g.W.Write.contents c.loop-number.output) c.args.desk.now.store c.loop-number.desk.store c.loop-number.reader c.next_row-in-loop-number.new.reader
     c.loop-number.number c.loop-number.done c.loop-number.invariant.rows (c.in_err-next_row-2.ensures.length c.loop-number.invariant.rows.at.ready bad)))
 

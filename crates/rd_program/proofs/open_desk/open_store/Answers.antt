@@ -11,10 +11,10 @@ returns-in-Err-clause-refused g c = unconnected_opening c.not_connected.result c
 
 pub returns-in-Err-clause-left : goal.returns-in-Err-clause-left
 returns-in-Err-clause-left g c =
-    unconnected_left g.M.Disk.Store (g.M.Machine.left c.args.machine.now) (g.M.Machine.stands c.args.machine.now c.args.store.now) (g.M.Machine.left c.not_connected.new.machine)
+    unconnected_left g.M.Disk.Store (g.M.Machine.seen c.args.machine.now).left ((g.M.Machine.seen c.args.machine.now).stands c.args.store.now) (g.M.Machine.seen c.not_connected.new.machine).left
     c.not_connected.result c.not_connected.ensures.one_of (λ missing. sym c.in-Err.ensures.still_stands ∙ c.not_connected.ensures.absent missing)
-    (subst (λ machine. LeavesNone (g.M.Machine.left c.args.machine.now) (g.M.Machine.left machine)) (sym c.not_connected.ensures.same) c.in-Err.ensures.none)
+    (subst (λ machine. LeavesNone (g.M.Machine.seen c.args.machine.now).left (g.M.Machine.seen machine).left) (sym c.not_connected.ensures.same) c.in-Err.ensures.none)
 
 pub returns-in-Err-clause-back : goal.returns-in-Err-clause-back
 returns-in-Err-clause-back g c = λ shows had.
-    subst (λ machine. IsSome (g.M.Machine.left machine)) (sym c.not_connected.ensures.same) (subst (λ left. IsSome left) (sym (c.in-Err.ensures.kept shows)) had)
+    subst (λ machine. IsSome (g.M.Machine.seen machine).left) (sym c.not_connected.ensures.same) (subst (λ left. IsSome left) (sym (c.in-Err.ensures.kept shows)) had)

@@ -6,6 +6,7 @@ use Rattle.rd_program.proofs.LeftStores.{gives_back, has_both, on_ended_always, 
 use Rattle.rd_program.proofs.VisitLemmas.{lent_kept, lent_limits, limits_kept, serves_door}
 use Rattle.rd_program.proofs.LeftStoresByWords.{lasts_left, opened_left, serve_ended, serve_not_begun, unserved_left}
 use Rattle.rd_program.proofs.ServeLines.{both_lines, ends, not_listening, not_opened}
+use Rattle.rd_program.specs.World.{World}
 use Rattle.rd_program.proofs.serve.serve.Goals as goal
 
 pub returns-in_err-served-clause-refused : goal.returns-in_err-served-clause-refused
@@ -30,15 +31,15 @@ returns-in_err-desk-clause-refused g c =
 
 pub returns-in_err-served-clause-lasts : goal.returns-in_err-served-clause-lasts
 returns-in_err-served-clause-lasts g c =
-    unserved_left g.M.Disk.Store (g.M.Machine.left c.args.machine.now) (g.M.Machine.stands c.args.machine.now c.args.ask.store.now) (g.M.Machine.left c.release.new.self)
+    unserved_left g.M.Disk.Store (g.M.Machine.seen c.args.machine.now).left ((g.M.Machine.seen c.args.machine.now).stands c.args.ask.store.now) (g.M.Machine.seen c.release.new.self).left
     c.in_ok-desk.desk.store c.into_connection.result c.in_ok-desk.ensures.opened
     (c.into_connection.ensures.same ∙ c.into_store.ensures ∙ c.in_err-served.ensures.unserved) c.release.ensures.left
 
 pub returns-in_err-served-clause-left : goal.returns-in_err-served-clause-left
 returns-in_err-served-clause-left g c =
-    let was = g.M.Machine.left c.args.machine.now in
-    let stood = g.M.Machine.stands c.args.machine.now c.args.ask.store.now in
-    let left = g.M.Machine.left c.release.new.self in
+    let was = (g.M.Machine.seen c.args.machine.now).left in
+    let stood = (g.M.Machine.seen c.args.machine.now).stands c.args.ask.store.now in
+    let left = (g.M.Machine.seen c.release.new.self).left in
     let refused = serve_not_begun g.M.Disk.Store was stood left (place_of c.args.ask.place) (g.W.Write.contents c.args.output.now) (g.W.Write.contents c.serve_visits-served.new.output) _
     c.in_err-served.ensures.refused
     (opened_left g.M.Disk.Store was stood left c.in_ok-desk.desk.store c.into_connection.result c.in_ok-desk.ensures.opened
@@ -46,49 +47,49 @@ returns-in_err-served-clause-left g c =
 
 pub returns-clause-lasts : goal.returns-clause-lasts
 returns-clause-lasts g c =
-    lasts_left g.M.Disk.Store (g.M.Machine.left c.args.machine.now) (g.M.Machine.stands c.args.machine.now c.args.ask.store.now) (g.M.Machine.left c.release.new.self)
+    lasts_left g.M.Disk.Store (g.M.Machine.seen c.args.machine.now).left ((g.M.Machine.seen c.args.machine.now).stands c.args.ask.store.now) (g.M.Machine.seen c.release.new.self).left
     c.in_ok-desk.desk.store c.serve_visits-served.new.desk.store c.into_connection.result c.in_ok-desk.ensures.opened c.in_ok-served.ensures.lasts
     (c.into_connection.ensures.same ∙ c.into_store.ensures) c.release.ensures.left
 
 pub returns-clause-left : goal.returns-clause-left
 returns-clause-left g c =
-    serve_ended g.M.Disk.Store c.tell_ended.result (g.M.Machine.left c.args.machine.now) (g.M.Machine.stands c.args.machine.now c.args.ask.store.now)
-    (g.M.Machine.left c.release.new.self) c.in_ok-served.field-0.ended (place_of c.args.ask.place) c.in_ok-served.field-0.visits _ _ _
+    serve_ended g.M.Disk.Store c.tell_ended.result (g.M.Machine.seen c.args.machine.now).left ((g.M.Machine.seen c.args.machine.now).stands c.args.ask.store.now)
+    (g.M.Machine.seen c.release.new.self).left c.in_ok-served.field-0.ended (place_of c.args.ask.place) c.in_ok-served.field-0.visits _ _ _
     c.in_ok-served.ensures.listening c.tell_ended.ensures.refused
 
 pub returns-clause-back : goal.returns-clause-back
 returns-clause-back g c =
-    gives_back (g.M.Machine.shows c.args.machine.now) (g.M.Machine.left c.args.machine.now) (g.M.Machine.left c.release.new.self) _
+    gives_back (g.M.Machine.seen c.args.machine.now).shows (g.M.Machine.seen c.args.machine.now).left (g.M.Machine.seen c.release.new.self).left _
     (λ shows. c.release.ensures.back (subst (λ b. IsTrue b) (sym (c.serve_visits-served.ensures.shows ∙ c.open_desk.ensures.shows)) shows))
 
 pub returns-in_err-served-clause-back : goal.returns-in_err-served-clause-back
 returns-in_err-served-clause-back g c =
-    gives_back (g.M.Machine.shows c.args.machine.now) (g.M.Machine.left c.args.machine.now) (g.M.Machine.left c.release.new.self) _
+    gives_back (g.M.Machine.seen c.args.machine.now).shows (g.M.Machine.seen c.args.machine.now).left (g.M.Machine.seen c.release.new.self).left _
     (λ shows. c.release.ensures.back (subst (λ b. IsTrue b) (sym (c.serve_visits-served.ensures.shows ∙ c.open_desk.ensures.shows)) shows))
 
 pub returns-clause-visits : goal.returns-clause-visits
 returns-clause-visits g c =
     let at = place_of c.args.ask.place in
     serves_door g.M.Disk.Store g.M.Door.Door.told g.M.Door.Door.coming c.tell_ended.result c.in_ok-served.field-0 c.args.ask.count c.in_ok-desk.desk.zone c.args.ask.zone
-    (g.M.Machine.door c.open_desk.new.machine at) (g.M.Machine.door c.args.machine.now at) (g.M.Machine.door c.serve_visits-served.new.machine at)
-    (g.M.Machine.door c.release.new.self at) (g.M.Machine.stands c.args.machine.now c.args.ask.store.now) (g.M.Machine.left c.release.new.self)
+    ((g.M.Machine.seen c.open_desk.new.machine).doors at) ((g.M.Machine.seen c.args.machine.now).doors at) ((g.M.Machine.seen c.serve_visits-served.new.machine).doors at)
+    ((g.M.Machine.seen c.release.new.self).doors at) ((g.M.Machine.seen c.args.machine.now).stands c.args.ask.store.now) (g.M.Machine.seen c.release.new.self).left
     c.in_ok-desk.desk.store c.serve_visits-served.new.desk.store c.into_connection.result
-    c.in_ok-desk.ensures.zone (ap (λ d. d at) c.open_desk.ensures.door) (ap (λ d. d at) c.release.ensures.door) c.in_ok-desk.ensures.opened c.in_ok-served.ensures.lasts
+    c.in_ok-desk.ensures.zone (ap (λ d. d at) c.open_desk.ensures.door) (ap (λ d. d at) (ap (λ (w : World _ _). w.doors) c.release.ensures.frame)) c.in_ok-desk.ensures.opened c.in_ok-served.ensures.lasts
     (c.into_connection.ensures.same ∙ c.into_store.ensures) c.release.ensures.left c.in_ok-served.ensures.count c.tell_ended.ensures.count c.in_ok-served.ensures.visits
 
 pub returns-clause-limits : goal.returns-clause-limits
 returns-clause-limits g c =
-    limits_kept c.tell_ended.result (g.M.Machine.shows c.args.machine.now) (g.M.Machine.shows c.open_desk.new.machine) (g.M.Machine.door_limits c.serve_visits-served.new.machine)
-    (g.M.Machine.door_limits c.release.new.self) c.args.ask.timeouts c.open_desk.ensures.shows c.release.ensures.door_limits c.in_ok-served.ensures.limits
+    limits_kept c.tell_ended.result (g.M.Machine.seen c.args.machine.now).shows (g.M.Machine.seen c.open_desk.new.machine).shows (g.M.Machine.seen c.serve_visits-served.new.machine).limits
+    (g.M.Machine.seen c.release.new.self).limits c.args.ask.timeouts c.open_desk.ensures.shows (ap (λ (w : World _ _). w.limits) c.release.ensures.frame) c.in_ok-served.ensures.limits
 
 pub returns-clause-there : goal.returns-clause-there
 returns-clause-there g c =
-    on_ended_always c.tell_ended.result _ (has_both (g.M.Machine.shows c.args.machine.now) (g.M.Machine.stands c.args.machine.now c.args.ask.store.now) (g.M.Machine.left c.release.new.self) _
+    on_ended_always c.tell_ended.result _ (has_both (g.M.Machine.seen c.args.machine.now).shows ((g.M.Machine.seen c.args.machine.now).stands c.args.ask.store.now) (g.M.Machine.seen c.release.new.self).left _
     c.in_ok-desk.ensures.there (λ shows. c.release.ensures.back (subst (λ b. IsTrue b) (sym (c.serve_visits-served.ensures.shows ∙ c.open_desk.ensures.shows)) shows)))
 
 pub returns-in_err-served-clause-there : goal.returns-in_err-served-clause-there
 returns-in_err-served-clause-there g c =
-    on_ended_always c.from_residual-in_err-served.result _ (has_both (g.M.Machine.shows c.args.machine.now) (g.M.Machine.stands c.args.machine.now c.args.ask.store.now) (g.M.Machine.left c.release.new.self) _
+    on_ended_always c.from_residual-in_err-served.result _ (has_both (g.M.Machine.seen c.args.machine.now).shows ((g.M.Machine.seen c.args.machine.now).stands c.args.ask.store.now) (g.M.Machine.seen c.release.new.self).left _
     c.in_ok-desk.ensures.there (λ shows. c.release.ensures.back (subst (λ b. IsTrue b) (sym (c.serve_visits-served.ensures.shows ∙ c.open_desk.ensures.shows)) shows)))
 
 pub returns-in_err-desk-clause-there : goal.returns-in_err-desk-clause-there
@@ -96,13 +97,13 @@ returns-in_err-desk-clause-there g c = opening_fails c.from_residual.result c.in
 
 pub returns-clause-asked : goal.returns-clause-asked
 returns-clause-asked g c =
-    asked_then (g.M.Machine.wanted c.args.machine.now) (g.M.Machine.wanted c.open_desk.new.machine) (g.M.Machine.wanted c.release.new.self) c.args.ask.store.now c.open_desk.ensures.asked
-    (c.release.ensures.asked ∙ c.serve_visits-served.ensures.asked)
+    asked_then (g.M.Machine.seen c.args.machine.now).wanted (g.M.Machine.seen c.open_desk.new.machine).wanted (g.M.Machine.seen c.release.new.self).wanted c.args.ask.store.now c.open_desk.ensures.asked
+    ((ap (λ (w : World _ _). w.wanted) c.release.ensures.frame) ∙ c.serve_visits-served.ensures.asked)
 
 pub returns-in_err-served-clause-asked : goal.returns-in_err-served-clause-asked
 returns-in_err-served-clause-asked g c =
-    asked_then (g.M.Machine.wanted c.args.machine.now) (g.M.Machine.wanted c.open_desk.new.machine) (g.M.Machine.wanted c.release.new.self) c.args.ask.store.now c.open_desk.ensures.asked
-    (c.release.ensures.asked ∙ c.serve_visits-served.ensures.asked)
+    asked_then (g.M.Machine.seen c.args.machine.now).wanted (g.M.Machine.seen c.open_desk.new.machine).wanted (g.M.Machine.seen c.release.new.self).wanted c.args.ask.store.now c.open_desk.ensures.asked
+    ((ap (λ (w : World _ _). w.wanted) c.release.ensures.frame) ∙ c.serve_visits-served.ensures.asked)
 
 -- ---- the door that was lent
 
@@ -111,12 +112,12 @@ returns-in_err-desk-clause-lent g c = λ shows. inl (Keeps-refl _)
 
 pub returns-in_err-served-clause-lent : goal.returns-in_err-served-clause-lent
 returns-in_err-served-clause-lent g c =
-    lent_kept (g.M.Machine.shows c.args.machine.now) (g.M.Machine.shows c.open_desk.new.machine) (g.M.Machine.door_limits c.serve_visits-served.new.machine)
-    (g.M.Machine.door_limits c.release.new.self) (g.W.Write.contents c.args.output.now) (g.W.Write.contents c.serve_visits-served.new.output)
-    c.open_desk.ensures.shows c.release.ensures.door_limits c.serve_visits-served.ensures.lent
+    lent_kept (g.M.Machine.seen c.args.machine.now).shows (g.M.Machine.seen c.open_desk.new.machine).shows (g.M.Machine.seen c.serve_visits-served.new.machine).limits
+    (g.M.Machine.seen c.release.new.self).limits (g.W.Write.contents c.args.output.now) (g.W.Write.contents c.serve_visits-served.new.output)
+    c.open_desk.ensures.shows (ap (λ (w : World _ _). w.limits) c.release.ensures.frame) c.serve_visits-served.ensures.lent
 
 pub returns-clause-lent : goal.returns-clause-lent
 returns-clause-lent g c =
-    lent_limits (g.M.Machine.shows c.args.machine.now) (g.M.Machine.shows c.open_desk.new.machine) (g.M.Machine.door_limits c.serve_visits-served.new.machine)
-    (g.M.Machine.door_limits c.release.new.self) c.args.ask.timeouts (g.W.Write.contents c.args.output.now) (g.W.Write.contents c.tell_ended.new.output)
-    c.open_desk.ensures.shows c.release.ensures.door_limits c.in_ok-served.ensures.limits
+    lent_limits (g.M.Machine.seen c.args.machine.now).shows (g.M.Machine.seen c.open_desk.new.machine).shows (g.M.Machine.seen c.serve_visits-served.new.machine).limits
+    (g.M.Machine.seen c.release.new.self).limits c.args.ask.timeouts (g.W.Write.contents c.args.output.now) (g.W.Write.contents c.tell_ended.new.output)
+    c.open_desk.ensures.shows (ap (λ (w : World _ _). w.limits) c.release.ensures.frame) c.in_ok-served.ensures.limits

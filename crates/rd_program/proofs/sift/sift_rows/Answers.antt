@@ -12,7 +12,7 @@ loop-number-init g c = record {
   flushed = inl (Keeps-refl _);
   same = search rules;
   zone = search rules;
-  rows = sifted_none g.M.Disk.Store (g.M.Files.file_bytes c.args.machine.now) c.args.way c.args.giver.badge c.args.giver.day c.args.sheet.now (g.W.Write.contents c.args.output.now) c.args.desk.now.store
+  rows = sifted_none g.M.Disk.Store (g.M.Machine.seen c.args.machine.now).files c.args.way c.args.giver.badge c.args.giver.day c.args.sheet.now (g.W.Write.contents c.args.output.now) c.args.desk.now.store
       c.from_reader-reader.result c.next_row.new.reader c.in_ok-next_row.field-0 _ _ (search rules) c.in_ok-next_row.ensures.reads_on
       (record { source = search rules; state_is = search rules; config = search rules; untrimmed = search rules; ready = search rules; well = search rules })
       (c.in_ok-next_row.ensures.read (search rules) (search rules)) c.in_ok-next_row.ensures.kept (c.in_ok-next_row.ensures.ready (search rules)) (search rules) (search rules) c.new-shelf.ensures;
@@ -24,16 +24,16 @@ loop-number-preserved g c = record {
   flushed = inr c.in_ok-row.ensures.flushed;
   same = c.sift_fields.ensures.same ∙ c.loop-number.invariant.same;
   zone = c.sift_fields.ensures.zone ∙ c.loop-number.invariant.zone;
-  rows = subst (λ f. SiftedSoFar g.M.Disk.Store (g.M.Files.file_bytes c.args.machine.now) c.args.way c.args.giver.badge c.args.giver.day c.args.sheet.now (g.W.Write.contents c.args.output.now)
+  rows = subst (λ f. SiftedSoFar g.M.Disk.Store (g.M.Machine.seen c.args.machine.now).files c.args.way c.args.giver.badge c.args.giver.day c.args.sheet.now (g.W.Write.contents c.args.output.now)
       (g.W.Write.contents c.sift_fields.new.output) c.args.desk.now.store c.sift_fields.new.desk.store c.next_row-in-loop-number.new.reader (c.loop-number.number + 1) f c.sift_fields.new.shelf.images.items)
       (sym c.worse-fate.ensures)
-      (sifted_more g.M.Disk.Store (g.M.Files.file_bytes c.args.machine.now) c.args.way c.args.giver.badge c.args.giver.day c.args.sheet.now (g.W.Write.contents c.args.output.now) c.args.desk.now.store
+      (sifted_more g.M.Disk.Store (g.M.Machine.seen c.args.machine.now).files c.args.way c.args.giver.badge c.args.giver.day c.args.sheet.now (g.W.Write.contents c.args.output.now) c.args.desk.now.store
       c.loop-number.desk.store c.sift_fields.new.desk.store (g.W.Write.contents c.loop-number.output) (g.W.Write.contents c.sift_fields.new.output) c.loop-number.reader c.next_row-in-loop-number.new.reader
       c.loop-number.number c.loop-number.fate c.in_ok-row.row c.loop-number.shelf.images.items c.sift_fields.new.shelf.images.items c.in_ok-next_row-2.field-0 _ c.in_ok-next_row-2.ensures.reads_on
       c.loop-number.invariant.rows (c.in_ok-next_row-2.ensures.read c.loop-number.invariant.rows.at.untrimmed c.loop-number.invariant.rows.at.ready)
       c.in_ok-next_row-2.ensures.kept (c.in_ok-next_row-2.ensures.ready c.loop-number.invariant.rows.at.untrimmed) (search rules)
       (λ o. (sifts_lasts g.M.Disk.Store c.args.way.dry_run _ _ _ c.sift_fields.ensures.dry c.sift_fields.ensures.wet).was_open o)
-      (subst (λ m. SiftsOne g.M.Disk.Store (g.M.Files.file_bytes m) c.args.way c.args.giver.badge c.args.giver.day c.loop-number.number (fields_of c.next_row-in-loop-number.new.fields) c.in_ok-row.row
+      (subst (λ m. SiftsOne g.M.Disk.Store (g.M.Machine.seen m).files c.args.way c.args.giver.badge c.args.giver.day c.loop-number.number (fields_of c.next_row-in-loop-number.new.fields) c.in_ok-row.row
       c.loop-number.shelf.images.items c.sift_fields.new.shelf.images.items (g.W.Write.contents c.loop-number.output) (g.W.Write.contents c.sift_fields.new.output) c.loop-number.desk.store c.sift_fields.new.desk.store)
       c.loop-number.invariant.same c.in_ok-row.ensures.row));
   takes = sifts_then g.M.Disk.Store c.args.way.dry_run c.args.giver.badge c.args.giver.day _ c.args.desk.now.store c.loop-number.desk.store c.sift_fields.new.desk.store c.loop-number.invariant.takes
@@ -42,7 +42,7 @@ loop-number-preserved g c = record {
 
 pub returns-then-not-branch-2-clause-rows : goal.returns-then-not-branch-2-clause-rows
 returns-then-not-branch-2-clause-rows g c =
-    sifted_all g.M.Disk.Store (g.M.Files.file_bytes c.args.machine.now) c.args.way c.args.giver.badge c.args.giver.day c.args.sheet.now (g.W.Write.contents c.args.output.now) c.args.desk.now.store
+    sifted_all g.M.Disk.Store (g.M.Machine.seen c.args.machine.now).files c.args.way c.args.giver.badge c.args.giver.day c.args.sheet.now (g.W.Write.contents c.args.output.now) c.args.desk.now.store
     c.loop-number.desk.store (g.W.Write.contents c.loop-number.output) c.loop-number.reader c.next_row-in-loop-number.new.reader c.loop-number.number c.loop-number.fate
     c.loop-number.shelf.images.items c.in_ok-next_row-2.field-0 _ c.loop-number.invariant.rows
     (c.in_ok-next_row-2.ensures.read c.loop-number.invariant.rows.at.untrimmed c.loop-number.invariant.rows.at.ready)
@@ -73,7 +73,7 @@ returns-in_err-row-clause-refused g c =
 pub returns-in_err-next_row-2-clause-bad_sheet : goal.returns-in_err-next_row-2-clause-bad_sheet
 returns-in_err-next_row-2-clause-bad_sheet g c =
     passed_on c.from_residual-in_err-next_row-2.result c.in_err-next_row-2.field-0.0 _ c.from_residual-in_err-next_row-2.ensures.1
-    (due_if c.args.sheet.now c.in_err-next_row-2.field-0.0 (λ bad. sifted_no_sheet g.M.Disk.Store (g.M.Files.file_bytes c.args.machine.now) c.args.way c.args.giver.badge c.args.giver.day c.args.sheet.now
+    (due_if c.args.sheet.now c.in_err-next_row-2.field-0.0 (λ bad. sifted_no_sheet g.M.Disk.Store (g.M.Machine.seen c.args.machine.now).files c.args.way c.args.giver.badge c.args.giver.day c.args.sheet.now
     (g.W.Write.contents c.args.output.now) c.args.desk.now.store c.loop-number.desk.store (g.W.Write.contents c.loop-number.output) c.loop-number.reader c.next_row-in-loop-number.new.reader
     c.loop-number.number c.loop-number.fate c.loop-number.shelf.images.items c.loop-number.invariant.rows (c.in_err-next_row-2.ensures.length c.loop-number.invariant.rows.at.ready bad)))
 

@@ -9,7 +9,7 @@ invariant-loop-number g l = record {
   flushed : IsFlushed g.M.Files.flushed (g.W.Write.contents l.fn.output) (g.W.Write.contents l.output);
   same : l.machine ≡ l.fn.machine;
   zone : l.desk.zone ≡ l.fn.desk.zone;
-  rows : SiftedSoFar g.M.Disk.Store (g.M.Files.file_bytes l.fn.machine) l.way l.giver.badge l.giver.day l.sheet (g.W.Write.contents l.fn.output) (g.W.Write.contents l.output)
+  rows : SiftedSoFar g.M.Disk.Store (g.M.Machine.seen l.fn.machine).files l.way l.giver.badge l.giver.day l.sheet (g.W.Write.contents l.fn.output) (g.W.Write.contents l.output)
       l.fn.desk.store l.desk.store l.reader l.number l.fate l.shelf.images.items;
   takes : LeavesDesk g.M.Disk.Store (TakesUnlessDry l.way.dry_run l.giver.badge (λ day. day ≡ l.giver.day)) l.fn.desk.store l.desk.store;
 }

@@ -12,31 +12,31 @@ use Rattle.rd_program.proofs.sift.sift_sheet.Goals as goal
 pub returns-in_err-day-clause-takes : goal.returns-in_err-day-clause-takes
 returns-in_err-day-clause-takes g c =
     still_sifts g.M.Disk.Store c.args.ask.dry_run c.args.desk.now.store c.day_on_time.new.desk.store (sha256 c.args.ask.import.key.now)
-    (IsDayAt (moment_of c.args.ask.import.when.seconds (g.M.Machine.clock c.args.machine.now)) c.args.desk.now.zone)
+    (IsDayAt (moment_of c.args.ask.import.when.seconds (g.M.Machine.seen c.args.machine.now).clock) c.args.desk.now.zone)
     (still_same g.M.Disk.Store c.args.desk.now.store c.day_on_time.new.desk.store c.day_on_time.ensures.reads)
 
 pub returns-in-Err-clause-takes : goal.returns-in-Err-clause-takes
 returns-in-Err-clause-takes g c =
     still_sifts g.M.Disk.Store c.args.ask.dry_run c.args.desk.now.store c.day_on_time.new.desk.store (sha256 c.args.ask.import.key.now)
-    (IsDayAt (moment_of c.args.ask.import.when.seconds (g.M.Machine.clock c.args.machine.now)) c.args.desk.now.zone)
+    (IsDayAt (moment_of c.args.ask.import.when.seconds (g.M.Machine.seen c.args.machine.now).clock) c.args.desk.now.zone)
     (still_same g.M.Disk.Store c.args.desk.now.store c.day_on_time.new.desk.store c.day_on_time.ensures.reads)
 
 pub returns-in_err-sift_rows-clause-takes : goal.returns-in_err-sift_rows-clause-takes
 returns-in_err-sift_rows-clause-takes g c =
     let fits : FitsSigned w32 c.in_ok-day.day = search rules in
     sifts_from g.M.Disk.Store c.args.ask.dry_run c.args.desk.now.store c.day_on_time.new.desk.store c.sift_rows.new.desk.store _ (sha256 c.args.ask.import.key.now) _
-    (IsDayAt (moment_of c.args.ask.import.when.seconds (g.M.Machine.clock c.args.machine.now)) c.args.desk.now.zone)
+    (IsDayAt (moment_of c.args.ask.import.when.seconds (g.M.Machine.seen c.args.machine.now).clock) c.args.desk.now.zone)
     (still_same g.M.Disk.Store c.args.desk.now.store c.day_on_time.new.desk.store c.day_on_time.ensures.reads)
-    (subst (IsDayAt (moment_of c.args.ask.import.when.seconds (g.M.Machine.clock c.args.machine.now)) c.args.desk.now.zone) (sym (to_z-of_z w32 c.in_ok-day.day fits)) c.in_ok-day.ensures.day)
+    (subst (IsDayAt (moment_of c.args.ask.import.when.seconds (g.M.Machine.seen c.args.machine.now).clock) c.args.desk.now.zone) (sym (to_z-of_z w32 c.in_ok-day.day fits)) c.in_ok-day.ensures.day)
     c.digest-badge.ensures c.sift_rows.ensures.takes
 
 pub returns-clause-takes : goal.returns-clause-takes
 returns-clause-takes g c =
     let fits : FitsSigned w32 c.in_ok-day.day = search rules in
     sifts_from g.M.Disk.Store c.args.ask.dry_run c.args.desk.now.store c.day_on_time.new.desk.store c.sift_rows.new.desk.store _ (sha256 c.args.ask.import.key.now) _
-    (IsDayAt (moment_of c.args.ask.import.when.seconds (g.M.Machine.clock c.args.machine.now)) c.args.desk.now.zone)
+    (IsDayAt (moment_of c.args.ask.import.when.seconds (g.M.Machine.seen c.args.machine.now).clock) c.args.desk.now.zone)
     (still_same g.M.Disk.Store c.args.desk.now.store c.day_on_time.new.desk.store c.day_on_time.ensures.reads)
-    (subst (IsDayAt (moment_of c.args.ask.import.when.seconds (g.M.Machine.clock c.args.machine.now)) c.args.desk.now.zone) (sym (to_z-of_z w32 c.in_ok-day.day fits)) c.in_ok-day.ensures.day)
+    (subst (IsDayAt (moment_of c.args.ask.import.when.seconds (g.M.Machine.seen c.args.machine.now).clock) c.args.desk.now.zone) (sym (to_z-of_z w32 c.in_ok-day.day fits)) c.in_ok-day.ensures.day)
     c.digest-badge.ensures c.sift_rows.ensures.takes
 
 pub returns-clause-sifted : goal.returns-clause-sifted
@@ -44,21 +44,21 @@ returns-clause-sifted g c =
     let fits : FitsSigned w32 c.in_ok-day.day = search rules in
     let opened = c.day_on_time.new.machine in
     let path = c.args.ask.import.sheet.now in
-    let read = subst (λ b. IfSome (g.M.Files.sheet_bytes opened path) (λ sheet. b ≡ sheet)) (sym c.as_slice.ensures.value) c.in-Ok.ensures.bytes in
-    sifted_on g.M.Disk.Store (g.M.Files.file_bytes c.args.machine.now) (g.M.Files.file_bytes c.read_sheet.new.self) (way_asked c.args.ask)
-    (IsDayAt (moment_of c.args.ask.import.when.seconds (g.M.Machine.clock c.args.machine.now)) c.args.desk.now.zone)
-    (g.M.Files.sheet_bytes c.args.machine.now path) (g.W.Write.contents c.args.output.now) (g.W.Write.contents c.sift_rows.new.output) c.ended_by.result
+    let read = subst (λ b. IfSome ((g.M.Machine.seen opened).sheets path) (λ sheet. b ≡ sheet)) (sym c.as_slice.ensures.value) c.in-Ok.ensures.bytes in
+    sifted_on g.M.Disk.Store (g.M.Machine.seen c.args.machine.now).files (g.M.Machine.seen c.sheet_at.new.machine).files (way_asked c.args.ask)
+    (IsDayAt (moment_of c.args.ask.import.when.seconds (g.M.Machine.seen c.args.machine.now).clock) c.args.desk.now.zone)
+    ((g.M.Machine.seen c.args.machine.now).sheets path) (g.W.Write.contents c.args.output.now) (g.W.Write.contents c.sift_rows.new.output) c.ended_by.result
     c.digest-badge.result (sha256 c.args.ask.import.key.now) c.as_slice.result.now _ c.args.desk.now.store c.day_on_time.new.desk.store
-    c.sift_rows.new.desk.store c.in_ok-sift_rows.field-0 (ap g.M.Files.file_bytes c.read_sheet.ensures.same ∙ c.day_on_time.ensures.files.0)
+    c.sift_rows.new.desk.store c.in_ok-sift_rows.field-0 (ap (λ m. (g.M.Machine.seen m).files) c.sheet_at.ensures.same ∙ c.day_on_time.ensures.files.0)
     (still_same g.M.Disk.Store c.args.desk.now.store c.day_on_time.new.desk.store c.day_on_time.ensures.reads) (λ o. c.sift_rows.ensures.takes.lasts.was_open o)
-    (subst (IsDayAt (moment_of c.args.ask.import.when.seconds (g.M.Machine.clock c.args.machine.now)) c.args.desk.now.zone) (sym (to_z-of_z w32 c.in_ok-day.day fits)) c.in_ok-day.ensures.day)
+    (subst (IsDayAt (moment_of c.args.ask.import.when.seconds (g.M.Machine.seen c.args.machine.now).clock) c.args.desk.now.zone) (sym (to_z-of_z w32 c.in_ok-day.day fits)) c.in_ok-day.ensures.day)
     c.digest-badge.ensures
     (subst (λ shown. IfSome shown (λ sheet. c.as_slice.result.now ≡ sheet)) (ap (λ sheets. sheets path) c.day_on_time.ensures.files.1) read)
     c.in_ok-sift_rows.ensures.rows c.ended_by.ensures.ended
 
 pub returns-clause-on_time : goal.returns-clause-on_time
 returns-clause-on_time g c = λ held.
-    on_time_from g.M.Disk.Store c.args.desk.now.store c.day_on_time.new.desk.store c.sift_rows.new.desk.store c.sift_rows.ensures.takes.lasts (g.M.Machine.clock c.args.machine.now) c.args.desk.now.zone
+    on_time_from g.M.Disk.Store c.args.desk.now.store c.day_on_time.new.desk.store c.sift_rows.new.desk.store c.sift_rows.ensures.takes.lasts (g.M.Machine.seen c.args.machine.now).clock c.args.desk.now.zone
     c.in_ok-day.day c.ended_by.result c.args.ask.import.when.seconds c.args.ask.import.when.is_trusting held c.in_ok-day.ensures.day c.in_ok-day.ensures.on_time
 
 pub returns-in_err-day-clause-clock : goal.returns-in_err-day-clause-clock

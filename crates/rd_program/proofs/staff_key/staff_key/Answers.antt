@@ -4,7 +4,7 @@ use Rattle.rd_program.proofs.staff_key.staff_key.Goals as goal
 
 pub returns-clause-opens : goal.returns-clause-opens
 returns-clause-opens g c =
-    device_opens c.write_whole.result g.M.Disk.Store (g.M.Machine.stands c.args.machine.now c.args.ask.store.now) (g.M.Machine.left c.put_in_store.new.machine) c.write_whole.ensures.device
+    device_opens c.write_whole.result g.M.Disk.Store ((g.M.Machine.seen c.args.machine.now).stands c.args.ask.store.now) (g.M.Machine.seen c.put_in_store.new.machine).left c.write_whole.ensures.device
 
 pub returns-in_err-put_in_store-clause-refused : goal.returns-in_err-put_in_store-clause-refused
 returns-in_err-put_in_store-clause-refused g c =

@@ -1,0 +1,56 @@
+-- What a machine shows of itself, as far as it shows it.
+use Rattle.std.specs.Prelude.{ℕ, ℤ, Bool, List, None, Option, false}
+use Rattle.sqlite.specs.Held.{Held}
+use Rattle.rd_messages.specs.declared.pace.TimeLimits.{TimeLimits}
+use Rattle.rd_commands.specs.Serving.{Place}
+
+-- a connection that was asked for: to the store in the file at a path, or to a new store, in a file there that is new
+pub data Wanted : Type 0 where
+  StoreAt : List ℕ → Wanted
+  NewAt : List ℕ → Wanted
+
+-- A file that a machine made: in this folder, under this name, with these bytes.
+pub record Made : Type 0 where
+  pub folder : List ℕ
+  pub name : List ℕ
+  pub bytes : List ℕ
+
+-- What a machine shows: whether it shows its connections; the moment that its clock shows next; the bytes that it gives of
+-- each file and of each sheet; the connection that stands for the store at each path, and the one that it took back last;
+-- the same for new stores; the connections that it was asked for, for each whether a file that is new was to have sums, and
+-- the new stores, each with its sums or without, the latest first; the door at each place, and how long visitors may take
+-- at the one that it lent last; and the files that it made, the earliest first.
+pub record World (S D : Type 0) : Type 0 where
+  pub shows : Bool
+  pub clock : Option ℤ
+  pub files : List ℕ → Option (List ℕ)
+  pub sheets : List ℕ → Option (List ℕ)
+  pub stands : List ℕ → Option (Held S)
+  pub left : Option (Held S)
+  pub fresh : List ℕ → Option (Held S)
+  pub made : Option (Held S)
+  pub wanted : Option (List Wanted)
+  pub sums : Option (List Bool)
+  pub new_stores : Option (List (List ℕ × Bool))
+  pub doors : Place → Option D
+  pub limits : Option TimeLimits
+  pub written : Option (List Made)
+
+-- a machine that shows nothing
+abbrev pub nothing_shown : {S D : Type 0} → World S D
+nothing_shown = record {
+  shows = false;
+  clock = None;
+  files = λ path. None;
+  sheets = λ path. None;
+  stands = λ path. None;
+  left = None;
+  fresh = λ path. None;
+  made = None;
+  wanted = None;
+  sums = None;
+  new_stores = None;
+  doors = λ place. None;
+  limits = None;
+  written = None;
+}
