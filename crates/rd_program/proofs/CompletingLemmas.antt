@@ -1,6 +1,5 @@
 -- What is asked for once it is whole is alike what the words ask for.
-use Rattle.std.proofs.Common.{◌≡◌, ◌≢◌, ◌≤◌, ◌+◌, ◌∙◌, ◌⊎◌, ℕ, ℤ, Err, IfErr, List, None, Ok, Option, Result, Some, arith, codes, inl, inr, length, refl, subst, sym, IfOk, option_map, pos}
-use Rattle.std.specs.Prelude.{⊤}
+use Rattle.std.proofs.Common.{◌≡◌, ◌≢◌, ◌≤◌, ◌+◌, ◌∙◌, ◌⊎◌, ℕ, ℤ, Err, IfErr, List, None, Ok, Option, Result, Some, arith, codes, inl, inr, length, refl, subst, sym, option_map, pos}
 use Rattle.std.specs.Borrow.{Bor}
 use Rattle.clap.specs.Words.{Row, Text}
 use Rattle.rd_geometry.specs.Kinds.{size_of}
@@ -22,8 +21,6 @@ use Rattle.rd_commands.specs.declared.words.OneQuestionAsk.{OneQuestionAsk}
 use Rattle.rd_commands.specs.declared.words.SiftAsk.{SiftAsk}
 use Rattle.rd_commands.specs.declared.words.Ask.TheVariants.{Copy, Extract, File, Files, Import, Init, OneQuestion, Serve, Sift, StaffKey}
 use Rattle.rd_program.specs.Completing.{AreOperands, Completes, IsDated, IsKeyAt, IsKeyRead, IsKeyed, IsKeyedBy, IsZoneRead, IsZoned, IsZonedBy, with_key, with_moment, with_zone}
-use Rattle.rd_program.specs.Extracting.{ExtractsBy}
-use Rattle.rd_program.specs.World.{Made}
 use Rattle.rd_commands.proofs.ReadLimits.{reads_after}
 use Rattle.rd_program.proofs.Plain.{extraction_plain, image_plain}
 
@@ -143,22 +140,6 @@ kept_alike Kept (Err refusal) new old rows files kept = λ one. elim (kept one) 
   | inr (inl tells) ↦ inr (inl (rows tells))
   | inr (inr extracts) ↦ inr (inr (files extracts))
 ]
-
--- ---- files of an image in a folder
-
--- what reads nothing makes none of them
-pub extracts_none : (files : List ℕ → Option (List ℕ)) (input : Option (List ℕ)) (before after : Option (List Made)) (out written : Option (List ℕ)) (ask : Ask) (result : Result Done Refusal)
-    → most_read ask ≡ 0 → ExtractsBy files input before after out written ask result
-extracts_none files input before after out written (Extract ask) result none = absurd (omega (arith, none))
-extracts_none files input before after out written (File ask) result none = tt
-extracts_none files input before after out written (Files ask) result none = tt
-extracts_none files input before after out written (Init ask) result none = tt
-extracts_none files input before after out written (Serve ask) result none = tt
-extracts_none files input before after out written (Import ask) result none = tt
-extracts_none files input before after out written (Sift ask) result none = tt
-extracts_none files input before after out written (OneQuestion ask) result none = tt
-extracts_none files input before after out written (StaffKey ask) result none = tt
-extracts_none files input before after out written (Copy ask) result none = tt
 
 -- ---- from the operands to what is whole
 

@@ -16,13 +16,10 @@ use Rattle.rd_store.specs.declared.faults.CreateFault.TheVariants as create
 use Rattle.rd_commands.specs.Refusals.{status_of}
 use Rattle.rd_commands.specs.declared.refusal.Refusal.{Refusal}
 use Rattle.rd_commands.specs.declared.refusal.Refusal.TheVariants.{Device, Exists, NoMemory, Store}
-use Rattle.rd_commands.specs.declared.words.Ask.{Ask}
-use Rattle.rd_commands.specs.declared.words.Ask.TheVariants.{Copy}
-use Rattle.rd_commands.specs.Asks.{IsCopyAsk}
-use Rattle.rd_program.specs.Copying.{AsksNew, AsksNoOtherNew, CopiesBy, CopiesTo, IfAll, IsCopyRefusal, LeavesCopy, LeavesNew, LeavesNoPart, LeavesOldOrStood, LeavesTarget, MakesCopy, NotCopied, OpensDesk, RefusesCopy, RunsCopy}
+use Rattle.rd_program.specs.Copying.{AsksNew, AsksNoOtherNew, CopiesTo, IfAll, IsCopyRefusal, LeavesCopy, LeavesNew, LeavesNoPart, LeavesOldOrStood, LeavesTarget, MakesCopy, NotCopied, OpensDesk, RefusesCopy}
 use Rattle.rd_program.specs.Faults.{refusal_to_create}
 use Rattle.rd_program.specs.Inits.{IsInitRefusal}
-use Rattle.rd_program.specs.Leaves.{GivesBack, HasBoth, IfBoth, IsSame, Leaves, LeavesBy, LeavesDesk, LeavesNone, LeavesStore, NamesOpening}
+use Rattle.rd_program.specs.Leaves.{GivesBack, HasBoth, IfBoth, IsSame, Leaves, LeavesDesk, LeavesNone, LeavesStore, NamesOpening}
 use Rattle.rd_program.specs.Serving.{IsOpenRefusal}
 use Rattle.rd_program.specs.Showing.{EndsWith}
 use Rattle.rd_program.proofs.LeftStores.{desk_left, none_still, opening_is_3}
@@ -288,23 +285,3 @@ asks_between old mid new last path summed Holds same_old same_last asks holds =
 pub asks_no_new : (old new : Option (List (List ℕ × Bool))) (path : List ℕ) (summed : Bool) (Holds : Type 0) → new ≡ old → AsksNoOtherNew old path summed new Holds
 asks_no_new None new path summed Holds same = tt
 asks_no_new (Some before) new path summed Holds same = inl same
-
--- ---- by what is asked for
-
-module _ {S : Type 0} (g : Ghosts S) (shows : Bool) (stands : List ℕ → Option (Held S)) (left was : Option (Held S)) (fresh : List ℕ → Option (Held S)) (made : Option (Held S))
-    (before after : Option (List (List ℕ × Bool))) (out written : Option (List ℕ)) (store target : List ℕ) (summed : Bool) where
-  -- it runs as the words say
-  pub copies_by : {T : Type 0} (ask : Ask) (result : Result T Refusal) → IsCopyAsk store target summed ask → CopiesBy g shows stands left was fresh made before after out written ask result
-      → RunsCopy g shows (stands store) left was (fresh target) made out written result × AsksNoOtherNew before target summed after (EndsWith (stands store) left (OpensDesk g))
-  copies_by (Copy ask) result asks by =
-      subst (λ t. RunsCopy g shows (stands store) left was (fresh t) made out written result × AsksNoOtherNew before t summed after (EndsWith (stands store) left (OpensDesk g))) asks.target_is
-      (subst (λ s. RunsCopy g shows (stands s) left was (fresh ask.target.now) made out written result
-      × AsksNoOtherNew before ask.target.now summed after (EndsWith (stands s) left (OpensDesk g))) asks.store_is
-      (by.0, subst (λ b. AsksNoOtherNew before ask.target.now b after (EndsWith (stands ask.store.now) left (OpensDesk g))) asks.sums_are by.1))
-  copies_by ask result asks by = absurd asks
-
-module _ {S : Type 0} (g : Ghosts S) (clock : _) (was : Option (Held S)) (stands : List ℕ → Option (Held S)) (new : Option (Held S)) where
-  pub copy_leaves : (ask : Ask) (store target : List ℕ) (summed : Bool) → IsCopyAsk store target summed ask → LeavesBy g clock was stands new ask
-      → Leaves was (stands store) new (LeavesStore g IsSame)
-  copy_leaves (Copy ask) store target summed asks leaves = subst (λ s. Leaves was (stands s) new (LeavesStore g IsSame)) asks.store_is leaves
-  copy_leaves ask store target summed asks leaves = absurd asks

@@ -1,15 +1,10 @@
 -- The files of an image in a folder, by what is asked for.
-use Rattle.std.proofs.Common.{◌≡◌, ◌≢◌, ◌⊎◌, ℕ, IfErr, IfSome, List, Option, Result, Ok, Err, OnOk, arith, inl, inr, subst, sym}
+use Rattle.std.proofs.Common.{◌≡◌, ◌≢◌, ◌⊎◌, IfErr, Result, Ok, Err, arith, inl, inr, subst, sym}
 use Rattle.rd_commands.specs.Asks.{IsExtraction, TellsInRows}
-use Rattle.rd_commands.specs.RefusalLines.{whole}
 use Rattle.rd_commands.specs.Refusals.{status_of}
-use Rattle.rd_commands.specs.declared.done.Done.{Done}
 use Rattle.rd_commands.specs.declared.refusal.Refusal.{Refusal}
 use Rattle.rd_commands.specs.declared.words.Ask.{Ask}
-use Rattle.rd_commands.specs.declared.words.Ask.TheVariants.{Extract}
-use Rattle.rd_commands.specs.declared.words.ExtractAsk.{ExtractAsk}
-use Rattle.rd_program.specs.Extracting.{Extracts, ExtractsBy, IsFilesRefusal, OfImage, RefusesExtract}
-use Rattle.rd_program.specs.World.{Made}
+use Rattle.rd_program.specs.Extracting.{IsFilesRefusal}
 
 -- a refusal of it is no mistake in the words
 pub files_never : (refusal : Refusal) → IsFilesRefusal refusal → status_of refusal ≢ 2
@@ -23,12 +18,3 @@ pub files_kept : {T : Type 0} (ended : Result T Refusal) (Kept : Type 0) (ask : 
     → IfErr ended (λ refusal. status_of refusal ≡ 1 → Kept ⊎ (TellsInRows ask ⊎ IsExtraction ask))
 files_kept (Ok value) Kept ask is = tt
 files_kept (Err refusal) Kept ask is = λ one. inr (inr is)
-
--- what it does
-pub extracted_by : {T : Type 0} (files : List ℕ → Option (List ℕ)) (input : Option (List ℕ)) (old new : Option (List Made)) (out written : Option (List ℕ)) (ask : ExtractAsk)
-    (ended : Result T Refusal) (result : Result Done Refusal) → result ≡ whole ended
-    → OnOk ended (OfImage files input ask.image.image.now (λ image. Extracts ask.image.kind image ask.folder.now old new out written))
-    → IfErr ended (λ refusal. OfImage files input ask.image.image.now (λ image. RefusesExtract ask.image.kind image ask.folder.now old new out written refusal))
-    → ExtractsBy files input old new out written (Extract ask) result
-extracted_by files input old new out written ask (Ok value) result is done refused = subst (ExtractsBy files input old new out written (Extract ask)) (sym is) done
-extracted_by files input old new out written ask (Err refusal) result is done refused = subst (ExtractsBy files input old new out written (Extract ask)) (sym is) refused

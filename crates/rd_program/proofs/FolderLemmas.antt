@@ -1,9 +1,9 @@
 -- The files of an image that are made in a folder, one after another.
 use Rattle.std.proofs.Common.{◌≡◌, ◌≢◌, ◌∙◌, ◌++◌, ◌∷◌, [], ◌+◌, ◌<◌, ◌≤◌, ℕ, IfSome, List, None, Option, Some, ap, append-nil, append_assoc, arith, codes, drop, false, get_or, inl, inr, length, map, refl, subst, sym, take, true}
-use Rattle.std.specs.Io.KnownBytes.{Appends, Keeps}
+use Rattle.std.specs.Io.KnownBytes.{Appends}
 use Rattle.std.specs.List.{concat, filter}
 use Rattle.std.specs.Prelude.{cond}
-use Rattle.std.proofs.KnownBytes.{Appends-nil, Appends-trans, Keeps-refl}
+use Rattle.std.proofs.KnownBytes.{Appends-trans, Keeps-refl}
 use Rattle.std.proofs.lemmas.List.{length-take, map-append, take-append-drop, take_all}
 use Rattle.std.proofs.lemmas.List.Elements.{filter-append, filter_more}
 use Rattle.std.proofs.lemmas.List.Folds.{concat-append}
@@ -124,14 +124,6 @@ pub makes_same : (kind : Kind) (image folder : List ℕ) (files : List Found) (n
     → MakesFiles kind image folder (filter is_given (take (n + 1) files)) old new out after
 makes_same kind image folder files n file old new out after inside is given makes =
     subst (λ l. MakesFiles kind image folder l old new out after) (sym (given_same files n file inside is given)) makes
-
--- before the first none is made
-pub makes_none : (kind : Kind) (image folder : List ℕ) (old : Option (List Made)) (out : Option (List ℕ)) → MakesFiles kind image folder [] old old out out
-makes_none kind image folder old out = record { made = none old; lines = Appends-nil out }
-  where
-    none : (made : Option (List Made)) → MakesAll made made []
-    none None = tt
-    none (Some before) = (ap Some (sym (append-nil before)), tt)
 
 -- ---- at the end
 

@@ -1,5 +1,5 @@
 -- The lines of an import.
-use Rattle.std.proofs.Common.{◌≡◌, ◌≢◌, ◌⊎◌, ◌≤◌, ℕ, Bool, List, [], ◌∷◌, ◌++◌, Option, Result, Ok, Err, IfErr, IfOk, OnOk, inl, inr, refl, subst, sym, arith, codes}
+use Rattle.std.proofs.Common.{◌≡◌, ◌≢◌, ℕ, List, [], ◌∷◌, ◌++◌, Option, Result, Ok, Err, IfErr, IfOk, OnOk, inl, inr, refl, subst, sym, arith, codes}
 use Rattle.std.proofs.lemmas.List.Elements.{All-nil, All-push, All-weaker}
 use Rattle.std.proofs.lemmas.List.Folds.{concat-append}
 use Rattle.std.specs.List.{concat}
@@ -8,27 +8,21 @@ use Rattle.std.specs.Io.KnownBytes.{Appends}
 use Rattle.rd_protocol.specs.declared.refusal.Refusal.{Refusal as DeskRefusal}
 use Rattle.rd_protocol.specs.declared.response.Response.{Response}
 use Rattle.rd_protocol.specs.declared.response.Response.TheVariants.{Refused}
-use Rattle.rd_geometry.specs.declared.kind.Kind.{Kind}
 use Rattle.rd_commands.specs.Asks.{TellsInRows, TellsOnOutput}
-use Rattle.rd_commands.specs.Commands.{AsksCopy, AsksInit, AsksServe, AsksStaffKey, IsAskOf, IsImport}
-use Rattle.rd_commands.specs.Serving.{Place}
-use Rattle.rd_program.specs.Importing.{GainsFront, GainsFrontOfLine, GainsLine, GainsLines, IsDoneLine, IsImportRefusal, IsRowLine, IsRowRefusal, RefusesImport, RefusesRow, RefusesRows, TellsAnswer, TellsRow, TellsRows, bad_row_line, accession_line, done_by, word_of}
+use Rattle.rd_program.specs.Importing.{GainsFront, GainsFrontOfLine, GainsLine, GainsLines, IsDoneLine, IsRowLine, IsRowRefusal, RefusesRow, RefusesRows, TellsAnswer, TellsRow, TellsRows, accession_line, done_by, word_of}
 use Rattle.rd_commands.specs.Output.{AppendsPart}
-use Rattle.rd_commands.specs.Refusals.{IsDeviceOrMemory, refusal_for, status_of}
+use Rattle.rd_commands.specs.Refusals.{IsDeviceOrMemory, refusal_for}
 use Rattle.rd_program.specs.Leaves.{OnEnded}
-use Rattle.rd_program.specs.Serving.{IsOpenRefusal}
 use Rattle.rd_commands.specs.Sheets.{IsReadRefusal}
 use Rattle.rd_commands.specs.RefusalLines.{both, whole}
-use Rattle.rd_commands.specs.Words.{AsksCat, AsksList}
 use Rattle.rd_commands.specs.declared.done.Done.{Done}
 use Rattle.rd_commands.specs.declared.done.Done.TheVariants.{InPart, Whole}
 use Rattle.rd_commands.specs.declared.files.MachineFault.{MachineFault}
 use Rattle.rd_commands.specs.declared.files.MachineFault.TheVariants as machine_fault
 use Rattle.rd_commands.specs.declared.refusal.Refusal.{Refusal}
-use Rattle.rd_commands.specs.declared.refusal.Refusal.TheVariants.{BadSheet, Clock, Device, Inconsistent, NoMemory, NotADesk, Store, Version}
+use Rattle.rd_commands.specs.declared.refusal.Refusal.TheVariants.{Device, NoMemory}
 use Rattle.rd_commands.specs.declared.words.Ask.{Ask}
-use Rattle.rd_commands.specs.declared.words.Ask.TheVariants.{Copy, Extract, File, Files, Import, Init, OneQuestion, Serve, Sift, StaffKey}
-use Rattle.rd_program.specs.Rows.{TakesRows}
+use Rattle.rd_commands.specs.declared.words.Ask.TheVariants.{Import, OneQuestion, Sift}
 use Rattle.rd_commands.proofs.WriterLemmas.{none_written, part_after, piece_more}
 
 -- ---- lines
@@ -95,19 +89,10 @@ pub accession_refused : (acc : ℕ) (word : List ℕ) (refusal : Refusal) (old n
     → RefusesRow old new refusal
 accession_refused acc word refusal old new is part = (of_device refusal is, accession_front acc word old new part)
 
-pub bad_refused : (number : ℕ) (refusal : Refusal) (old new : Option (List ℕ)) → IsDeviceOrMemory refusal → AppendsPart old new (bad_row_line number)
-    → RefusesRow old new refusal
-bad_refused number refusal old new is part =
-    (of_device refusal is, record { line = bad_row_line number; is = inr (number, refl); gained = part })
-
 -- what the machine fails for
 pub machine_failed : (fault : MachineFault) (refusal : Refusal) → refusal ≡ refusal_for Device fault → IsRowRefusal refusal
 machine_failed machine_fault.Failed refusal is = inl is
 machine_failed machine_fault.NoMemory refusal is = inr (inl is)
-
--- a failure before the line
-pub row_not_told : (refusal : Refusal) (old : Option (List ℕ)) → IsRowRefusal refusal → RefusesRow old old refusal
-row_not_told refusal old is = (is, none_of_line old)
 
 -- what is told of an answer is the line of a row
 pub answer_row : {X : Type 0} (acc : ℕ) (r : Result Response X) (told : Result Done Refusal) (old new : Option (List ℕ))
@@ -138,32 +123,6 @@ ends_between done refusal old new rows (inl is) = inl (is, rows_of done old new 
 ends_between done refusal old new rows (inr (inl is)) = inr (inl is, front_kept old new (rows_of done old new rows))
 ends_between done refusal old new rows (inr (inr is)) = inr (inr (inl is), front_kept old new (rows_of done old new rows))
 
--- ---- refusals
-
--- no refusal of an import is one of its words
-pub import_never : (refusal : Refusal) (old new : Option (List ℕ)) → RefusesImport old new refusal → status_of refusal ≢ 2
-import_never refusal old new (inl (inl bad)) = λ two. let is : status_of BadSheet ≡ 2 = subst (λ r. status_of r ≡ 2) bad.0 two in omega arith
-import_never refusal old new (inl (inr row)) = of_row row.0
-  where
-    of_row : IsRowRefusal refusal → status_of refusal ≢ 2
-    of_row (inl is) = λ two. let three : status_of Device ≡ 2 = subst (λ r. status_of r ≡ 2) is two in omega arith
-    of_row (inr (inl is)) = λ two. let three : status_of NoMemory ≡ 2 = subst (λ r. status_of r ≡ 2) is two in omega arith
-    of_row (inr (inr is)) = λ two. let three : status_of Store ≡ 2 = subst (λ r. status_of r ≡ 2) is two in omega arith
-import_never refusal old new (inr begun) = of_begin begun.0
-  where
-    of_open : IsOpenRefusal refusal → status_of refusal ≢ 2
-    of_open (inl is) = λ two. let three : status_of NotADesk ≡ 2 = subst (λ r. status_of r ≡ 2) is two in omega arith
-    of_open (inr (inl is)) = λ two. let three : status_of Version ≡ 2 = subst (λ r. status_of r ≡ 2) is two in omega arith
-    of_open (inr (inr (inl is))) = λ two. let three : status_of Inconsistent ≡ 2 = subst (λ r. status_of r ≡ 2) is two in omega arith
-    of_open (inr (inr (inr (inl is)))) = λ two. let three : status_of Store ≡ 2 = subst (λ r. status_of r ≡ 2) is two in omega arith
-    of_open (inr (inr (inr (inr is)))) = λ two. let three : status_of NoMemory ≡ 2 = subst (λ r. status_of r ≡ 2) is two in omega arith
-
-    of_begin : IsImportRefusal refusal → status_of refusal ≢ 2
-    of_begin (inl opened) = of_open opened
-    of_begin (inr (inl (inl is))) = λ two. let three : status_of Clock ≡ 2 = subst (λ r. status_of r ≡ 2) is two in omega arith
-    of_begin (inr (inl (inr is))) = λ two. let three : status_of NoMemory ≡ 2 = subst (λ r. status_of r ≡ 2) is two in omega arith
-    of_begin (inr (inr is)) = λ two. let three : status_of Device ≡ 2 = subst (λ r. status_of r ≡ 2) is two in omega arith
-
 -- ---- what was done whole
 
 pub ok_whole : {T : Type 0} (P : Type 0) (ended : Result T Refusal) (r : Result Done Refusal) → r ≡ whole ended → OnOk ended P → OnOk r P
@@ -185,19 +144,6 @@ whole_is P (Err refusal) r is = subst (λ x. IfOk x (λ done. done ≡ InPart �
 
 -- ---- what is asked for
 
--- where words ask for an import, an import is asked for
-pub import_tells : (words : List (List ℕ)) (ask : Ask) → IsAskOf words ask → IsImport words → TakesRows ask
-import_tells words (File ask) is asks = is.import asks.0 asks.1 asks.2 asks.3 asks.4 asks.5
-import_tells words (Files ask) is asks = is.import asks.0 asks.1 asks.2 asks.3 asks.4 asks.5
-import_tells words (Init ask) is asks = is.import asks.0 asks.1 asks.2 asks.3 asks.4 asks.5
-import_tells words (Serve ask) is asks = is.import asks.0 asks.1 asks.2 asks.3 asks.4 asks.5
-import_tells words (Import ask) is asks = tt
-import_tells words (Sift ask) is asks = is.import asks.0 asks.1 asks.2 asks.3 asks.4 asks.5
-import_tells words (Extract ask) is asks = is.import asks.0 asks.1 asks.2 asks.3 asks.4 asks.5
-import_tells words (OneQuestion ask) is asks = is.import asks.0 asks.1 asks.2 asks.3 asks.4 asks.5
-import_tells words (StaffKey ask) is asks = is.import asks.0 asks.1 asks.2 asks.3 asks.4 asks.5
-import_tells words (Copy ask) is asks = is.import asks.0 asks.1 asks.2 asks.3 asks.4 asks.5
-
 -- what is done in rows is told on the output
 pub rows_tell : (ask : Ask) → TellsInRows ask → TellsOnOutput ask
 rows_tell (Import ask) tells = tt
@@ -205,49 +151,5 @@ rows_tell (Sift ask) tells = tt
 rows_tell (OneQuestion ask) tells = absurd tells
 rows_tell ask tells = tells
 
--- no more is told where all was done
-pub done_lines : (done : Done) (old new : Option (List ℕ)) → done ≡ Whole → TellsRows old new done → GainsLines IsDoneLine old new
-done_lines done old new is rows = subst (TellsRows old new) is rows
-
--- the words ask for something that is not done in rows
-abbrev pub IsDoneAtOnce : List (List ℕ) → Type 0
-IsDoneAtOnce words = ((kind : Kind) × (image : List ℕ) × (slot : ℕ) × AsksCat words kind image slot)
-    ⊎ (((kind : Kind) × (image : List ℕ) × AsksList words kind image)
-    ⊎ (((store : List ℕ) × (key : List ℕ) × AsksInit words store key)
-    ⊎ (((store : List ℕ) × (place : Place) × (count : ℕ) × (rule : List ℕ) × AsksServe words store place count rule)
-    ⊎ (((store : List ℕ) × (key : List ℕ) × AsksStaffKey words store key)
-    ⊎ ((store : List ℕ) × (target : List ℕ) × (summed : Bool) × AsksCopy words store target summed)))))
-
--- what is told on the output where not all is well is asked for by no such words
-pub not_in_rows : (words : List (List ℕ)) (ask : Ask) → IsAskOf words ask → TellsOnOutput ask → IsDoneAtOnce words → ⊥
-not_in_rows words (File ask) is tells asks = tells
-not_in_rows words (Files ask) is tells asks = tells
-not_in_rows words (Init ask) is tells asks = tells
-not_in_rows words (Serve ask) is tells asks = tells
-not_in_rows words (StaffKey ask) is tells asks = tells
-not_in_rows words (Copy ask) is tells asks = tells
-not_in_rows words (Extract ask) is tells asks = tells
-not_in_rows words (Import ask) is tells (inl cat) = is.file cat.0 cat.1 cat.2 cat.3
-not_in_rows words (Import ask) is tells (inr (inl list)) = is.files list.0 list.1 list.2
-not_in_rows words (Import ask) is tells (inr (inr (inl init))) = is.init init.0 init.1 init.2
-not_in_rows words (Import ask) is tells (inr (inr (inr (inl serve)))) = is.serve serve.0 serve.1 serve.2 serve.3 serve.4
-not_in_rows words (Import ask) is tells (inr (inr (inr (inr (inl staff_key))))) = is.staff_key staff_key.0 staff_key.1 staff_key.2
-not_in_rows words (Import ask) is tells (inr (inr (inr (inr (inr copy))))) = is.copy copy.0 copy.1 copy.2 copy.3
-not_in_rows words (Sift ask) is tells (inl cat) = is.file cat.0 cat.1 cat.2 cat.3
-not_in_rows words (Sift ask) is tells (inr (inl list)) = is.files list.0 list.1 list.2
-not_in_rows words (Sift ask) is tells (inr (inr (inl init))) = is.init init.0 init.1 init.2
-not_in_rows words (Sift ask) is tells (inr (inr (inr (inl serve)))) = is.serve serve.0 serve.1 serve.2 serve.3 serve.4
-not_in_rows words (Sift ask) is tells (inr (inr (inr (inr (inl staff_key))))) = is.staff_key staff_key.0 staff_key.1 staff_key.2
-not_in_rows words (Sift ask) is tells (inr (inr (inr (inr (inr copy))))) = is.copy copy.0 copy.1 copy.2 copy.3
-not_in_rows words (OneQuestion ask) is tells (inl cat) = is.file cat.0 cat.1 cat.2 cat.3
-not_in_rows words (OneQuestion ask) is tells (inr (inl list)) = is.files list.0 list.1 list.2
-not_in_rows words (OneQuestion ask) is tells (inr (inr (inl init))) = is.init init.0 init.1 init.2
-not_in_rows words (OneQuestion ask) is tells (inr (inr (inr (inl serve)))) = is.serve serve.0 serve.1 serve.2 serve.3 serve.4
-not_in_rows words (OneQuestion ask) is tells (inr (inr (inr (inr (inl staff_key))))) = is.staff_key staff_key.0 staff_key.1 staff_key.2
-not_in_rows words (OneQuestion ask) is tells (inr (inr (inr (inr (inr copy))))) = is.copy copy.0 copy.1 copy.2 copy.3
-
 pub one_is_some : {n : ℕ} → n ≡ 1 → n ≢ 0
 one_is_some one = λ zero. omega (arith, one, zero)
-
-pub in_part_is_one : (n : ℕ) → n ≤ 1 → n ≢ 0 → n ≡ 1
-in_part_is_one n most some = omega (arith, most, some)

@@ -1,8 +1,7 @@
 -- What is left of the store, by what each part of a command does to its connection.
 use Rattle.std.proofs.Common.{◌≡◌, ◌∙◌, ◌⊎◌, Bool, IsTrue, Option, Some, None, Result, Ok, Err, IfSome, ap, arith, inl, inr, refl, subst, sym}
 use Rattle.std.specs.Prelude.{IsErrAnd, IsSome}
-use Rattle.sqlite.specs.Effect.{Database}
-use Rattle.sqlite.specs.Held.{Held, state}
+use Rattle.sqlite.specs.Held.{Held}
 use Rattle.sqlite.specs.Store.{Ghosts}
 use Rattle.rd_store.specs.Held.{desk}
 use Rattle.rd_store.specs.Migrated.{IsMigrated, IsNotMigrated}
@@ -11,7 +10,7 @@ use Rattle.rd_store.specs.declared.faults.OpenFault.{OpenFault}
 use Rattle.rd_store.specs.declared.faults.OpenFault.TheVariants as open_fault
 use Rattle.rd_store.proofs.Laws.{lasts_still, lasts_then}
 use Rattle.rd_program.specs.Asked.{IsStillOrRead}
-use Rattle.rd_program.specs.Leaves.{GivesBack, HasBoth, IfBoth, IsReached, IsSame, Leaves, LeavesDesk, LeavesNone, LeavesStore, LeavesUnopened, OnEnded}
+use Rattle.rd_program.specs.Leaves.{GivesBack, HasBoth, IfBoth, IsSame, Leaves, LeavesDesk, LeavesNone, LeavesStore, LeavesUnopened, OnEnded}
 use Rattle.rd_program.specs.Serving.{IsOpenRefusal}
 use Rattle.rd_commands.specs.Refusals.{status_of}
 use Rattle.rd_commands.specs.declared.refusal.Refusal.{Refusal}
@@ -29,9 +28,6 @@ module _ {S : Type 0} where
   pub none_still : (was : Option (Held S)) → LeavesNone was was
   none_still None = tt
   none_still (Some after) = refl
-
-  pub still_left : (was old : Option (Held S)) (P : Held S → Held S → Type 0) → Leaves was old was P
-  still_left was old P = none_left was old was P (none_still was)
 
   pub leaves_weaker : (was old new : Option (Held S)) (P Q : Held S → Held S → Type 0) → ((before after : Held S) → P before after → Q before after)
       → Leaves was old new P → Leaves was old new Q
@@ -144,22 +140,6 @@ module _ {S : Type 0} (g : Ghosts S) where
   pub unopened_left : (was old new : Option (Held S)) (Reached : Desk → Desk → Type 0) (refusal : Refusal) → IsOpenRefusal refusal
       → LeavesUnopened g was old new refusal → Leaves was old new (LeavesStore g Reached)
   unopened_left was old new Reached refusal = unopened_with was old new (LeavesStore g Reached) (from_unopened Reached) refusal
-
-  weaker_reached : {Same : Type 0} (db : Database) (First Second : Desk → Desk → Type 0) (new : Desk) → ((d e : Desk) → First d e → Second d e)
-      → Same ⊎ IsReached db First new → Same ⊎ IsReached db Second new
-  weaker_reached db First Second new weaker (inl same) = inl same
-  weaker_reached db First Second new weaker (inr was) = inr (record {
-    stood = was.stood;
-    spelled = was.spelled;
-    reached = weaker was.stood new was.reached;
-  })
-
-  pub store_weaker : (First Second : Desk → Desk → Type 0) (before after : Held S) → ((d e : Desk) → First d e → Second d e)
-      → LeavesStore g First before after → LeavesStore g Second before after
-  store_weaker First Second before after weaker leaves = record {
-    lasts = leaves.lasts;
-    reached = λ is_open. weaker_reached (state g before).now First Second (desk g after) weaker (leaves.reached is_open);
-  }
 
   -- what holds of the one that stood and of the last is what is left
   pub after_opening : (was old new : Option (Held S)) (P : Held S → Held S → Type 0) (opened last conn : Held S)

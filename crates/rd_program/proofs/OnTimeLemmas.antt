@@ -1,6 +1,5 @@
 -- A desk that is asked whether the clock is behind its checks, before it is asked what the command asks.
 use Rattle.std.proofs.Common.{◌≡◌, ◌≢◌, ◌⊎◌, ◌∙◌, Bool, ℕ, ℤ, List, Option, Result, Ok, Err, IfErr, IfOk, IfSome, IsTrue, None, OnOk, Some, ap, false, inl, inr, refl, subst, sym, true}
-use Rattle.std.specs.Prelude.{IsSome}
 use Rattle.sqlite.specs.Held.{Held}
 use Rattle.sqlite.specs.Store.{Ghosts}
 use Rattle.rd_holdings.specs.State.{Desk}
@@ -10,21 +9,14 @@ use Rattle.rd_protocol.specs.declared.refusal.Refusal.TheVariants as desk_refusa
 use Rattle.rd_protocol.specs.declared.request.Request.{Request}
 use Rattle.rd_store.specs.Held.{IsOpen, Lasts, desk}
 use Rattle.rd_store.specs.Migrated.{IsMigrated}
-use Rattle.rd_commands.specs.Asks.{IsImportAsk, IsOneQuestionAsk, is_trusting}
-use Rattle.rd_commands.specs.Commands.{IsAskOf}
-use Rattle.rd_commands.specs.declared.done.Done.{Done}
 use Rattle.rd_commands.specs.declared.refusal.Refusal.{Refusal}
 use Rattle.rd_commands.specs.declared.refusal.Refusal.TheVariants.{NoAccession, StaffOnly, Store, UnknownKey}
-use Rattle.rd_commands.specs.declared.words.Ask.{Ask}
-use Rattle.rd_commands.specs.declared.words.Ask.TheVariants.{Import, OneQuestion}
 use Rattle.rd_commands.specs.declared.words.Question.{Question}
 use Rattle.rd_commands.specs.declared.words.Question.TheVariants.{Catalogue, Check, Show}
 use Rattle.rd_commands.specs.declared.words.Shown.{Shown}
-use Rattle.rd_program.specs.Asked.{AsksAt}
 use Rattle.rd_program.specs.Asking.{IsAskRefusal}
 use Rattle.rd_program.specs.Leaves.{Checks, IsDayAt, IsSame, LeavesDesk, StepsOf, TakesIn, moment_of}
-use Rattle.rd_program.specs.OnTime.{GoesByClock, IsOnTime, IsOnTimeBy, StoodOnTime, WasOnTime, WasOnTimeBy, is_dated, must_be_on_time}
-use Rattle.rd_program.specs.Rows.{TakesSheet, TakesSheetOn}
+use Rattle.rd_program.specs.OnTime.{IsOnTime, StoodOnTime, WasOnTime, is_dated, must_be_on_time}
 use Rattle.rd_program.specs.Serving.{IsClockRefusal}
 use Rattle.rd_program.specs.Showing.{IsDueOn, IsRefusedFor, OfDesk}
 use Rattle.rd_program.proofs.DeskSteps.{steps_on, takes_on}
@@ -77,13 +69,6 @@ module _ {S : Type 0} (g : Ghosts S) (old mid new : Held S) (same : LeavesDesk g
       reached_from (TakesIn b (λ d. d ≡ day)) (TakesIn badge Days)
       (λ d e taken. subst (λ x. TakesIn x Days d e) same_badge (takes_on (λ d. d ≡ day) Days b d e (λ x here. subst Days (sym here) at) taken)) leaves
 
-  -- and the rows of a sheet
-  pub rows_from : (files : List ℕ → Option (List ℕ)) (Days : ℤ → Type 0) (day : ℤ) (badge : List ℕ) (sheet : Option (List ℕ)) (out written : Option (List ℕ)) (done : Done) → Days day
-      → (IsOpen g new → TakesSheet files badge day sheet out written done (desk g mid) (desk g new))
-      → IsOpen g new → TakesSheetOn files badge Days sheet out written done (desk g old) (desk g new)
-  rows_from files Days day badge sheet out written done at taken is_open =
-      (day, at, subst (λ d. TakesSheet files badge day sheet out written done d (desk g new)) (same.reached (lasts.was_open is_open)) (taken is_open))
-
 -- no question was asked
 pub still_steps : {S : Type 0} (g : Ghosts S) (old new : Held S) (badge : Option (List ℕ)) (Days : ℤ → Type 0) (asked : Question) → LeavesDesk g IsSame old new
     → LeavesDesk g (StepsOf badge Days asked) old new
@@ -118,15 +103,6 @@ unset set = cc
 none_held : (moment : Option ℤ) (trusting : Bool) → IsTrue (must_be_on_time moment trusting) → moment ≡ None
 none_held None trusting held = refl
 none_held (Some seconds) trusting held = absurd (unset held)
-
--- a named moment, and a clock that is trusted, need not be on time
-pub named_free : (moment : Option ℤ) (trusting : Bool) → IsSome moment → must_be_on_time moment trusting ≡ false
-named_free None trusting some = absurd (unset some)
-named_free (Some seconds) trusting some = refl
-
-pub trusted_free : (moment : Option ℤ) (trusting : Bool) → trusting ≡ true → must_be_on_time moment trusting ≡ false
-trusted_free None trusting trusts = subst (λ t. must_be_on_time None t ≡ false) (sym trusts) refl
-trusted_free (Some seconds) trusting trusts = refl
 
 module _ {S : Type 0} (g : Ghosts S) (old mid new : Held S) (lasts : Lasts g mid new) (clock : Option ℤ) (zone : Zone) (day : ℤ) where
   on_clock : {T E : Type 0} (r : Result T E) → IsDayAt clock zone day → (IsOpen g mid → IsOnTime day (desk g old))
@@ -169,36 +145,3 @@ module _ {S : Type 0} (g : Ghosts S) (old new : Option (Held S)) (opened last co
 -- no moment is named, and the clock is not trusted
 held : (moment : Option ℤ) (trusting : Bool) → moment ≡ None → trusting ≡ false → IsTrue (must_be_on_time moment trusting)
 held moment trusting none doubts = subst (λ m. IsTrue (must_be_on_time m trusting)) (sym none) (subst (λ t. IsTrue (must_be_on_time None t)) (sym doubts) refl)
-
-module _ {S : Type 0} (g : Ghosts S) (clock : Option ℤ) (stands : List ℕ → Option (Held S)) (left : Option (Held S)) (done : Done) (store rule : List ℕ) where
-  import_on_time : (ask : Ask) (key sheet : List ℕ) → IsImportAsk store key sheet None rule ask → is_trusting ask ≡ false → IsOnTimeBy g clock stands left ask (Ok done)
-      → WasOnTimeBy g clock rule (stands store) left
-  import_on_time (Import ask) key sheet asks trust on = (
-    ask.when.zone,
-    asks.when_is.zone_is,
-    subst (λ s. WasOnTime g clock ask.when.zone (stands s) left) asks.store_is (on (held ask.when.seconds ask.when.is_trusting asks.when_is.moment_is trust)),
-  )
-  import_on_time ask key sheet asks trust on = absurd asks
-
-  once_on_time : (ask : Ask) (key : Option (List ℕ)) (asked : Question) → IsOneQuestionAsk store key asked None rule ask → is_dated asked ≡ true → is_trusting ask ≡ false
-      → IsOnTimeBy g clock stands left ask (Ok done) → WasOnTimeBy g clock rule (stands store) left
-  once_on_time (OneQuestion ask) key asked asks dated trust on = (
-    ask.when.zone,
-    asks.when_is.zone_is,
-    subst (λ s. WasOnTime g clock ask.when.zone (stands s) left) asks.store_is
-        (on (subst (λ q. is_dated q ≡ true) (sym asks.question_is) dated) (held ask.when.seconds ask.when.is_trusting asks.when_is.moment_is trust)),
-  )
-  once_on_time ask key asked asks dated trust on = absurd asks
-
-  -- the words have it go by the clock
-  pub on_time_by : (words : List (List ℕ)) (ask : Ask) → IsAskOf words ask → GoesByClock words store rule → is_trusting ask ≡ false → IsOnTimeBy g clock stands left ask (Ok done)
-      → WasOnTimeBy g clock rule (stands store) left
-  on_time_by words ask is (inl (key, sheet, asks)) = import_on_time ask key sheet (is.import store key sheet None rule asks)
-  on_time_by words ask is (inr (inl (key, asks))) = once_on_time ask key Catalogue (is.export store key None rule asks) refl
-  on_time_by words ask is (inr (inr (key, acc, asks))) = once_on_time ask (Some key) (Check acc) (is.check store key acc None rule asks) refl
-
--- such words ask at the moment of the clock
-pub goes_at : (words : List (List ℕ)) (store rule : List ℕ) → GoesByClock words store rule → AsksAt words store None rule
-goes_at words store rule (inl import) = inl import
-goes_at words store rule (inr (inl export)) = inr (inl export)
-goes_at words store rule (inr (inr check)) = inr (inr (inl check))

@@ -16,7 +16,6 @@ use Rattle.rd_commands.specs.declared.words.Ask.{Ask}
 use Rattle.rd_commands.specs.declared.words.Ask.TheVariants.{Copy, Extract, File, Files, Import, Init, OneQuestion, Serve, Sift, StaffKey}
 use Rattle.rd_commands.specs.declared.words.Shown.{Shown}
 use Rattle.rd_commands.proofs.Together.{clocked, keyed, no_clocks, no_key, no_moment, timed, unset}
-use Rattle.rd_program.specs.Asked.{AsksAt, NamesStore}
 use Rattle.rd_program.specs.Completing.{Completes, IsDated, IsKeyed, IsZoned}
 
 -- what is read of an absent option is absent
@@ -105,19 +104,6 @@ module _ (words : List Text) (beside : Beside) (tells : TellsBeside words beside
   store_plain (inr (inr (inr (inr (inr (inl (store, key, what, moment, rule, asks))))))) = show_plain store key what moment rule asks
   store_plain (inr (inr (inr (inr (inr (inr (inl (store, key, asks)))))))) = staff_key_plain store key asks
   store_plain (inr (inr (inr (inr (inr (inr (inr (store, target, summed, asks)))))))) = copy_plain store target summed asks
-
-  pub at_plain : (store : Text) (moment : Option ℤ) (rule : Text) → AsksAt words store moment rule → IsPlain beside
-  at_plain store moment rule (inl (key, sheet, asks)) = import_plain store key sheet moment rule asks
-  at_plain store moment rule (inr (inl (key, asks))) = export_plain store key moment rule asks
-  at_plain store moment rule (inr (inr (inl (key, acc, asks)))) = check_plain store key acc moment rule asks
-  at_plain store moment rule (inr (inr (inr (key, what, asks)))) = show_plain store key what moment rule asks
-
-  pub named_plain : (store : Text) → NamesStore words store → IsPlain beside
-  named_plain store (inl (inl (key, inl asks))) = init_plain store key asks
-  named_plain store (inl (inl (key, inr asks))) = staff_key_plain store key asks
-  named_plain store (inl (inr (inl (place, count, rule, asks)))) = serve_plain store place count rule asks
-  named_plain store (inl (inr (inr (moment, rule, asks)))) = at_plain store moment rule asks
-  named_plain store (inr (target, summed, asks)) = copy_plain store target summed asks
 
 -- ---- what is asked of an image
 

@@ -13,13 +13,10 @@ use Rattle.csv.specs.declared.reader.Reader.{Reader}
 use Rattle.csv.specs.declared.reader.Trim.TheVariants as trim
 use Rattle.rd_holdings.specs.State.{Desk}
 use Rattle.rd_commands.specs.RefusalLines.{both}
-use Rattle.rd_commands.specs.Refusals.{refusal_for, status_of}
 use Rattle.rd_commands.specs.Sheets.{HasOtherLength, header}
-use Rattle.rd_commands.specs.declared.files.MachineFault.{MachineFault}
-use Rattle.rd_commands.specs.declared.files.MachineFault.TheVariants as machine_fault
-use Rattle.rd_commands.specs.declared.refusal.Refusal.TheVariants.{BadSheet, Device, NoMemory}
-use Rattle.rd_program.specs.Importing.{IsImportRefusal, IsRowRefusal, RefusesImport}
-use Rattle.rd_program.specs.Serving.{IsClockRefusal, IsOpenRefusal}
+use Rattle.rd_commands.specs.declared.refusal.Refusal.TheVariants.{BadSheet}
+use Rattle.rd_program.specs.Importing.{IsRowRefusal}
+use Rattle.rd_program.specs.Serving.{IsOpenRefusal}
 use Rattle.rd_commands.specs.declared.done.Done.{Done}
 use Rattle.rd_commands.specs.declared.done.Done.TheVariants.{InPart, Whole}
 use Rattle.sqlite.specs.Held.{Held}
@@ -27,18 +24,12 @@ use Rattle.sqlite.specs.Store.{Ghosts}
 use Rattle.rd_store.specs.Held.{IsOpen, desk}
 use Rattle.rd_commands.proofs.WriterLemmas.{piece_more}
 use Rattle.std.proofs.KnownBytes.{Appends-nil}
-use Rattle.httparse.specs.Grammar.{trim_ows}
-use Rattle.sha2.specs.Sha256.{sha256}
 use Rattle.rd_store.specs.Held.{Lasts}
 use Rattle.rd_store.specs.Migrated.{IsMigrated}
-use Rattle.rd_commands.specs.Asks.{IsImportAsk}
 use Rattle.rd_commands.specs.declared.refusal.Refusal.{Refusal}
-use Rattle.rd_commands.specs.declared.words.Ask.{Ask}
-use Rattle.rd_commands.specs.declared.words.Ask.TheVariants.{Import}
-use Rattle.rd_program.specs.Leaves.{IsDayAt, IsDayBy, moment_of}
 use Rattle.rd_program.specs.Showing.{EndsWith}
-use Rattle.rd_program.proofs.ShowLemmas.{ends_weaker, ends_with}
-use Rattle.rd_program.specs.Rows.{AreRowsTaken, GivesLine, HasRows, ImportsBy, IsBadSheetDue, IsRowTaken, IsSheetOf, RefusesSheetBy, TakesRecords, TakesSheet, TakesSheetIn, TakesSheetOn}
+use Rattle.rd_program.proofs.ShowLemmas.{ends_with}
+use Rattle.rd_program.specs.Rows.{AreRowsTaken, GivesLine, HasRows, IsBadSheetDue, IsRowTaken, IsSheetOf, TakesRecords, TakesSheet, TakesSheetIn, TakesSheetOn}
 
 -- ---- records
 
@@ -325,23 +316,6 @@ no_sheet_after g files badge day sheet out written opened now reader after numbe
 pub none_expected : (reader after : Reader (Bor (List ℕ))) → expected_len reader ≡ None → HasOtherLength reader after → ⊥
 none_expected reader after fresh longer = let no : Some longer.expected ≡ None = sym longer.first ∙ fresh in cc no
 
--- the first record is not the names of the columns, or there is none
-pub no_header : (sheet : List ℕ) (reader after : Reader (Bor (List ℕ))) (found : Bool) (fields : List (List ℕ)) → IsAt reader StartRecord (strip_bom sheet)
-    → ReadRecord slice_rest reader after found fields → has_failed after ≡ has_failed reader → took_first after ≡ true → (found ≡ true → fields ≢ header)
-    → (rows : List (List (List ℕ))) → IsSheetOf sheet rows → ⊥
-no_header sheet reader after found fields at read kept took other rows is =
-    let now = reads_on reader after StartRecord (strip_bom sheet) found fields at read kept took in
-    go found now.last now.rest now.next other
-  where
-    go : (b : Bool) (last : State) (rest : List ℕ) → NextIs (next_record default_config StartRecord [] [] (strip_bom sheet)) b fields last rest → (b ≡ true → fields ≢ header) → ⊥
-    go true last rest next named =
-        let has = is.has in
-        let both = same_read (fields, last, rest) (header, has.0, has.1) (sym (next_some (next_record default_config StartRecord [] [] (strip_bom sheet)) fields last rest next) ∙ has.2) in
-        named refl (ap (λ (p : Read). p.0) both)
-    go false last rest next named =
-        let has = is.has in
-        none_read (header, has.0, has.1) (sym has.2 ∙ next_none (next_record default_config StartRecord [] [] (strip_bom sheet)) fields last rest next)
-
 -- a refusal is due that is not of the sheet, or of one that is none
 pub due_if : (sheet : List ℕ) (refusal : Refusal) → (refusal ≡ BadSheet → (rows : List (List (List ℕ))) → IsSheetOf sheet rows → ⊥) → IsBadSheetDue sheet refusal
 due_if sheet BadSheet none = none refl
@@ -366,81 +340,12 @@ opening_no_sheet shown refusal opening = always_due shown refusal (of opening)
     of (inr (inr (inr (inl is)))) sheet = subst (IsBadSheetDue sheet) (sym is) tt
     of (inr (inr (inr (inr is)))) sheet = subst (IsBadSheetDue sheet) (sym is) tt
 
-pub clock_no_sheet : (shown : Option (List ℕ)) (refusal : Refusal) → IsClockRefusal refusal → IfSome shown (λ bytes. IsBadSheetDue bytes refusal)
-clock_no_sheet shown refusal (inl is) = always_due shown refusal (λ sheet. subst (IsBadSheetDue sheet) (sym is) tt)
-clock_no_sheet shown refusal (inr is) = always_due shown refusal (λ sheet. subst (IsBadSheetDue sheet) (sym is) tt)
-
-pub no_memory_sheet : (shown : Option (List ℕ)) → IfSome shown (λ bytes. IsBadSheetDue bytes NoMemory)
-no_memory_sheet shown = always_due shown NoMemory (λ sheet. tt)
-
--- the device failed, or memory ran out
-pub device_no_sheet : (shown : Option (List ℕ)) (fault : MachineFault) → IfSome shown (λ bytes. IsBadSheetDue bytes (refusal_for Device fault))
-device_no_sheet shown machine_fault.Failed = always_due shown Device (λ sheet. tt)
-device_no_sheet shown machine_fault.NoMemory = always_due shown NoMemory (λ sheet. tt)
-
--- the sheet is the one that the machine shows
-pub shown_bad : (r : Result Done Refusal) (shown other : Option (List ℕ)) (bytes : List ℕ) → other ≡ shown → IfSome other (λ sheet. bytes ≡ sheet) → IfErr r (IsBadSheetDue bytes)
-    → IfErr r (λ refusal. IfSome shown (λ sheet. IsBadSheetDue sheet refusal))
-shown_bad (Ok done) shown other bytes same is due = tt
-shown_bad (Err refusal) shown other bytes same is due = subst (λ o. IfSome o (λ sheet. IsBadSheetDue sheet refusal)) same (at other is)
-  where
-    at : (o : Option (List ℕ)) → IfSome o (λ sheet. bytes ≡ sheet) → IfSome o (λ sheet. IsBadSheetDue sheet refusal)
-    at None is = tt
-    at (Some sheet) is = subst (λ b. IsBadSheetDue b refusal) is due
-
 -- and the one that it showed before
 pub shown_before : (r : Result Done Refusal) (later shown : Option (List ℕ)) → later ≡ shown → IfErr r (λ refusal. IfSome later (λ sheet. IsBadSheetDue sheet refusal))
     → IfErr r (λ refusal. IfSome shown (λ sheet. IsBadSheetDue sheet refusal))
 shown_before r later shown same due = subst (λ o. IfErr r (λ refusal. IfSome o (λ sheet. IsBadSheetDue sheet refusal))) same due
 
--- an import that ends at the status 1 without all rows names the sheet
-pub import_at_1 : (old new : Option (List ℕ)) (refusal : Refusal) → RefusesImport old new refusal → status_of refusal ≡ 1 → refusal ≡ BadSheet
-import_at_1 old new refusal (inl (inl why)) one = why.0
-import_at_1 old new refusal (inl (inr why)) one = absurd (row_is_3 why.0)
-  where
-    row_is_3 : IsRowRefusal refusal → ⊥
-    row_is_3 (inl is) = let no : 1 ≡ 3 = sym one ∙ ap status_of is in omega (arith, no)
-    row_is_3 (inr (inl is)) = let no : 1 ≡ 3 = sym one ∙ ap status_of is in omega (arith, no)
-    row_is_3 (inr (inr is)) = let no : 1 ≡ 3 = sym one ∙ ap status_of is in omega (arith, no)
-import_at_1 old new refusal (inr why) one = absurd (import_is_3 why.0)
-  where
-    import_is_3 : IsImportRefusal refusal → ⊥
-    import_is_3 (inl (inl is)) = let no : 1 ≡ 3 = sym one ∙ ap status_of is in omega (arith, no)
-    import_is_3 (inl (inr (inl is))) = let no : 1 ≡ 3 = sym one ∙ ap status_of is in omega (arith, no)
-    import_is_3 (inl (inr (inr (inl is)))) = let no : 1 ≡ 3 = sym one ∙ ap status_of is in omega (arith, no)
-    import_is_3 (inl (inr (inr (inr (inl is))))) = let no : 1 ≡ 3 = sym one ∙ ap status_of is in omega (arith, no)
-    import_is_3 (inl (inr (inr (inr (inr is))))) = let no : 1 ≡ 3 = sym one ∙ ap status_of is in omega (arith, no)
-    import_is_3 (inr (inl (inl is))) = let no : 1 ≡ 3 = sym one ∙ ap status_of is in omega (arith, no)
-    import_is_3 (inr (inl (inr is))) = let no : 1 ≡ 3 = sym one ∙ ap status_of is in omega (arith, no)
-    import_is_3 (inr (inr is)) = let no : 1 ≡ 3 = sym one ∙ ap status_of is in omega (arith, no)
-
--- by the words
-pub sheet_of_words : (sheets : List ℕ → Option (List ℕ)) (ask : Ask) (refusal : Refusal) (store key sheet : List ℕ) (moment : Option ℤ) (rule : List ℕ)
-    → IsImportAsk store key sheet moment rule ask → RefusesSheetBy sheets ask refusal → IfSome (sheets sheet) (λ bytes. IsBadSheetDue bytes refusal)
-sheet_of_words sheets (Import ask) refusal store key sheet moment rule asks due = subst (λ s. IfSome (sheets s) (λ bytes. IsBadSheetDue bytes refusal)) asks.sheet_is due
-sheet_of_words sheets ask refusal store key sheet moment rule asks due = absurd asks
-
 -- ---- the sheet that the machine gives, and the store
-
--- the sheet is the one that the machine shows, and the files are those that it showed before
-pub sheet_on : (files other : List ℕ → Option (List ℕ)) (badge : List ℕ) (day : ℤ) (Days : ℤ → Type 0) (shown : Option (List ℕ)) (bytes : List ℕ) (out written : Option (List ℕ)) (done : Done)
-    (old new : Desk) → other ≡ files → IfSome shown (λ sheet. bytes ≡ sheet) → Days day → TakesSheet other badge day (Some bytes) out written done old new
-    → TakesSheetOn files badge Days shown out written done old new
-sheet_on files other badge day Days shown bytes out written done old new same is on taken = (
-  day,
-  on,
-  record {
-    rows = taken.rows;
-    lines = taken.lines;
-    is = of_shown shown is;
-    taken = subst (λ f. AreRowsTaken f badge day 1 taken.rows taken.lines done old new) same taken.taken;
-    gained = taken.gained;
-  },
-)
-  where
-    of_shown : (shown : Option (List ℕ)) → IfSome shown (λ sheet. bytes ≡ sheet) → IfSome shown (λ sheet. IsSheetOf sheet taken.rows)
-    of_shown None is = tt
-    of_shown (Some sheet) is = subst (λ b. IsSheetOf b taken.rows) is taken.is
 
 sheet_day : (files : List ℕ → Option (List ℕ)) (badge : List ℕ) (Days Others : ℤ → Type 0) (sheet out written : Option (List ℕ)) (done : Done) (old new : Desk)
     → ((day : ℤ) → Days day → Others day) → TakesSheetOn files badge Days sheet out written done old new → TakesSheetOn files badge Others sheet out written done old new
@@ -462,23 +367,3 @@ sheet_ended g files other badge Days Others sheet shown out written (Ok done) ol
           (subst (λ s. TakesSheetOn other badge Others s out written done (desk g opened) (desk g last)) here (holds o))),
     )) back took
 sheet_ended g files other badge Days Others sheet shown out written (Err refusal) old new opened last conn same here weaker is lasts back took holds = tt
-
--- ---- by the words
-
--- what an import of these words does
-pub imports_by : {S : Type 0} (g : Ghosts S) (files sheets : List ℕ → Option (List ℕ)) (clock : Option ℤ) (stands : List ℕ → Option (Held S)) (left : Option (Held S)) (out written : Option (List ℕ))
-    (ask : Ask) (done : Done) (store key sheet : List ℕ) (moment : Option ℤ) (rule : List ℕ) → IsImportAsk store key sheet moment rule ask
-    → ImportsBy g files sheets clock stands left out written ask (Ok done)
-    → EndsWith (stands store) left (TakesSheetIn g files (sha256 (trim_ows key)) (IsDayBy (moment_of moment clock) rule) (sheets sheet) out written done)
-imports_by g files sheets clock stands left out written (Import ask) done store key sheet moment rule asks imports =
-    subst (λ s. EndsWith (stands s) left (TakesSheetIn g files (sha256 (trim_ows key)) (IsDayBy (moment_of moment clock) rule) (sheets sheet) out written done)) asks.store_is
-    (subst (λ s. EndsWith (stands ask.store.now) left (TakesSheetIn g files (sha256 (trim_ows key)) (IsDayBy (moment_of moment clock) rule) (sheets s) out written done)) asks.sheet_is
-    (subst (λ k. EndsWith (stands ask.store.now) left (TakesSheetIn g files (sha256 k) (IsDayBy (moment_of moment clock) rule) (sheets ask.sheet.now) out written done)) asks.key_is
-    (ends_weaker (stands ask.store.now) left _ _ (λ before last takes o. let found = takes o in (
-      found.0,
-      found.1,
-      sheet_day files (sha256 ask.key.now) (IsDayAt (moment_of ask.when.seconds clock) ask.when.zone) (IsDayBy (moment_of moment clock) rule) (sheets ask.sheet.now) out written done found.0 (desk g last)
-          (λ day at. record { zone = ask.when.zone; zone_is = asks.when_is.zone_is; day_is = subst (λ m. IsDayAt (moment_of m clock) ask.when.zone day) asks.when_is.moment_is at })
-          found.2,
-    )) imports)))
-imports_by g files sheets clock stands left out written ask done store key sheet moment rule asks imports = absurd asks

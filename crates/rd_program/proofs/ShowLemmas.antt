@@ -5,7 +5,6 @@ use Rattle.std.proofs.KnownBytes.{Keeps-refl}
 use Rattle.std.proofs.lemmas.Result.{IfErr-weaker, on_ok_weaker}
 use Rattle.std.specs.Borrow.{Bor}
 use Rattle.std.specs.Prelude.{IsErrAnd, IsSome}
-use Rattle.httparse.specs.Grammar.{trim_ows}
 use Rattle.sha2.specs.Sha256.{sha256}
 use Rattle.sqlite.specs.Held.{Held}
 use Rattle.sqlite.specs.Store.{Ghosts}
@@ -27,21 +26,18 @@ use Rattle.rd_protocol.specs.declared.response.Response.{Response}
 use Rattle.rd_protocol.specs.declared.response.Response.TheVariants as response
 use Rattle.rd_desk.specs.Calls.{IsResponse}
 use Rattle.rd_desk.specs.Served.{IsTurnedAway, Responds}
-use Rattle.rd_commands.specs.Asks.{AsksOneQuestion, IsCheckOf, IsOneQuestionAsk}
-use Rattle.rd_commands.specs.Refusals.{IsDeviceOrMemory}
+use Rattle.rd_commands.specs.Asks.{IsCheckOf}
 use Rattle.rd_commands.specs.declared.done.Done.{Done}
-use Rattle.rd_commands.specs.declared.words.Ask.{Ask}
-use Rattle.rd_commands.specs.declared.words.Ask.TheVariants.{OneQuestion}
 use Rattle.rd_commands.specs.declared.words.OneQuestionAsk.{OneQuestionAsk}
 use Rattle.rd_commands.specs.declared.words.Question.{Question}
 use Rattle.rd_commands.specs.declared.words.Shown.{Shown}
 use Rattle.rd_commands.specs.declared.words.Question.TheVariants as question
 use Rattle.rd_commands.specs.declared.refusal.Refusal.{Refusal}
-use Rattle.rd_commands.specs.declared.refusal.Refusal.TheVariants.{NoAccession, NoMemory, StaffOnly, Store, UnknownKey}
+use Rattle.rd_commands.specs.declared.refusal.Refusal.TheVariants.{NoAccession, StaffOnly, Store, UnknownKey}
 use Rattle.rd_program.specs.Answers.{answer_to_show, outcome_of, refusal_to_check, refusal_to_show}
-use Rattle.rd_program.specs.Leaves.{IsDayAt, IsDayBy, IsSame, LeavesDesk, StepsOf, moment_of}
+use Rattle.rd_program.specs.Leaves.{IsDayAt, IsSame, LeavesDesk, StepsOf, moment_of}
 use Rattle.rd_program.specs.Serving.{IsClockRefusal, IsOpenRefusal}
-use Rattle.rd_program.specs.Showing.{AnswersBy, AnswersOneQuestion, EndsWith, Finds, FindsStore, IsDueIn, IsDueOn, IsRefusedFor, IsShowRefusal, IsToShow, OfDesk, HoldsOfDesks, RefusesShow, Shows, ShowsStore, asked_of, badge_of, found_by, request_of, shown_text, what_to_show}
+use Rattle.rd_program.specs.Showing.{AnswersOneQuestion, EndsWith, Finds, FindsStore, IsDueIn, IsDueOn, IsRefusedFor, IsShowRefusal, IsToShow, OfDesk, HoldsOfDesks, RefusesShow, Shows, ShowsStore, asked_of, badge_of, found_by, request_of, shown_text, what_to_show}
 use Rattle.rd_program.proofs.LeftStores.{from_opened}
 use Rattle.rd_program.proofs.DeskSteps.{response_step}
 
@@ -210,55 +206,12 @@ module _ (Days More : ℤ → Type 0) (weaker : (day : ℤ) → Days day → Mor
     due_on NoAccession = of_desk _ _ (λ stood after. refused_on desk_refusal.NoAccession stood)
     due_on other = λ due. tt
 
-    holds_of_desks_on : (P Q : Desk → Desk → Type 0) → ((stood after : Desk) → P stood after → Q stood after) → HoldsOfDesks g P old new → HoldsOfDesks g Q old new
-    holds_of_desks_on P Q more holds = λ clean. let at = holds clean in (at.0, at.1, more at.0 (desk g new) at.2)
-
-    pub shows_store_on : (out written : Option (List ℕ)) → ShowsStore g Days asked out written old new → ShowsStore g More asked out written old new
-    shows_store_on out written shows = record {
-      leaves = shows.leaves;
-      shows = holds_of_desks_on _ _ (λ stood after. shows_on stood out written) shows.shows;
-    }
-
-    pub finds_of_desks_on : (outcome : Outcome) → HoldsOfDesks g (Finds Days asked outcome) old new → HoldsOfDesks g (Finds More asked outcome) old new
-    finds_of_desks_on outcome = holds_of_desks_on _ _ (finds_on outcome)
-
-    pub refused_stood_on : (reason : Reason) → HoldsOfDesks g (λ stood after. IsRefusedFor Days asked reason stood) old new
-        → HoldsOfDesks g (λ stood after. IsRefusedFor More asked reason stood) old new
-    refused_stood_on reason = holds_of_desks_on _ _ (λ stood after. refused_on reason stood)
-
--- what a command ends with holds more weakly
-pub ends_weaker : {S : Type 0} (old new : Option (Held S)) (P Q : Held S → Held S → Type 0) → ((before last : Held S) → P before last → Q before last)
-    → EndsWith old new P → EndsWith old new Q
-ends_weaker None new P Q weaker ends = tt
-ends_weaker (Some before) new P Q weaker ends = (ends.0, weaker before ends.0 ends.1, ends.2)
-
-pub due_in_on : {S : Type 0} (g : Ghosts S) (Days More : ℤ → Type 0) (weaker : (day : ℤ) → Days day → More day) (asked : Request) (old new : Option (Held S)) (refusal : Refusal)
-    → IsDueIn g Days asked old new refusal → IsDueIn g More asked old new refusal
-due_in_on g Days More weaker asked old new UnknownKey due =
-    ends_weaker old new _ _ (λ before last. refused_stood_on Days More weaker asked g before last desk_refusal.UnknownKey) due
-due_in_on g Days More weaker asked old new StaffOnly due =
-    ends_weaker old new _ _ (λ before last. refused_stood_on Days More weaker asked g before last desk_refusal.StaffOnly) due
-due_in_on g Days More weaker asked old new NoAccession due =
-    ends_weaker old new _ _ (λ before last. refused_stood_on Days More weaker asked g before last desk_refusal.NoAccession) due
-due_in_on g Days More weaker asked old new other due = tt
-
 -- ---- by what is refused
 
 pub show_due : (refusal : Refusal) (old new : Option (List ℕ)) → IsShowRefusal refusal → Keeps old new → RefusesShow old new refusal
 show_due refusal old new (inl is) kept = (inl (inr (inr (inl is)), kept), subst (λ r. r ≢ NoAccession) (sym is) (λ same. cc same))
 show_due refusal old new (inr (inl is)) kept = (inl (inr (inr (inr (inl is))), kept), subst (λ r. r ≢ NoAccession) (sym is) (λ same. cc same))
 show_due refusal old new (inr (inr is)) kept = (inl (inr (inr (inr (inr (inr (inr (inr is)))))), kept), subst (λ r. r ≢ NoAccession) (sym is) (λ same. cc same))
-
-pub device_no_accession : (refusal : Refusal) → IsDeviceOrMemory refusal → refusal ≢ NoAccession
-device_no_accession NoAccession device is = device
-device_no_accession other device is = absurd (cc is)
-
-pub device_due : {S : Type 0} (g : Ghosts S) (Days : ℤ → Type 0) (asked : Request) (old new : Held S) (refusal : Refusal) → IsDeviceOrMemory refusal
-    → IsDueOn g Days asked old new refusal
-device_due g Days asked old new UnknownKey device = absurd device
-device_due g Days asked old new StaffOnly device = absurd device
-device_due g Days asked old new NoAccession device = absurd device
-device_due g Days asked old new other device = tt
 
 -- ---- the store that it was asked of
 
@@ -323,21 +276,6 @@ pub clock_due : {S : Type 0} (g : Ghosts S) (Days : ℤ → Type 0) (asked : Req
 clock_due g Days asked old new refusal (inl is) = subst (IsDueOn g Days asked old new) (sym is) tt
 clock_due g Days asked old new refusal (inr is) = subst (IsDueOn g Days asked old new) (sym is) tt
 
-pub memory_no_accession : NoMemory ≢ NoAccession
-memory_no_accession same = cc same
-
--- a key that is asked with is there
-pub key_there : (key : Option (Bor (List ℕ))) (asked : Option (List ℕ)) → option_map (λ k. k.now) key ≡ option_map trim_ows asked → IsSome asked → IsSome key
-key_there (Some key) asked is some = refl
-key_there None (Some key) is some = let none : None ≡ Some (trim_ows key) = is in cc none
-key_there None None is some = cc some
-
--- or the catalogue is asked for
-judged_there : (key : Option (Bor (List ℕ))) (told : Option (List ℕ)) (found asked : Question) → option_map (λ k. k.now) key ≡ option_map trim_ows told → found ≡ asked
-    → IsSome told ⊎ (asked ≡ question.Catalogue) → IsSome key ⊎ (found ≡ question.Catalogue)
-judged_there key told found asked is same (inl some) = inl (key_there key told is some)
-judged_there key told found asked is same (inr catalogue) = inr (same ∙ catalogue)
-
 -- a check and what is shown are not the catalogue, so there is a key
 pub key_of_check : (key : Option (Bor (List ℕ))) (acc : ℕ) (asked : Question) → asked ≡ question.Check acc → IsSome key ⊎ (asked ≡ question.Catalogue) → IsSome key
 key_of_check key acc asked is (inl some) = some
@@ -350,11 +288,6 @@ key_of_show key shown asked is (inr catalogue) = let no : question.Show shown �
 pub badge_there : (key : Option (Bor (List ℕ))) → IsSome key → IsSome (option_map sha256 (option_map (λ k. k.now) key))
 badge_there (Some key) some = refl
 badge_there None some = cc some
-
--- of a refusal both are said
-pub due_of : {T : Type 0} (P Q : Refusal → Type 0) (r : Result T Refusal) → IfErr r P → IfErr r Q → IfErr r (λ refusal. P refusal × Q refusal)
-due_of P Q (Ok value) one other = tt
-due_of P Q (Err refusal) one other = (one, other)
 
 -- what holds of a refusal holds of it where it is passed on
 pub passed_on : {T : Type 0} (r : Result T Refusal) (refusal : Refusal) (P : Refusal → Type 0) → IsErrAnd r (λ other. other ≡ refusal) → P refusal → IfErr r P
@@ -453,72 +386,3 @@ answers_once {S} g ask r old new opened last conn clock later zone out written i
     steps_to_show question.Catalogue what is steps = steps
     steps_to_show (question.Show shown) what is steps = steps
     steps_to_show (question.Check acc) what is steps = absurd (cc is)
-
--- ---- by the words
-
-module _ {S : Type 0} (g : Ghosts S) (clock : Option ℤ) (stands : List ℕ → Option (Held S)) (left : Option (Held S)) (out written : Option (List ℕ))
-    (result : Result Done Refusal) (store : List ℕ) (key : Option (List ℕ)) (asked : Question) (moment : Option ℤ) (rule : List ℕ) where
-  day_by : (ask : OneQuestionAsk) → AsksOneQuestion ask store key asked moment rule → (day : ℤ) → IsDayAt (moment_of ask.when.seconds clock) ask.when.zone day
-      → IsDayBy (moment_of moment clock) rule day
-  day_by ask asks day at = record {
-    zone = ask.when.zone;
-    zone_is = asks.when_is.zone_is;
-    day_is = subst (λ m. IsDayAt (moment_of m clock) ask.when.zone day) asks.when_is.moment_is at;
-  }
-
-  pub once_shows : (ask : Ask) → IsOneQuestionAsk store key asked moment rule ask → AnswersBy g clock stands left out written ask result → (what : What)
-      → what_to_show asked ≡ Some what → OnOk result (EndsWith (stands store) left
-      (ShowsStore g (IsDayBy (moment_of moment clock) rule) (request_of (option_map sha256 (option_map trim_ows key)) what) out written))
-  once_shows (OneQuestion ask) asks answers what is =
-      subst (λ s. OnOk result (EndsWith (stands s) left (ShowsStore g (IsDayBy (moment_of moment clock) rule)
-      (request_of (option_map sha256 (option_map trim_ows key)) what) out written))) asks.store_is
-      (subst (λ k. OnOk result (EndsWith (stands ask.store.now) left (ShowsStore g (IsDayBy (moment_of moment clock) rule)
-      (request_of (option_map sha256 k) what) out written))) asks.key_is
-      (on_ok_weaker result (ends_weaker (stands ask.store.now) left _ _ (λ before last.
-      shows_store_on (IsDayAt (moment_of ask.when.seconds clock) ask.when.zone) (IsDayBy (moment_of moment clock) rule) (day_by ask asks)
-      (request_of (badge_of ask) what) g before last out written))
-      (answers.shown what (ap what_to_show asks.question_is ∙ is))))
-  once_shows ask asks answers what is = absurd asks
-
-  pub once_not_shown : (ask : Ask) → IsOneQuestionAsk store key asked moment rule ask → AnswersBy g clock stands left out written ask result → (what : What)
-      → what_to_show asked ≡ Some what → IfErr result (RefusesShow out written)
-  once_not_shown (OneQuestion ask) asks answers what is = answers.not_shown what (ap what_to_show asks.question_is ∙ is)
-  once_not_shown ask asks answers what is = absurd asks
-
-  pub once_due : (ask : Ask) → IsOneQuestionAsk store key asked moment rule ask → AnswersBy g clock stands left out written ask result → IsSome key ⊎ (asked ≡ question.Catalogue)
-      → IfErr result (IsDueIn g (IsDayBy (moment_of moment clock) rule) (request_of (option_map sha256 (option_map trim_ows key)) (asked_of asked)) (stands store) left)
-  once_due (OneQuestion ask) asks answers there =
-      subst (λ q. IfErr result (IsDueIn g (IsDayBy (moment_of moment clock) rule)
-      (request_of (option_map sha256 (option_map trim_ows key)) (asked_of q)) (stands store) left)) asks.question_is
-      (subst (λ s. IfErr result (IsDueIn g (IsDayBy (moment_of moment clock) rule)
-      (request_of (option_map sha256 (option_map trim_ows key)) (asked_of ask.question)) (stands s) left)) asks.store_is
-      (subst (λ k. IfErr result (IsDueIn g (IsDayBy (moment_of moment clock) rule)
-      (request_of (option_map sha256 k) (asked_of ask.question)) (stands ask.store.now) left)) asks.key_is
-      (IfErr-weaker result _ _ (due_in_on g (IsDayAt (moment_of ask.when.seconds clock) ask.when.zone) (IsDayBy (moment_of moment clock) rule)
-      (day_by ask asks) (request_of (badge_of ask) (asked_of ask.question)) (stands ask.store.now) left)
-      (answers.due (judged_there ask.key key ask.question asked asks.key_is asks.question_is there)))))
-  once_due ask asks answers there = absurd asks
-
-pub once_finds : {S : Type 0} (g : Ghosts S) (clock : Option ℤ) (stands : List ℕ → Option (Held S)) (left : Option (Held S)) (out written : Option (List ℕ))
-    (result : Result Done Refusal) (store : List ℕ) (key : Option (List ℕ)) (acc : ℕ) (moment : Option ℤ) (rule : List ℕ)
-    (ask : Ask) → IsOneQuestionAsk store key (question.Check acc) moment rule ask → AnswersBy g clock stands left out written ask result
-    → IfOk result (λ done. EndsWith (stands store) left
-    (FindsStore g (IsDayBy (moment_of moment clock) rule) (option_map sha256 (option_map trim_ows key)) acc (found_by done)))
-once_finds g clock stands left out written result store key acc moment rule (OneQuestion ask) asks answers =
-    subst (λ s. IfOk result (λ done. EndsWith (stands s) left
-    (FindsStore g (IsDayBy (moment_of moment clock) rule) (option_map sha256 (option_map trim_ows key)) acc (found_by done)))) asks.store_is
-    (subst (λ k. IfOk result (λ done. EndsWith (stands ask.store.now) left
-    (FindsStore g (IsDayBy (moment_of moment clock) rule) (option_map sha256 k) acc (found_by done)))) asks.key_is
-    (more result (answers.found acc (subst (IsCheckOf acc) (sym asks.question_is) refl))))
-  where
-    by : (day : ℤ) → IsDayAt (moment_of ask.when.seconds clock) ask.when.zone day → IsDayBy (moment_of moment clock) rule day
-    by = day_by g clock stands left out written result store key (question.Check acc) moment rule ask asks
-
-    more : (r : Result Done Refusal)
-        → IfOk r (λ done. EndsWith (stands ask.store.now) left (FindsStore g (IsDayAt (moment_of ask.when.seconds clock) ask.when.zone) (badge_of ask) acc (found_by done)))
-        → IfOk r (λ done. EndsWith (stands ask.store.now) left (FindsStore g (IsDayBy (moment_of moment clock) rule) (badge_of ask) acc (found_by done)))
-    more (Ok done) found = ends_weaker (stands ask.store.now) left _ _ (λ before last.
-        finds_of_desks_on (IsDayAt (moment_of ask.when.seconds clock) ask.when.zone) (IsDayBy (moment_of moment clock) rule) by
-        (request_of (badge_of ask) (request.Check acc)) g before last (found_by done)) found
-    more (Err refusal) found = tt
-once_finds g clock stands left out written result store key acc moment rule ask asks answers = absurd asks

@@ -2,8 +2,6 @@
 use Rattle.std.proofs.Common.{◌≡◌, ◌≢◌, ◌∙◌, ◌⊎◌, ℕ, List, Option, Some, Result, Ok, Err, IfErr, IfSome, OnOk, arith, inl, inr, refl, subst, sym}
 use Rattle.std.proofs.KnownBytes.{Keeps-refl}
 use Rattle.std.proofs.lemmas.Result.{IfErr-weaker}
-use Rattle.httparse.specs.Grammar.{trim_ows}
-use Rattle.sha2.specs.Sha256.{sha256}
 use Rattle.sqlite.specs.Effect.{Database}
 use Rattle.sqlite.specs.Held.{Held, state}
 use Rattle.sqlite.specs.Store.{Ghosts}
@@ -17,7 +15,7 @@ use Rattle.rd_store.proofs.Laws.{lasts_then}
 use Rattle.rd_commands.specs.Refusals.{status_of}
 use Rattle.rd_commands.specs.declared.refusal.Refusal.{Refusal}
 use Rattle.rd_commands.specs.declared.refusal.Refusal.TheVariants.{Device, NoMemory, Store}
-use Rattle.rd_program.specs.Leaves.{IsSame, Leaves, LeavesUnopened, NamesOpening}
+use Rattle.rd_program.specs.Leaves.{IsSame, LeavesUnopened, NamesOpening}
 use Rattle.rd_program.specs.Serving.{IsOpenRefusal}
 use Rattle.rd_program.specs.Showing.{EndsWith}
 use Rattle.rd_program.specs.StaffKeys.{LeavesOldOrPut, LeavesStaffKey, PutsNone, PutsStaff, RefusesStaffKey}
@@ -125,24 +123,6 @@ pub staff_key_not_1 : (refusal : Refusal) (old new : Option (List ℕ)) → Refu
 staff_key_not_1 refusal old new refused one = let three : 1 ≡ 3 = sym one ∙ staff_key_is_3 refusal old new refused in omega (arith, three)
 
 -- ---- by the path and the key that are asked for
-
-pub put_as : {S T E : Type 0} (g : Ghosts S) (stands : List ℕ → Option (Held S)) (left : Option (Held S)) (r : Result T E) (path store bytes key : List ℕ)
-    → path ≡ store → bytes ≡ trim_ows key → OnOk r (EndsWith (stands path) left (PutsStaff g (sha256 bytes)))
-    → OnOk r (EndsWith (stands store) left (PutsStaff g (sha256 (trim_ows key))))
-put_as g stands left r path store bytes key same trimmed put =
-    subst (λ p. OnOk r (EndsWith (stands p) left (PutsStaff g (sha256 (trim_ows key))))) same
-    (subst (λ b. OnOk r (EndsWith (stands path) left (PutsStaff g (sha256 b)))) trimmed put)
-
-pub left_unput_as : {S T : Type 0} (g : Ghosts S) (was : Option (Held S)) (stands : List ℕ → Option (Held S)) (left : Option (Held S)) (r : Result T Refusal)
-    (path store bytes key : List ℕ) → path ≡ store → bytes ≡ trim_ows key → IfErr r (LeavesStaffKey g was (stands path) left (sha256 bytes))
-    → IfErr r (LeavesStaffKey g was (stands store) left (sha256 (trim_ows key)))
-left_unput_as g was stands left r path store bytes key same trimmed leaves =
-    subst (λ p. IfErr r (LeavesStaffKey g was (stands p) left (sha256 (trim_ows key)))) same
-    (subst (λ b. IfErr r (LeavesStaffKey g was (stands path) left (sha256 b))) trimmed leaves)
-
-pub opens_as : {S T : Type 0} (g : Ghosts S) (stands : List ℕ → Option (Held S)) (left : Option (Held S)) (r : Result T Refusal) (path store : List ℕ)
-    → path ≡ store → IfErr r (NamesOpening g (stands path) left) → IfErr r (NamesOpening g (stands store) left)
-opens_as g stands left r path store same opens = subst (λ p. IfErr r (NamesOpening g (stands p) left)) same opens
 
 -- all three hold of an error
 pub at_err_all : {T E : Type 0} (r : Result T E) (P Q R : E → Type 0) → IfErr r P → IfErr r Q → IfErr r R → IfErr r (λ e. P e × Q e × R e)

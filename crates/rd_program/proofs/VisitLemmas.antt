@@ -1,7 +1,7 @@
 -- The visits that `serve` serves, over the desk that stood.
 use Rattle.std.proofs.Common.{◌≡◌, ◌⊎◌, ℕ, Bool, IsTrue, List, Option, Some, None, Result, Ok, Err, IfSome, OnOk, inr, refl, subst, sym}
 use Rattle.std.specs.Io.KnownBytes.{Keeps}
-use Rattle.std.specs.Prelude.{IsSome, IsSomeAnd, ⊤}
+use Rattle.std.specs.Prelude.{IsSome, IsSomeAnd}
 use Rattle.sqlite.specs.Held.{Held}
 use Rattle.sqlite.specs.Store.{Ghosts}
 use Rattle.rd_policy.specs.declared.zone.Zone.{Zone}
@@ -10,16 +10,10 @@ use Rattle.rd_store.specs.Migrated.{IsMigrated}
 use Rattle.rd_messages.specs.DoorVisits.{Coming, VisitsSoFar}
 use Rattle.rd_http.specs.declared.serve.Ended.TheVariants.{Count}
 use Rattle.rd_http.specs.declared.serve.Served.{Served}
-use Rattle.rd_commands.specs.Asks.{IsServeAsk}
-use Rattle.rd_commands.specs.declared.words.Ask.{Ask}
-use Rattle.rd_commands.specs.declared.words.Ask.TheVariants.{Serve}
-use Rattle.rd_commands.specs.Serving.{GivesTimeouts, Place, place_of}
-use Rattle.rd_commands.specs.Commands.{AsksServe, IsAskOf}
 use Rattle.rd_commands.specs.declared.serving.Timeouts.{Timeouts}
 use Rattle.rd_messages.specs.declared.pace.TimeLimits.{TimeLimits}
-use Rattle.rd_program.specs.Serving.{AreLimitsOf, GivesLimits, LimitsVisitors, WritesOnceLent, WritesOnceLentBy}
-use Rattle.rd_program.specs.Leaves.{IsSame, LeavesDesk}
-use Rattle.rd_program.specs.Visiting.{HasVisits, RunsVisits, ServesBy, ServesDoor, ServesDoorBy, ServesVisits}
+use Rattle.rd_program.specs.Serving.{AreLimitsOf, WritesOnceLent}
+use Rattle.rd_program.specs.Visiting.{RunsVisits, ServesDoor, ServesVisits}
 use Rattle.rd_program.proofs.ShowLemmas.{ends_with}
 
 module _ {S D : Type 0} (g : Ghosts S) (told : D → Option VisitsSoFar) (coming : D → Option (List Coming)) where
@@ -56,34 +50,6 @@ module _ {S D : Type 0} (g : Ghosts S) (told : D → Option VisitsSoFar) (coming
       (both_doors count zone mid lent old new opened last conn served (counted whole) whole is lasts same took (runs whole))))
   serves_door (Err error) served count zone asked mid door lent later old new opened last conn by here there is lasts same took counted whole runs = tt
 
-  -- the visits come after the desk was asked whether the clock is behind
-  pub runs_from : (zone : Zone) (before after : D) (served : Served) (opened mid last : Held S) → LeavesDesk g IsSame opened mid → Lasts g mid last
-      → RunsVisits g told coming zone before after served mid last → RunsVisits g told coming zone before after served opened last
-  runs_from zone before after served opened mid last same lasts runs is_open =
-      subst (λ d. HasVisits told coming zone before after served d (desk g last)) (same.reached (lasts.was_open is_open)) (runs is_open)
-
-  -- of the door that the machine shows
-  pub visits_from : (zone : Zone) (door later : Option D) (served : Served) (opened mid last : Held S) → LeavesDesk g IsSame opened mid → Lasts g mid last
-      → IfSome door (λ before. IsSomeAnd later (λ after. RunsVisits g told coming zone before after served mid last))
-      → IfSome door (λ before. IsSomeAnd later (λ after. RunsVisits g told coming zone before after served opened last))
-  visits_from zone None later served opened mid last same lasts runs = tt
-  visits_from zone (Some before) None served opened mid last same lasts runs = absurd runs
-  visits_from zone (Some before) (Some after) served opened mid last same lasts runs = runs_from zone before after served opened mid last same lasts runs
-
-  -- ---- by the words
-
-  pub serves_by : (doors laters : Place → Option D) (stands : List ℕ → Option (Held S)) (left : Option (Held S)) (ask : Ask)
-      (store : List ℕ) (place : Place) (count : ℕ) (rule : List ℕ) → IsServeAsk store place count rule ask → ServesBy g told coming doors laters stands left ask
-      → ServesDoorBy g told coming count rule (doors place) (laters place) (stands store) left
-  serves_by doors laters stands left (Serve ask) store place count rule asks serves = (
-    ask.zone,
-    asks.zone_is,
-    subst (λ n. ServesDoor g told coming n ask.zone (doors place) (laters place) (stands store) left) asks.count_is
-        (subst (λ p. ServesDoor g told coming ask.count ask.zone (doors p) (laters p) (stands store) left) asks.place_is
-        (subst (λ s. ServesDoor g told coming ask.count ask.zone (doors (place_of ask.place)) (laters (place_of ask.place)) (stands s) left) asks.store_is serves)),
-  )
-  serves_by doors laters stands left ask store place count rule asks serves = absurd asks
-
 -- ---- how long visitors may take
 
 -- a call after the visits keeps the limits, and the machine showed from the first whether it shows them
@@ -92,24 +58,6 @@ pub limits_kept : {T E : Type 0} (r : Result T E) (shows showed : Bool) (limits 
 limits_kept (Ok value) shows showed limits later timeouts same kept are =
     λ shown. subst (λ l. IsSomeAnd l (AreLimitsOf timeouts)) (sym kept) (are (subst (λ b. IsTrue b) (sym same) shown))
 limits_kept (Err error) shows showed limits later timeouts same kept are = tt
-
--- no other command has any
-pub no_limits : {T E : Type 0} (r : Result T E) → OnOk r (⊤)
-no_limits (Ok value) = tt
-no_limits (Err error) = tt
-
--- limits that are those of the seconds of a command are those that the options give
-given_by : (are_given : Timeouts → Type 0) (limits : Option TimeLimits) (timeouts : Timeouts) → are_given timeouts → IsSomeAnd limits (AreLimitsOf timeouts)
-    → IsSomeAnd limits (GivesLimits are_given)
-given_by are_given (Some limit) timeouts given are = (timeouts, given, are)
-given_by are_given None timeouts given are = absurd are
-
-pub limits_by : (words : List (List ℕ)) (shows : Bool) (limits : Option TimeLimits) (ask : Ask) (store : List ℕ) (place : Place) (count : ℕ) (rule : List ℕ)
-    → IsAskOf words ask → (asks : AsksServe words store place count rule) → LimitsVisitors shows limits ask → IsTrue shows
-    → IsSomeAnd limits (GivesLimits (GivesTimeouts asks.rows))
-limits_by words shows limits (Serve ask) store place count rule is asks are =
-    λ shown. given_by (GivesTimeouts asks.rows) limits ask.timeouts (is.timeouts asks.rows asks.enters) (are shown)
-limits_by words shows limits ask store place count rule is asks are = absurd (is.serve store place count rule asks)
 
 -- ---- a door that was lent
 
@@ -128,9 +76,3 @@ pub lent_limits : (shows showed : Bool) (limits later : Option TimeLimits) (time
     → (IsTrue showed → IsSomeAnd limits (AreLimitsOf timeouts)) → WritesOnceLent shows later out written
 lent_limits shows showed limits later timeouts out written same kept are =
     λ shown. inr (subst (λ l. IsSome l) (sym kept) (is_there limits timeouts (are (subst (λ b. IsTrue b) (sym same) shown))))
-
--- by the words
-pub lent_by : (shows : Bool) (limits : Option TimeLimits) (out written : Option (List ℕ)) (ask : Ask) (store : List ℕ) (place : Place) (count : ℕ) (rule : List ℕ)
-    → IsServeAsk store place count rule ask → WritesOnceLentBy shows limits out written ask → WritesOnceLent shows limits out written
-lent_by shows limits out written (Serve ask) store place count rule asks lent = lent
-lent_by shows limits out written ask store place count rule asks lent = absurd asks

@@ -4,7 +4,7 @@ use Rattle.std.proofs.KnownBytes.{Keeps-refl}
 use Rattle.rd_commands.specs.declared.beside.Told.{Told}
 use Rattle.rd_commands.specs.declared.done.Done.{Done}
 use Rattle.rd_commands.specs.declared.done.Done.TheVariants.{InPart, Whole}
-use Rattle.rd_program.specs.Performing.{EndsSo}
+use Rattle.rd_program.specs.Does.{EndsSo}
 
 -- of nothing all holds
 pub none_so : {A : Type 0} (P : A → Type 0) (kept : Option A) → kept ≡ None → IfSome kept P

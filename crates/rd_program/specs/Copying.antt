@@ -1,6 +1,6 @@
 -- What the command `copy` gives, by the connection that stood for the store and the one that is left of it, and by the two
 -- for the new store, if the machine shows all four.
-use Rattle.std.specs.Prelude.{◌≡◌, ◌⊎◌, ⊤, ◌∷◌, ℕ, Bool, IfErr, IfSome, List, OnOk, Option, Result, Some, false, true}
+use Rattle.std.specs.Prelude.{◌≡◌, ◌⊎◌, ◌∷◌, ℕ, Bool, IfErr, IfSome, List, OnOk, Option, Result, Some, false, true}
 use Rattle.std.specs.Io.KnownBytes.{Appends, Keeps}
 use Rattle.sqlite.specs.Held.{Held, state}
 use Rattle.sqlite.specs.Store.{Ghosts}
@@ -15,12 +15,9 @@ use Rattle.rd_program.specs.Faults.{refusal_to_create}
 use Rattle.rd_program.specs.Inits.{done_line}
 use Rattle.rd_program.specs.Leaves.{GivesBack, HasBoth, IfBoth, IsSame, LeavesDesk, LeavesNone, NamesOpening}
 use Rattle.rd_program.specs.Serving.{IsOpenRefusal}
-use Rattle.rd_program.specs.Showing.{EndsWith}
 use Rattle.rd_commands.specs.Output.{AppendsPart}
 use Rattle.rd_commands.specs.declared.refusal.Refusal.{Refusal}
 use Rattle.rd_commands.specs.declared.refusal.Refusal.TheVariants.{Device, Exists, NoMemory, Store}
-use Rattle.rd_commands.specs.declared.words.Ask.{Ask}
-use Rattle.rd_commands.specs.declared.words.Ask.TheVariants.{Copy}
 
 -- a new store was asked for at this path, with sums or without, and no other
 abbrev pub AsksNew : Option (List (List ℕ × Bool)) → List ℕ → Bool → Option (List (List ℕ × Bool)) → Type 0
@@ -118,13 +115,3 @@ pub record RunsCopy {S T : Type 0} (g : Ghosts S) (shows : Bool) (stood left was
   pub done : OnOk result (HasBoth shows fresh made × IfAll stood left fresh made (MakesCopy g) × Appends out written done_line)
   pub due : IfErr result (λ refusal. RefusesCopy refusal out written × LeavesCopy g stood left was fresh made refusal × NamesOpening g stood left refusal)
   pub back : GivesBack shows was made
-
--- ---- by what is asked for
-
--- a `copy` ends so, and asks for a new store at its path, with sums as its words do, only where it opened the desk; or for none
-abbrev pub CopiesBy : {S T : Type 0} → Ghosts S → Bool → (List ℕ → Option (Held S)) → Option (Held S) → Option (Held S) → (List ℕ → Option (Held S)) → Option (Held S)
-    → Option (List (List ℕ × Bool)) → Option (List (List ℕ × Bool)) → Option (List ℕ) → Option (List ℕ) → Ask → Result T Refusal → Type 0
-CopiesBy g shows stands left was fresh made before after out written (Copy ask) result =
-    RunsCopy g shows (stands ask.store.now) left was (fresh ask.target.now) made out written result
-    × AsksNoOtherNew before ask.target.now ask.has_sums after (EndsWith (stands ask.store.now) left (OpensDesk g))
-CopiesBy g shows stands left was fresh made before after out written ask result = ⊤

@@ -14,26 +14,13 @@ Asks old wanted new = IfSome old (λ before. new ≡ Some (wanted ∷ before))
 abbrev pub AsksPath : Option (List Wanted) → List ℕ → Option (List Wanted) → Type 0
 AsksPath old path new = Asks old (StoreAt path) new
 
--- that one was asked for and no other, or none was
-abbrev pub AsksNoOther : Option (List Wanted) → List ℕ → Option (List Wanted) → Type 0
-AsksNoOther old path new = IfSome old (λ before. (new ≡ Some before) ⊎ (new ≡ Some (StoreAt path ∷ before)))
-
 -- the first of these two was asked for, and then, if at all, the second, and no other
 abbrev pub AsksThen : Option (List Wanted) → Wanted → Wanted → Option (List Wanted) → Type 0
 AsksThen old first second new = IfSome old (λ before. (new ≡ Some (first ∷ before)) ⊎ (new ≡ Some (second ∷ first ∷ before)))
 
--- they were so asked for, or none was
-abbrev pub AsksInTurn : Option (List Wanted) → Wanted → Wanted → Option (List Wanted) → Type 0
-AsksInTurn old first second new =
-    IfSome old (λ before. (new ≡ Some before) ⊎ ((new ≡ Some (first ∷ before)) ⊎ (new ≡ Some (second ∷ first ∷ before))))
-
 -- a connection was asked for, with this word on sums for a file that is new
 abbrev pub AsksSums : Option (List Bool) → Bool → Option (List Bool) → Type 0
 AsksSums old summed new = IfSome old (λ before. new ≡ Some (summed ∷ before))
-
--- a connection was asked for, with this word on sums for a file that is new, or none was
-abbrev pub AsksNoOtherSums : Option (List Bool) → Bool → Option (List Bool) → Type 0
-AsksNoOtherSums old summed new = IfSome old (λ before. (new ≡ Some before) ⊎ (new ≡ Some (summed ∷ before)))
 
 -- The machine shows what it showed, but for its clock; at the place, if it showed the door there, the door as its borrower
 -- left it; and, if it shows its connections, that visitors may take as long as it was told.

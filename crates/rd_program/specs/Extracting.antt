@@ -1,5 +1,5 @@
 -- What the command `files` makes of an image: a file in a folder for each sound file of the served class.
-use Rattle.std.specs.Prelude.{◌≡◌, ◌≢◌, ◌⊎◌, ◌++◌, ◌∷◌, ◌==◌, ◌&&◌, ⊤, [], ℕ, All, Bool, Err, IfSome, List, Ok, Option, Result, Some, codes, length, map}
+use Rattle.std.specs.Prelude.{◌≡◌, ◌≢◌, ◌⊎◌, ◌++◌, ◌∷◌, ◌==◌, ◌&&◌, ⊤, [], ℕ, All, Bool, IfSome, List, Option, Some, codes, length, map}
 use Rattle.std.specs.Fmt.{decimal}
 use Rattle.std.specs.Io.KnownBytes.{Appends, Keeps}
 use Rattle.std.specs.List.{concat, filter}
@@ -11,11 +11,8 @@ use Rattle.rd_volume.specs.declared.found.Found.{Found}
 use Rattle.rd_commands.specs.Listed.{tab}
 use Rattle.rd_commands.specs.Output.{AppendsPart}
 use Rattle.rd_commands.specs.Printed.{line_feed}
-use Rattle.rd_commands.specs.declared.done.Done.{Done}
 use Rattle.rd_commands.specs.declared.refusal.Refusal.{Refusal}
 use Rattle.rd_commands.specs.declared.refusal.Refusal.TheVariants.{Device, Exists, NoMemory, WrongSize}
-use Rattle.rd_commands.specs.declared.words.Ask.{Ask}
-use Rattle.rd_commands.specs.declared.words.Ask.TheVariants.{Extract}
 use Rattle.rd_program.specs.World.{Made}
 use Rattle.rd_program.specs.declared.machine.WriteFault.{WriteFault}
 use Rattle.rd_program.specs.declared.machine.WriteFault.TheVariants as write_fault
@@ -96,15 +93,6 @@ RefusesExtract kind image folder old new out written Exists = ExtractsPart kind 
 RefusesExtract kind image folder old new out written Device = (new ≡ old) × Keeps out written ⊎ ExtractsPart kind image folder old new out written
 RefusesExtract kind image folder old new out written NoMemory = (new ≡ old) × Keeps out written ⊎ ExtractsPart kind image folder old new out written
 RefusesExtract kind image folder old new out written other = ⊥
-
--- what `files` does, by what the machine shows
-abbrev pub ExtractsBy : (List ℕ → Option (List ℕ)) → Option (List ℕ) → Option (List Made) → Option (List Made) → Option (List ℕ) → Option (List ℕ) → Ask
-    → Result Done Refusal → Type 0
-ExtractsBy files input old new out written (Extract ask) (Ok done) =
-    OfImage files input ask.image.image.now (λ image. Extracts ask.image.kind image ask.folder.now old new out written)
-ExtractsBy files input old new out written (Extract ask) (Err refusal) =
-    OfImage files input ask.image.image.now (λ image. RefusesExtract ask.image.kind image ask.folder.now old new out written refusal)
-ExtractsBy files input old new out written ask result = ⊤
 
 -- ---- inside
 

@@ -2,14 +2,13 @@
 -- that the machine took back, if the machine shows both. If there was no connection, the machine
 -- took none back, and nothing more is stated of such a run: only the machine knows what is in the
 -- file then.
-use Rattle.std.specs.Prelude.{◌≡◌, ◌⊎◌, ⊤, ◌++◌, ℕ, ℤ, List, [], ◌∷◌, Err, IfSome, IsSome, IsTrue, Bool, None, Ok, Option, Result, Some, false, option_map, true}
+use Rattle.std.specs.Prelude.{◌≡◌, ◌⊎◌, ⊤, ◌++◌, ℕ, ℤ, List, [], ◌∷◌, Err, IfSome, IsSome, IsTrue, Bool, None, Ok, Option, Result, Some, false, true}
 use Rattle.std.specs.Io.KnownBytes.{Appends}
-use Rattle.sha2.specs.Sha256.{sha256}
 use Rattle.sqlite.specs.Store.{Ghosts}
 use Rattle.sqlite.specs.Effect.{Database}
 use Rattle.sqlite.specs.Held.{Held, state}
 use Rattle.rd_policy.specs.Days.{HasDay}
-use Rattle.rd_policy.specs.Zones.{IsZoneOf, day_number}
+use Rattle.rd_policy.specs.Zones.{day_number}
 use Rattle.rd_policy.specs.declared.zone.Zone.{Zone}
 use Rattle.rd_store.specs.Created.{IsUntouched}
 use Rattle.rd_store.specs.Held.{IsOpen, Lasts, desk}
@@ -20,14 +19,12 @@ use Rattle.rd_protocol.specs.Replies.{IsStep}
 use Rattle.rd_protocol.specs.declared.request.What.{What}
 use Rattle.rd_protocol.specs.declared.request.What.TheVariants as request
 use Rattle.rd_program.specs.Serving.{listening_at}
-use Rattle.rd_commands.specs.Serving.{Place, place_of}
+use Rattle.rd_commands.specs.Serving.{Place}
 use Rattle.rd_commands.specs.Refusals.{status_of}
 use Rattle.rd_commands.specs.Sheets.{Says}
 use Rattle.rd_commands.specs.declared.refusal.Refusal.{Refusal}
 use Rattle.rd_commands.specs.declared.refusal.Refusal.TheVariants.{Clock, Device, Inconsistent, NoMemory, NotADesk, Store, Version}
 use Rattle.rd_commands.specs.declared.sheet.SheetRow.{SheetRow}
-use Rattle.rd_commands.specs.declared.words.Ask.{Ask}
-use Rattle.rd_commands.specs.declared.words.Ask.TheVariants.{Copy, Import, Init, OneQuestion, Serve, Sift, StaffKey}
 use Rattle.rd_commands.specs.declared.words.Question.{Question}
 use Rattle.rd_commands.specs.declared.words.Question.TheVariants as question
 
@@ -131,12 +128,6 @@ pub record IsDayAt (moment : Option ℤ) (zone : Zone) (day : ℤ) : Type 0 wher
   pub in_range : HasDay seconds
   pub is : day ≡ day_number seconds zone
 
--- It is that by the clocks of the rule.
-pub record IsDayBy (moment : Option ℤ) (rule : List ℕ) (day : ℤ) : Type 0 where
-  pub zone : Zone
-  pub zone_is : IsZoneOf rule zone
-  pub day_is : IsDayAt moment zone day
-
 -- the desk is as it was
 abbrev pub IsSame : Desk → Desk → Type 0
 IsSame old new = new ≡ old
@@ -185,38 +176,3 @@ TakesRow badge day row old new = (new ≡ old)
 -- the desk is as it was, or after the step of one request to take in the image of the row that these fields say
 abbrev pub TakesFields : List ℕ → ℤ → List (List ℕ) → Desk → Desk → Type 0
 TakesFields badge day fields old new = (new ≡ old) ⊎ ((row : SheetRow) × Says fields row × TakesRow badge day row old new)
-
--- ---- by what is asked for
-
--- a machine that shows its connections had one for the store that the command names, and has taken one back
-abbrev pub StandsThere : {S : Type 0} → Bool → (List ℕ → Option (Held S)) → Option (Held S) → Ask → Type 0
-StandsThere shows stands left (Init ask) = HasBoth shows (stands ask.store.now) left
-StandsThere shows stands left (Serve ask) = HasBoth shows (stands ask.store.now) left
-StandsThere shows stands left (Import ask) = HasBoth shows (stands ask.store.now) left
-StandsThere shows stands left (Sift ask) = HasBoth shows (stands ask.import.store.now) left
-StandsThere shows stands left (OneQuestion ask) = HasBoth shows (stands ask.store.now) left
-StandsThere shows stands left (StaffKey ask) = HasBoth shows (stands ask.store.now) left
-StandsThere shows stands left (Copy ask) = HasBoth shows (stands ask.store.now) left
-StandsThere shows stands left other = ⊤
-
--- what `serve`, `import`, `export`, `check`, `show` and `copy` leave of the store, however they end
-abbrev pub LeavesBy : {S : Type 0} → Ghosts S → Option ℤ → Option (Held S) → (List ℕ → Option (Held S)) → Option (Held S) → Ask → Type 0
-LeavesBy g clock was stands new (Serve ask) = Leaves was (stands ask.store.now) new (Lasts g)
-LeavesBy g clock was stands new (Import ask) =
-    Leaves was (stands ask.store.now) new (LeavesStore g (TakesIn (sha256 ask.key.now) (IsDayAt (moment_of ask.when.seconds clock) ask.when.zone)))
-LeavesBy g clock was stands new (Sift ask) =
-    Leaves was (stands ask.import.store.now) new (LeavesStore g (TakesUnlessDry ask.dry_run (sha256 ask.import.key.now) (IsDayAt (moment_of ask.import.when.seconds clock) ask.import.when.zone)))
-LeavesBy g clock was stands new (OneQuestion ask) =
-    Leaves was (stands ask.store.now) new (LeavesStore g (StepsOf (option_map sha256 (option_map (λ key. key.now) ask.key)) (IsDayAt (moment_of ask.when.seconds clock) ask.when.zone) ask.question))
-LeavesBy g clock was stands new (Copy ask) = Leaves was (stands ask.store.now) new (LeavesStore g IsSame)
-LeavesBy g clock was stands new ask = ⊤
-
--- after a failure: what `serve` leaves; and that `import`, `export`, `check` and `show` name a failed opening only if
--- the opening gave it
-abbrev pub LeavesRefused : {S : Type 0} → Ghosts S → Option (Held S) → (List ℕ → Option (Held S)) → Option (Held S)
-    → Option (List ℕ) → Option (List ℕ) → Ask → Refusal → Type 0
-LeavesRefused g was stands new out written (Serve ask) refusal = LeavesServe g was (stands ask.store.now) new (place_of ask.place) out written refusal
-LeavesRefused g was stands new out written (Import ask) refusal = NamesOpening g (stands ask.store.now) new refusal
-LeavesRefused g was stands new out written (Sift ask) refusal = NamesOpening g (stands ask.import.store.now) new refusal
-LeavesRefused g was stands new out written (OneQuestion ask) refusal = NamesOpening g (stands ask.store.now) new refusal
-LeavesRefused g was stands new out written ask refusal = ⊤

@@ -2,6 +2,7 @@
 -- project's rules.
 -- ---- what a reader of a public clause believes
 pub mod World
+pub mod Does
 pub mod Promises
 pub mod Inits
 pub mod Serving
@@ -12,6 +13,9 @@ pub mod Showing
 pub mod Doors
 pub mod Visiting
 pub mod Rows
+pub mod Sifting
+pub mod Completing
+pub mod Extracting
 pub mod Asked
 pub mod Explaining
 pub mod StaffKeys
@@ -37,7 +41,3 @@ pub mod Faults
 pub mod DiskFiles
 pub mod Answers
 pub use Rattle.rd_commands.specs.Sheets
-pub mod Completing
-pub mod Extracting
-pub mod Sifting
-pub mod Performing

@@ -1,6 +1,6 @@
 -- A clock that shows a day more than one day before that of a recorded check: it is wrong, unless that check was made
 -- by one that was.
-use Rattle.std.specs.Prelude.{◌≡◌, ◌⊎◌, ⊤, ℕ, ℤ, ◌+ℤ◌, pos, Bool, IfSome, IsTrue, List, None, OnOk, Option, Result, false, true}
+use Rattle.std.specs.Prelude.{◌≡◌, ◌⊎◌, ⊤, ℕ, ℤ, ◌+ℤ◌, pos, Bool, IfSome, IsTrue, List, None, Option, false, true}
 use Rattle.sqlite.specs.Held.{Held, state}
 use Rattle.sqlite.specs.Store.{Ghosts}
 use Rattle.rd_holdings.specs.State.{Desk}
@@ -11,14 +11,10 @@ use Rattle.rd_store.specs.Held.{IsOpen, desk}
 use Rattle.rd_store.specs.Latest.{HasCheckAfter, HasNoCheckAfter}
 use Rattle.rd_store.specs.Migrated.{SpellsDesk}
 use Rattle.rd_commands.specs.Commands.{AsksCheck, AsksExport, AsksImport, Trusts}
-use Rattle.rd_commands.specs.declared.done.Done.{Done}
 use Rattle.rd_commands.specs.declared.refusal.Refusal.{Refusal}
 use Rattle.rd_commands.specs.declared.refusal.Refusal.TheVariants.{Clock}
-use Rattle.rd_commands.specs.declared.words.Ask.{Ask}
-use Rattle.rd_commands.specs.declared.words.Ask.TheVariants.{Import, OneQuestion, Sift}
 use Rattle.rd_commands.specs.declared.words.Question.{Question}
 use Rattle.rd_commands.specs.declared.words.Question.TheVariants as question
-use Rattle.rd_program.specs.Leaves.{moment_of}
 use Rattle.rd_program.specs.Showing.{EndsWith}
 
 -- the desk has recorded no check of a later day than the one after this day: clocks of two places may show days that
@@ -45,10 +41,6 @@ StoodOnTime g day before last = IsOpen g last → (found : Desk) × SpellsDesk (
 -- The desk that stood was on time by the clock, if the machine shows that.
 abbrev pub WasOnTime : {S : Type 0} → Ghosts S → Option ℤ → Zone → Option (Held S) → Option (Held S) → Type 0
 WasOnTime g clock zone stood left = IfSome clock (λ seconds. EndsWith stood left (StoodOnTime g (day_number seconds zone)))
-
--- by the clocks of the rule
-abbrev pub WasOnTimeBy : {S : Type 0} → Ghosts S → Option ℤ → List ℕ → Option (Held S) → Option (Held S) → Type 0
-WasOnTimeBy g clock rule stood left = (zone : Zone) × IsZoneOf rule zone × WasOnTime g clock zone stood left
 
 -- While the connection is open, the desk that the tables spelled had recorded a check that makes the clock wrong.
 abbrev pub StoodBehind : {S : Type 0} → Ghosts S → ℤ → Held S → Held S → Type 0
@@ -78,16 +70,6 @@ abbrev pub must_be_on_time : Option ℤ → Bool → Bool
 must_be_on_time None false = true
 must_be_on_time moment trusted = false
 
--- a command that goes by the clock was on time, if it is done
-abbrev pub IsOnTimeBy : {S : Type 0} → Ghosts S → Option ℤ → (List ℕ → Option (Held S)) → Option (Held S) → Ask → Result Done Refusal → Type 0
-IsOnTimeBy g clock stands left (Import ask) result =
-    IsTrue (must_be_on_time ask.when.seconds ask.when.is_trusting) → OnOk result (WasOnTime g clock ask.when.zone (stands ask.store.now) left)
-IsOnTimeBy g clock stands left (Sift ask) result =
-    IsTrue (must_be_on_time ask.import.when.seconds ask.import.when.is_trusting) → OnOk result (WasOnTime g clock ask.import.when.zone (stands ask.import.store.now) left)
-IsOnTimeBy g clock stands left (OneQuestion ask) result =
-    is_dated ask.question ≡ true → IsTrue (must_be_on_time ask.when.seconds ask.when.is_trusting) → OnOk result (WasOnTime g clock ask.when.zone (stands ask.store.now) left)
-IsOnTimeBy g clock stands left ask result = ⊤
-
 -- Over an open desk `clock` comes at a moment that is known and has a day only if what is asked depends on the day, the
 -- day has to be on time, and the desk is behind.
 abbrev pub IsBehindOn : {S : Type 0} → Ghosts S → Bool → Bool → Option ℤ → Zone → Held S → Held S → Refusal → Type 0
@@ -100,13 +82,3 @@ abbrev pub IsBehindIn : {S : Type 0} → Ghosts S → Bool → Bool → Option �
 IsBehindIn g dated must moment zone stood left Clock =
     IfSome moment (λ seconds. HasDay seconds → (dated ≡ true) × IsTrue must × EndsWith stood left (StoodBehind g (day_number seconds zone)))
 IsBehindIn g dated must moment zone stood left refusal = ⊤
-
--- by what is asked for
-abbrev pub IsBehindBy : {S : Type 0} → Ghosts S → Option ℤ → (List ℕ → Option (Held S)) → Option (Held S) → Ask → Refusal → Type 0
-IsBehindBy g clock stands left (Import ask) refusal =
-    IsBehindIn g true (must_be_on_time ask.when.seconds ask.when.is_trusting) (moment_of ask.when.seconds clock) ask.when.zone (stands ask.store.now) left refusal
-IsBehindBy g clock stands left (OneQuestion ask) refusal =
-    IsBehindIn g (is_dated ask.question) (must_be_on_time ask.when.seconds ask.when.is_trusting) (moment_of ask.when.seconds clock) ask.when.zone (stands ask.store.now) left refusal
-IsBehindBy g clock stands left (Sift ask) refusal =
-    IsBehindIn g true (must_be_on_time ask.import.when.seconds ask.import.when.is_trusting) (moment_of ask.import.when.seconds clock) ask.import.when.zone (stands ask.import.store.now) left refusal
-IsBehindBy g clock stands left ask refusal = ⊤

@@ -1,12 +1,11 @@
 -- What becomes of the rows of a sheet: the line that is written of each, and the desk after it.
-use Rattle.std.specs.Prelude.{◌≡◌, ◌⊎◌, ◌+◌, ⊤, ℕ, ℤ, All, IfOk, IfSome, List, [], ◌∷◌, None, Option, Result, Some, length}
+use Rattle.std.specs.Prelude.{◌≡◌, ◌⊎◌, ◌+◌, ⊤, ℕ, ℤ, All, IfSome, List, [], ◌∷◌, None, Option, Some, length}
 use Rattle.std.specs.Io.KnownBytes.{Appends}
 use Rattle.std.specs.List.{concat}
 use Rattle.csv.specs.Machine.{next_record}
 use Rattle.csv.specs.Reading.{default_config, strip_bom}
 use Rattle.csv.specs.declared.parser.State.{State}
 use Rattle.csv.specs.declared.parser.State.TheVariants.{StartRecord}
-use Rattle.sha2.specs.Sha256.{sha256}
 use Rattle.sqlite.specs.Held.{Held, state}
 use Rattle.sqlite.specs.Store.{Ghosts}
 use Rattle.rd_store.specs.Held.{IsOpen, desk}
@@ -22,11 +21,7 @@ use Rattle.rd_commands.specs.declared.done.Done.TheVariants.{InPart, Whole}
 use Rattle.rd_commands.specs.declared.refusal.Refusal.{Refusal}
 use Rattle.rd_commands.specs.declared.refusal.Refusal.TheVariants.{BadSheet}
 use Rattle.rd_commands.specs.declared.sheet.SheetRow.{SheetRow}
-use Rattle.rd_commands.specs.declared.words.Ask.{Ask}
-use Rattle.rd_commands.specs.declared.words.Ask.TheVariants.{Import, Sift}
 use Rattle.rd_program.specs.Importing.{accession_line, bad_row_line, done_by, word_of}
-use Rattle.rd_program.specs.Leaves.{IsDayAt, moment_of}
-use Rattle.rd_program.specs.Showing.{EndsWith}
 use Rattle.rd_program.specs.World.{World}
 
 -- ---- the rows
@@ -105,24 +100,6 @@ TakesSheetIn g files badge Days sheet out written done before last =
     IsOpen g last → (stood : Desk) × SpellsDesk (state g before).now stood × TakesSheetOn files badge Days sheet out written done stood (desk g last)
 
 -- ---- inside
-
--- it asks to take images in, row by row, and neither to try that alone nor to go on past a lost file
-abbrev pub TakesRows : Ask → Type 0
-TakesRows (Import ask) = ⊤
-TakesRows ask = ⊥
-
--- what `import` does, by what the machine shows
-abbrev pub ImportsBy : {S : Type 0} → Ghosts S → (List ℕ → Option (List ℕ)) → (List ℕ → Option (List ℕ)) → Option ℤ → (List ℕ → Option (Held S)) → Option (Held S)
-    → Option (List ℕ) → Option (List ℕ) → Ask → Result Done Refusal → Type 0
-ImportsBy g files sheets clock stands left out written (Import ask) result =
-    IfOk result (λ done. EndsWith (stands ask.store.now) left (TakesSheetIn g files (sha256 ask.key.now) (IsDayAt (moment_of ask.when.seconds clock) ask.when.zone) (sheets ask.sheet.now) out written done))
-ImportsBy g files sheets clock stands left out written ask result = ⊤
-
--- why `import` fails: if the machine shows the sheet, `bad-sheet` is named only where it is due
-abbrev pub RefusesSheetBy : (List ℕ → Option (List ℕ)) → Ask → Refusal → Type 0
-RefusesSheetBy sheets (Import ask) refusal = IfSome (sheets ask.sheet.now) (λ bytes. IsBadSheetDue bytes refusal)
-RefusesSheetBy sheets (Sift ask) refusal = IfSome (sheets ask.import.sheet.now) (λ bytes. IsBadSheetDue bytes refusal)
-RefusesSheetBy sheets ask refusal = ⊤
 
 -- the same files and sheets are shown
 abbrev pub KeepsFiles : {S D : Type 0} → World S D → World S D → Type 0

@@ -1,5 +1,5 @@
 -- What the command `serve` gives.
-use Rattle.std.specs.Prelude.{◌≡◌, ◌*◌, ◌⊎◌, ℕ, ℤ, Bool, Err, IfSome, IsSome, IsSomeAnd, IsTrue, List, Ok, Option, Result, ◌++◌, codes, ⊤}
+use Rattle.std.specs.Prelude.{◌≡◌, ◌*◌, ◌⊎◌, ℕ, ℤ, Bool, Err, IfSome, IsSome, IsTrue, List, Ok, Option, Result, ◌++◌, codes}
 use Rattle.std.specs.Duration.{as_nanos}
 use Rattle.std.specs.Fmt.{decimal}
 use Rattle.rd_messages.specs.declared.pace.TimeLimits.{TimeLimits}
@@ -13,8 +13,6 @@ use Rattle.rd_commands.specs.Printed.{line_feed}
 use Rattle.rd_commands.specs.Refusals.{IsDeviceOrMemory}
 use Rattle.rd_commands.specs.Serving.{Place}
 use Rattle.rd_commands.specs.Serving.Place.{Port, Socket}
-use Rattle.rd_commands.specs.declared.words.Ask.{Ask}
-use Rattle.rd_commands.specs.declared.words.Ask.TheVariants.{Serve}
 use Rattle.rd_commands.specs.declared.refusal.Refusal.{Refusal}
 use Rattle.rd_commands.specs.declared.refusal.Refusal.TheVariants.{Clock, Device, Inconsistent, NoMemory, NotADesk, Store, Version}
 
@@ -37,23 +35,9 @@ pub record AreLimitsOf (timeouts : Timeouts) (limits : TimeLimits) : Type 0 wher
   pub write : as_nanos limits.write ≡ timeouts.write * 1_000_000_000
   pub reply : as_nanos limits.reply ≡ timeouts.reply * 1_000_000_000
 
--- visitors may take as many seconds as are given
-abbrev pub GivesLimits : (Timeouts → Type 0) → TimeLimits → Type 0
-GivesLimits are_given limits = (timeouts : Timeouts) × are_given timeouts × AreLimitsOf timeouts limits
-
--- where the machine shows how long visitors may take, they may take as long as the command says
-abbrev pub LimitsVisitors : Bool → Option TimeLimits → Ask → Type 0
-LimitsVisitors shows limits (Serve ask) = IsTrue shows → IsSomeAnd limits (AreLimitsOf ask.timeouts)
-LimitsVisitors shows limits ask = ⊤
-
 -- nothing was written, or a door was lent, by a machine that shows how long visitors may take there
 abbrev pub WritesOnceLent : Bool → Option TimeLimits → Option (List ℕ) → Option (List ℕ) → Type 0
 WritesOnceLent shows limits old new = IsTrue shows → Keeps old new ⊎ IsSome limits
-
--- a command that asks for visits says so only once it has a door
-abbrev pub WritesOnceLentBy : Bool → Option TimeLimits → Option (List ℕ) → Option (List ℕ) → Ask → Type 0
-WritesOnceLentBy shows limits old new (Serve ask) = WritesOnceLent shows limits old new
-WritesOnceLentBy shows limits old new ask = ⊤
 
 -- the line that says how many visits were served
 abbrev pub served_line : ℕ → List ℕ

@@ -28,8 +28,6 @@ use Rattle.rd_commands.specs.declared.refusal.Refusal.{Refusal}
 use Rattle.rd_commands.specs.declared.refusal.Refusal.TheVariants.{NoAccession, StaffOnly, Store, UnknownKey}
 use Rattle.rd_commands.specs.declared.done.Done.{Done}
 use Rattle.rd_commands.specs.declared.done.Done.TheVariants.{InPart, Whole}
-use Rattle.rd_commands.specs.declared.words.Ask.{Ask}
-use Rattle.rd_commands.specs.declared.words.Ask.TheVariants.{OneQuestion}
 use Rattle.rd_commands.specs.declared.words.OneQuestionAsk.{OneQuestionAsk}
 use Rattle.rd_commands.specs.declared.words.Question.{Question}
 use Rattle.rd_commands.specs.declared.words.Question.TheVariants as question
@@ -149,12 +147,6 @@ pub record AnswersOneQuestion {S : Type 0} (g : Ghosts S) (clock : Option ℤ) (
       → IfOk result (λ done. EndsWith stood left (FindsStore g (IsDayAt (moment_of ask.when.seconds clock) ask.when.zone) (badge_of ask) acc (found_by done)))
   pub due : IsSome ask.key ⊎ (ask.question ≡ question.Catalogue)
       → IfErr result (IsDueIn g (IsDayAt (moment_of ask.when.seconds clock) ask.when.zone) (request_of (badge_of ask) (asked_of ask.question)) stood left)
-
--- what a command does that asks a desk once
-abbrev pub AnswersBy : {S : Type 0} → Ghosts S → Option ℤ → (List ℕ → Option (Held S)) → Option (Held S) → Option (List ℕ) → Option (List ℕ) → Ask
-    → Result Done Refusal → Type 0
-AnswersBy g clock stands left out written (OneQuestion ask) result = AnswersOneQuestion g clock (stands ask.store.now) left out written ask result
-AnswersBy g clock stands left out written ask result = ⊤
 
 -- ---- inside
 

@@ -1,7 +1,7 @@
 -- What becomes of the rows of a sheet where files that cannot be read are passed, and where nothing is taken in: the line
 -- that is written of each, and the desk after it. Where nothing is taken in, the desks after the first are what the desk
 -- would be, and nobody keeps them.
-use Rattle.std.specs.Prelude.{◌≡◌, ◌⊎◌, ◌+◌, ⊤, ℕ, ℤ, Bool, Err, IfOk, IfSome, List, [], ◌∷◌, ◌++◌, Ok, Option, Result, Some, codes, false, true}
+use Rattle.std.specs.Prelude.{◌≡◌, ◌⊎◌, ◌+◌, ℕ, ℤ, Bool, Err, IfSome, List, [], ◌∷◌, ◌++◌, Ok, Option, Result, Some, codes, false, true}
 use Rattle.std.specs.Fmt.{decimal}
 use Rattle.std.specs.Io.KnownBytes.{Appends}
 use Rattle.std.specs.List.{concat}
@@ -26,16 +26,11 @@ use Rattle.rd_desk.specs.declared.would_take.Shelved.{Shelved}
 use Rattle.rd_program.specs.Importing.{IsImportRefusal, IsRowRefusal, accession_line, bad_row_line}
 use Rattle.rd_commands.specs.declared.done.Done.{Done as Ending}
 use Rattle.rd_commands.specs.declared.done.Done.TheVariants.{InPart, Whole}
-use Rattle.rd_commands.specs.declared.words.Ask.{Ask}
-use Rattle.rd_commands.specs.declared.words.Ask.TheVariants.{Sift}
 use Rattle.rd_commands.specs.declared.words.SiftAsk.{SiftAsk}
-use Rattle.rd_program.specs.Leaves.{IsDayAt, moment_of}
 use Rattle.rd_program.specs.Rows.{IsSheetOf}
 use Rattle.rd_program.specs.declared.sift.Fate.{Fate}
 use Rattle.rd_program.specs.declared.sift.Fate.TheVariants.{Denied, Done, Lost}
 use Rattle.rd_program.specs.declared.sift.Way.{Way}
-use Rattle.rd_program.specs.Showing.{EndsWith}
-use Rattle.sha2.specs.Sha256.{sha256}
 
 -- of rows together: a lost one counts more than a refused one, and that more than one that is done
 abbrev pub worse : Fate → Fate → Fate
@@ -164,12 +159,3 @@ SiftsOn g files way badge Days sheet out written done before after =
 -- how the words of a command say that the rows are taken
 abbrev pub way_asked : SiftAsk → Way
 way_asked ask = record { dry_run = ask.dry_run; keep_going = ask.keep_going }
-
--- what an `import` in another way does, by what the machine shows
-abbrev pub SiftsBy : {S : Type 0} → Ghosts S → (List ℕ → Option (List ℕ)) → (List ℕ → Option (List ℕ)) → Option ℤ → (List ℕ → Option (Held S)) → Option (Held S)
-    → Option (List ℕ) → Option (List ℕ) → Ask → Result Ending Refusal → Type 0
-SiftsBy g files sheets clock stands left out written (Sift ask) result =
-    IfOk result (λ done. EndsWith (stands ask.import.store.now) left
-    (SiftsSheetIn g files (way_asked ask) (sha256 ask.import.key.now)
-    (IsDayAt (moment_of ask.import.when.seconds clock) ask.import.when.zone) (sheets ask.import.sheet.now) out written done))
-SiftsBy g files sheets clock stands left out written ask result = ⊤

@@ -1,8 +1,7 @@
 -- What `serve` does at the door that the words name.
-use Rattle.std.specs.Prelude.{◌≡◌, ⊤, ℕ, IfSome, IsSomeAnd, List, Option}
+use Rattle.std.specs.Prelude.{◌≡◌, ℕ, IfSome, IsSomeAnd, List, Option}
 use Rattle.sqlite.specs.Held.{Held, state}
 use Rattle.sqlite.specs.Store.{Ghosts}
-use Rattle.rd_policy.specs.Zones.{IsZoneOf}
 use Rattle.rd_policy.specs.declared.zone.Zone.{Zone}
 use Rattle.rd_store.specs.Held.{IsOpen, desk}
 use Rattle.rd_store.specs.Migrated.{SpellsDesk}
@@ -12,9 +11,6 @@ use Rattle.rd_http.specs.Runs.{HasRun}
 use Rattle.rd_http.specs.Visits.{IsReplied}
 use Rattle.rd_http.specs.declared.serve.Ended.TheVariants.{Count}
 use Rattle.rd_http.specs.declared.serve.Served.{Served}
-use Rattle.rd_commands.specs.declared.words.Ask.{Ask}
-use Rattle.rd_commands.specs.declared.words.Ask.TheVariants.{Serve}
-use Rattle.rd_commands.specs.Serving.{Place, place_of}
 use Rattle.rd_program.specs.Showing.{EndsWith}
 
 -- The visits of a door, by what it tells of them before and after, are those of a run over a desk with the clocks of a
@@ -40,17 +36,3 @@ pub record ServesVisits {S D : Type 0} (g : Ghosts S) (told : D → Option Visit
 abbrev pub ServesDoor : {S D : Type 0} → Ghosts S → (D → Option VisitsSoFar) → (D → Option (List Coming)) → ℕ → Zone → Option D → Option D → Option (Held S) → Option (Held S) → Type 0
 ServesDoor g told coming count zone door later stood left =
     IfSome door (λ before. IsSomeAnd later (λ after. EndsWith stood left (ServesVisits g told coming count zone before after)))
-
--- the same visits, where the clocks are those of a rule
-abbrev pub ServesDoorBy : {S D : Type 0} → Ghosts S → (D → Option VisitsSoFar) → (D → Option (List Coming)) → ℕ → List ℕ → Option D → Option D → Option (Held S) → Option (Held S) → Type 0
-ServesDoorBy g told coming count rule door later stood left =
-    (zone : Zone) × IsZoneOf rule zone × ServesDoor g told coming count zone door later stood left
-
--- ---- inside
-
--- a command that asks for visits has served them at its port
-abbrev pub ServesBy : {S D : Type 0} → Ghosts S → (D → Option VisitsSoFar) → (D → Option (List Coming)) → (Place → Option D) → (Place → Option D) → (List ℕ → Option (Held S))
-    → Option (Held S) → Ask → Type 0
-ServesBy g told coming doors laters stands left (Serve ask) =
-    ServesDoor g told coming ask.count ask.zone (doors (place_of ask.place)) (laters (place_of ask.place)) (stands ask.store.now) left
-ServesBy g told coming doors laters stands left ask = ⊤

@@ -1,41 +1,17 @@
-ghost use Rattle.std.specs.Prelude.{◌≡◌, ◌≢◌, ◌⊎◌, ◌≤◌, ◌+◌, Bool, IfErr, IfOk, IfSome, List, None, OnOk, Option, Some, codes, option_map, ℕ, ℤ};
-ghost use Rattle.std.specs.Io.KnownBytes.{Appends, Keeps};
-ghost use Rattle.httparse.specs.Grammar.{trim_ows};
-ghost use Rattle.sha2.specs.Sha256.{sha256};
+ghost use Rattle.std.specs.Prelude.{◌≡◌, ◌≢◌, ◌⊎◌, ◌≤◌, ◌+◌, IfErr, IfOk, IfSome, None, OnOk, Option, Some};
+ghost use Rattle.std.specs.Io.KnownBytes.{Keeps};
 ghost use Rattle.rd_geometry.specs.Kinds.{size_of};
-ghost use Rattle.rd_geometry.specs.declared.kind.Kind.{Kind};
 ghost use Rattle.rd_geometry.specs.declared.kind.Kind.TheVariants as kinds;
-ghost use Rattle.rd_program.specs.Asking.{RefusesOneQuestion, TellsCheck};
-ghost use Rattle.rd_commands.specs.Asks.{AsksADesk, AsksCheckOf, IsWithinLimits, IsFileAsk, IsFilesAsk, IsInitAsk, IsServeAsk, IsExtraction, IsStaffKeyAsk, TellsInRows, TellsOnOutput, most_read};
-ghost use Rattle.rd_commands.specs.Cat.{Refuses, Serves};
-ghost use Rattle.rd_commands.specs.CommandLine.{AsksForHelp, AsksForVersion};
-ghost use Rattle.rd_commands.specs.Commands.{AsksCheck, AsksCopy, AsksExport, AsksImport, AsksInit, AsksServe, AsksShow, AsksStaffKey, Sums};
-ghost use Rattle.rd_program.specs.Copying.{CopiesBy};
-ghost use Rattle.rd_program.specs.Importing.{RefusesImport, TellsRows};
-ghost use Rattle.rd_program.specs.Inits.{LeavesInit, MakesDesk, RefusesInit, done_line};
+ghost use Rattle.rd_commands.specs.Asks.{IsWithinLimits, IsExtraction, TellsInRows, TellsOnOutput, most_read};
 ghost use Rattle.rd_commands.specs.Input.{ReadsUpTo};
-ghost use Rattle.rd_program.specs.Leaves.{GivesBack, IsDayBy, LeavesBy, LeavesRefused, NamesOpening, OnEnded, StandsThere, moment_of};
-ghost use Rattle.rd_commands.specs.Listed.{Lists, RefusesList};
+ghost use Rattle.rd_program.specs.Leaves.{GivesBack};
 ghost use Rattle.rd_commands.specs.Output.{IsFlushed, AppendsPart};
 ghost use Rattle.rd_commands.specs.Printed.{refusal_line};
 ghost use Rattle.rd_commands.specs.Refusals.{status_of};
 ghost use Rattle.rd_commands.specs.Told.{TellsAll};
-ghost use Rattle.rd_program.specs.Performing.{CompletesSo, DoesPlainly, EndsEarly, ListensBy, MakesBy, PutsBy, RunsSo};
 ghost use Rattle.rd_commands.specs.Beside.{IsPlain};
-ghost use Rattle.rd_program.specs.Rows.{ImportsBy, RefusesSheetBy, TakesRows};
-ghost use Rattle.rd_program.specs.Asked.{AsksBy, IsClockDueBy, IsUnaskedBy, SumsBy};
-ghost use Rattle.rd_program.specs.OnTime.{IsBehindBy, IsOnTimeBy};
-ghost use Rattle.rd_program.specs.Serving.{LimitsVisitors, RefusesServe, WritesOnceLentBy, serve_text};
-ghost use Rattle.rd_commands.specs.Serving.{GivesTimeouts, Place};
-ghost use Rattle.rd_program.specs.Doors.{AsksNoOtherSums};
-ghost use Rattle.rd_program.specs.Visiting.{ServesBy};
-ghost use Rattle.rd_program.specs.DiskFiles.{GivesFile, IsOfImage};
-ghost use Rattle.rd_program.specs.Extracting.{ExtractsBy};
-ghost use Rattle.rd_program.specs.Sifting.{SiftsBy};
-ghost use Rattle.rd_program.specs.Showing.{AnswersBy, EndsWith, what_of};
-ghost use Rattle.rd_program.specs.StaffKeys.{LeavesStaffKey, PutsStaff, RefusesStaffKey};
-ghost use Rattle.rd_commands.specs.declared.words.Shown.{Shown};
-ghost use Rattle.rd_program.specs.Promises.{DoesCat, DoesCheck, DoesCopy, DoesExport, DoesImport, DoesInit, DoesList, DoesServe, DoesShow, DoesStaffKey, EndsByWords, KeepsMachine, ReadsInput, TellsOfItself, UsesOneStore, WritesByStatus, texts};
+ghost use Rattle.rd_program.specs.Does.{Does, DoesTold, EndsEarly, Runs};
+ghost use Rattle.rd_program.specs.Promises.{EndsByWords, EndsUntold, KeepsMachine, ReadsInput, TellsOfItself, WritesByStatus, texts};
 
 use crate::completing::{completed, read_operands};
 use crate::copy::copy;
@@ -69,76 +45,9 @@ fn perform<R: Read, W: Write, M: Machine>(
         → Keeps (W.contents output.old) (W.contents output.new) ⊎ (TellsInRows ask.entry ⊎ IsExtraction ask.entry)) }
     ensures in_part { IfOk result (λ done. done ≡ Done.InPart → TellsOnOutput ask.entry) }
     ensures flushed { OnOk result (IsFlushed M.flushed (W.contents output.old) (W.contents output.new)) }
-    ensures done { (kind : Kind) (slot : ℕ) → IsFileAsk kind (codes "-") slot ask.entry
-        → OnOk result (IfSome (R.remaining input.old) (λ image.
-        Serves kind slot image (W.contents output.old) (W.contents output.new))) }
-    ensures refused { (kind : Kind) (slot : ℕ) → IsFileAsk kind (codes "-") slot ask.entry
-        → IfErr result (λ refusal. IfSome (R.remaining input.old) (λ image.
-        Refuses refusal kind slot image (W.contents output.old) (W.contents output.new))) }
-    ensures listed { (kind : Kind) → IsFilesAsk kind (codes "-") ask.entry
-        → OnOk result (IfSome (R.remaining input.old) (λ image.
-        Lists kind image (W.contents output.old) (W.contents output.new))) }
-    ensures list_refused { (kind : Kind) → IsFilesAsk kind (codes "-") ask.entry
-        → IfErr result (λ refusal. IfSome (R.remaining input.old) (λ image.
-        RefusesList refusal kind image (W.contents output.old) (W.contents output.new))) }
-    ensures made { (store key : List ℕ) → IsInitAsk store key ask.entry
-        → OnOk result (MakesDesk M.Disk.Store ((M.seen machine.old).stands store) (M.seen machine.new).left (sha256 (trim_ows key))
-        × Appends (W.contents output.old) (W.contents output.new) done_line) }
-    ensures not_made { (store key : List ℕ) → IsInitAsk store key ask.entry
-        → IfErr result (λ refusal. RefusesInit refusal (W.contents output.old) (W.contents output.new)
-        × LeavesInit M.Disk.Store (M.seen machine.old).left ((M.seen machine.old).stands store) (M.seen machine.new).left (sha256 (trim_ows key)) refusal) }
-    ensures put { (store key : List ℕ) → IsStaffKeyAsk store key ask.entry
-        → OnOk result (EndsWith ((M.seen machine.old).stands store) (M.seen machine.new).left (PutsStaff M.Disk.Store (sha256 (trim_ows key)))
-        × Appends (W.contents output.old) (W.contents output.new) done_line) }
-    ensures not_put { (store key : List ℕ) → IsStaffKeyAsk store key ask.entry
-        → IfErr result (λ refusal. RefusesStaffKey refusal (W.contents output.old) (W.contents output.new)
-        × LeavesStaffKey M.Disk.Store (M.seen machine.old).left ((M.seen machine.old).stands store) (M.seen machine.new).left (sha256 (trim_ows key)) refusal
-        × NamesOpening M.Disk.Store ((M.seen machine.old).stands store) (M.seen machine.new).left refusal) }
-    ensures makes { MakesBy M.Disk.Store (M.seen machine.old).left (M.seen machine.old).stands (M.seen machine.new).left
-        (W.contents output.old) (W.contents output.new) ask.entry result }
-    ensures puts { PutsBy M.Disk.Store (M.seen machine.old).left (M.seen machine.old).stands (M.seen machine.new).left
-        (W.contents output.old) (W.contents output.new) ask.entry result }
-    ensures listens { ListensBy (W.contents output.old) (W.contents output.new) ask.entry result }
-    ensures served { (store : List ℕ) (place : Place) (count : ℕ) (rule : List ℕ) → IsServeAsk store place count rule ask.entry
-        → OnOk result (Appends (W.contents output.old) (W.contents output.new) (serve_text place count)) }
-    ensures not_served { (store : List ℕ) (place : Place) (count : ℕ) (rule : List ℕ) → IsServeAsk store place count rule ask.entry
-        → IfErr result (λ refusal. RefusesServe refusal place count (W.contents output.old) (W.contents output.new)) }
-    ensures imported { TakesRows ask.entry
-        → IfOk result (TellsRows (W.contents output.old) (W.contents output.new)) }
-    ensures not_imported { TakesRows ask.entry
-        → IfErr result (RefusesImport (W.contents output.old) (W.contents output.new)) }
-    ensures checked { (acc : ℕ) → AsksCheckOf acc ask.entry
-        → IfOk result (TellsCheck acc (W.contents output.old) (W.contents output.new)) }
-    ensures not_answered { AsksADesk ask.entry
-        → IfErr result (RefusesOneQuestion (W.contents output.old) (W.contents output.new)) }
-    ensures answers { AnswersBy M.Disk.Store (M.seen machine.old).clock (M.seen machine.old).stands (M.seen machine.new).left
-        (W.contents output.old) (W.contents output.new) ask.entry result }
-    ensures serves { OnOk result (ServesBy M.Disk.Store M.Door.told M.Door.coming (M.seen machine.old).doors (M.seen machine.new).doors
-        (M.seen machine.old).stands (M.seen machine.new).left ask.entry) }
-    ensures limits { OnOk result (LimitsVisitors (M.seen machine.old).shows (M.seen machine.new).limits ask.entry) }
-    ensures lent { WritesOnceLentBy (M.seen machine.old).shows (M.seen machine.new).limits (W.contents output.old) (W.contents output.new) ask.entry }
-    ensures imports { ImportsBy M.Disk.Store (M.seen machine.old).files (M.seen machine.old).sheets (M.seen machine.old).clock (M.seen machine.old).stands
-        (M.seen machine.new).left (W.contents output.old) (W.contents output.new) ask.entry result }
-    ensures sifts { SiftsBy M.Disk.Store (M.seen machine.old).files (M.seen machine.old).sheets (M.seen machine.old).clock (M.seen machine.old).stands
-        (M.seen machine.new).left (W.contents output.old) (W.contents output.new) ask.entry result }
-    ensures extracts { ExtractsBy (M.seen machine.old).files (R.remaining input.old) (M.seen machine.old).written (M.seen machine.new).written
-        (W.contents output.old) (W.contents output.new) ask.entry result }
-    ensures unasked { IsUnaskedBy (M.seen machine.old).clock ask.entry result }
-    ensures on_time { IsOnTimeBy M.Disk.Store (M.seen machine.old).clock (M.seen machine.old).stands (M.seen machine.new).left ask.entry result }
-    ensures of_file { GivesFile (M.seen machine.old).files (W.contents output.old) (W.contents output.new) ask.entry result }
-    ensures untouched { IsOfImage ask.entry → machine.new ≡ machine.old }
+    ensures does { Does M.Disk.Store M.Door.told M.Door.coming (M.seen machine.old) (M.seen machine.new)
+        (record { input = R.remaining input.old; out = W.contents output.old; written = W.contents output.new }) ask.entry result }
     ensures back { GivesBack (M.seen machine.old).shows (M.seen machine.old).left (M.seen machine.new).left }
-    ensures there { OnEnded result (StandsThere (M.seen machine.old).shows (M.seen machine.old).stands (M.seen machine.new).left ask.entry) }
-    ensures asked { AsksBy (M.seen machine.old).wanted ask.entry (M.seen machine.new).wanted }
-    ensures sums { SumsBy (M.seen machine.old).sums ask.entry (M.seen machine.new).sums }
-    ensures copies { CopiesBy M.Disk.Store (M.seen machine.old).shows (M.seen machine.old).stands (M.seen machine.new).left (M.seen machine.old).made (M.seen machine.old).fresh
-        (M.seen machine.new).made (M.seen machine.old).new_stores (M.seen machine.new).new_stores (W.contents output.old) (W.contents output.new) ask.entry result }
-    ensures clock { IfErr result (IsClockDueBy M.Disk.Store (M.seen machine.old).stands (M.seen machine.new).left ask.entry) }
-    ensures late { IfErr result (IsBehindBy M.Disk.Store (M.seen machine.old).clock (M.seen machine.old).stands (M.seen machine.new).left ask.entry) }
-    ensures bad_sheet { IfErr result (RefusesSheetBy (M.seen machine.old).sheets ask.entry) }
-    ensures leaves { LeavesBy M.Disk.Store (M.seen machine.old).clock (M.seen machine.old).left (M.seen machine.old).stands (M.seen machine.new).left ask.entry }
-    ensures leaves_refused { IfErr result (LeavesRefused M.Disk.Store (M.seen machine.old).left (M.seen machine.old).stands (M.seen machine.new).left
-        (W.contents output.old) (W.contents output.new) ask.entry) }
     ensures limit { ReadsUpTo (most_read ask.entry) (R.remaining input.old) (R.remaining input.new) }
 {
     match ask {
@@ -175,9 +84,10 @@ fn perform_completed<R: Read, W: Write, M: Machine>(
     ensures flushed { OnOk result (IsFlushed M.flushed (W.contents output.old) (W.contents output.new)) }
     ensures back { GivesBack (M.seen machine.old).shows (M.seen machine.old).left (M.seen machine.new).left }
     ensures limit { ReadsUpTo (size_of kinds.Cpm8 + 1) (R.remaining input.old) (R.remaining input.new) }
-    ensures completed { CompletesSo M.Disk.Store M.Door.told M.Door.coming (M.seen machine.old) (M.seen machine.new)
-        (R.remaining input.old) (W.contents output.old) (W.contents output.new) told.entry result
-        ⊎ EndsEarly (M.seen machine.old) (M.seen machine.new) (W.contents output.old) (W.contents output.new) result }
+    ensures completed { DoesTold M.Disk.Store M.Door.told M.Door.coming (M.seen machine.old) (M.seen machine.new)
+        (record { input = R.remaining input.old; out = W.contents output.old; written = W.contents output.new }) told.entry result
+        ⊎ EndsEarly (M.seen machine.old) (M.seen machine.new)
+        (record { input = R.remaining input.old; out = W.contents output.old; written = W.contents output.new }) result }
 {
     match read_operands(alloc, &told, input, machine) {
         Ok(operands) => {
@@ -208,12 +118,11 @@ fn perform_told<R: Read, W: Write, M: Machine>(
     ensures flushed { OnOk result (IsFlushed M.flushed (W.contents output.old) (W.contents output.new)) }
     ensures back { GivesBack (M.seen machine.old).shows (M.seen machine.old).left (M.seen machine.new).left }
     ensures limit { ReadsUpTo (size_of kinds.Cpm8 + 1) (R.remaining input.old) (R.remaining input.new) }
-    ensures so { CompletesSo M.Disk.Store M.Door.told M.Door.coming (M.seen machine.old) (M.seen machine.new)
-        (R.remaining input.old) (W.contents output.old) (W.contents output.new) told.entry result
-        ⊎ EndsEarly (M.seen machine.old) (M.seen machine.new) (W.contents output.old) (W.contents output.new) result }
-    ensures plain { IsPlain told.entry.beside → DoesPlainly M.Disk.Store M.Door.told M.Door.coming (M.seen machine.old) (M.seen machine.new)
-        machine.old machine.new (R.remaining input.old) (R.remaining input.new)
-        (W.contents output.old) (W.contents output.new) told.entry.ask result }
+    ensures limit_plain { IsPlain told.entry.beside → ReadsUpTo (most_read told.entry.ask) (R.remaining input.old) (R.remaining input.new) }
+    ensures so { DoesTold M.Disk.Store M.Door.told M.Door.coming (M.seen machine.old) (M.seen machine.new)
+        (record { input = R.remaining input.old; out = W.contents output.old; written = W.contents output.new }) told.entry result
+        ⊎ EndsEarly (M.seen machine.old) (M.seen machine.new)
+        (record { input = R.remaining input.old; out = W.contents output.old; written = W.contents output.new }) result }
 {
     if told.beside.is_plain() {
         return perform(alloc, told.ask, input, output, machine);
@@ -275,74 +184,20 @@ pub fn run<'a, R: Read, W: Write, E: Write, M: Machine>(
     ensures reads { ReadsInput (texts words.entry.now) (R.remaining input.old) (R.remaining input.new) }
     ensures keeps { KeepsMachine (texts words.entry.now) result (M.seen machine.old).shows (M.seen machine.old).left (M.seen machine.new).left
         machine.old machine.new }
-    ensures one_store { UsesOneStore M.Disk.Store (texts words.entry.now) result (M.seen machine.old).shows (M.seen machine.old).clock
-        (M.seen machine.old).wanted (M.seen machine.new).wanted (M.seen machine.old).stands (M.seen machine.new).left
-        (E.contents errors.old) (E.contents errors.new) }
     ensures itself { TellsOfItself (texts words.entry.now) result
         (W.contents output.old) (W.contents output.new) (E.contents errors.old) (E.contents errors.new) }
 
     // Where the run keeps why a command was refused, that has this status.
     ensures why { why.old.refused ≡ None → IfSome why.new.refused (λ refusal. status_of refusal ≡ result) }
     // What it keeps of the words is what they tell, in all forms: operands in files, and days in place of moments. It did
-    // that, once the files were read, or was refused, with the status and the line of that. At 0 and 1 without it, the
-    // words ask for help or the version.
+    // that, once the files were read, or was refused, with the status and the line of that. Where it keeps nothing, the
+    // words are a mistake, ask for help or the version, or memory ran out, and the machine is as it was.
     ensures told { why.old.told ≡ None → IfSome why.new.told (TellsAll (texts words.entry.now)) }
-    ensures so { why.old.told ≡ None → IfSome why.new.told (λ told. RunsSo M.Disk.Store M.Door.told M.Door.coming (M.seen machine.old) (M.seen machine.new)
-        (R.remaining input.old) (W.contents output.old) (W.contents output.new) (E.contents errors.old) (E.contents errors.new) told result) }
-    ensures untold { result ≤ 1 → why.new.told ≡ None → AsksForHelp (texts words.entry.now) ⊎ AsksForVersion (texts words.entry.now) }
-
-    // Of an image, on standard input or in a file that the machine shows.
-    ensures cat { DoesCat (texts words.entry.now) result (R.remaining input.old) (M.seen machine.old).files
-        (W.contents output.old) (W.contents output.new) (E.contents errors.old) (E.contents errors.new) }
-    ensures list { DoesList (texts words.entry.now) result (R.remaining input.old) (M.seen machine.old).files
-        (W.contents output.old) (W.contents output.new) (E.contents errors.old) (E.contents errors.new) }
-
-    // Of a store, in any form of the words of its command. The caller is named by the SHA-256 of their key. An `init`
-    // asks for sums in a file that is new exactly if its words do.
-    ensures init { (store key : List ℕ) → AsksInit (texts words.entry.now) store key
-        → DoesInit M.Disk.Store result (sha256 (trim_ows key))
-        (M.seen machine.old).left ((M.seen machine.old).stands store) (M.seen machine.new).left
-        (W.contents output.old) (W.contents output.new) (E.contents errors.old) (E.contents errors.new) }
-    ensures sums { (store key : List ℕ) (summed : Bool) → AsksInit (texts words.entry.now) store key
-        → Sums (texts words.entry.now) summed → AsksNoOtherSums (M.seen machine.old).sums summed (M.seen machine.new).sums }
-    ensures staff_key { (store key : List ℕ) → AsksStaffKey (texts words.entry.now) store key
-        → DoesStaffKey M.Disk.Store result (sha256 (trim_ows key))
-        (M.seen machine.old).left ((M.seen machine.old).stands store) (M.seen machine.new).left
-        (W.contents output.old) (W.contents output.new) (E.contents errors.old) (E.contents errors.new) }
-    ensures copy { (store target : List ℕ) (summed : Bool) → AsksCopy (texts words.entry.now) store target summed
-        → DoesCopy M.Disk.Store result target summed (M.seen machine.old).shows
-        (M.seen machine.old).left ((M.seen machine.old).stands store) (M.seen machine.new).left
-        (M.seen machine.old).made ((M.seen machine.old).fresh target) (M.seen machine.new).made (M.seen machine.old).new_stores (M.seen machine.new).new_stores
-        (W.contents output.old) (W.contents output.new) (E.contents errors.old) (E.contents errors.new) }
-    ensures serve { (store : List ℕ) (place : Place) (count : ℕ) (rule : List ℕ)
-        → (asks : AsksServe (texts words.entry.now) store place count rule)
-        → DoesServe M.Disk.Store M.Door.told M.Door.coming result place count rule (GivesTimeouts asks.rows)
-        (M.seen machine.old).shows (M.seen machine.new).limits ((M.seen machine.old).doors place) ((M.seen machine.new).doors place)
-        (M.seen machine.old).left ((M.seen machine.old).stands store) (M.seen machine.new).left
-        (W.contents output.old) (W.contents output.new) (E.contents errors.old) (E.contents errors.new) }
-    ensures import { (store key sheet : List ℕ) (moment : Option ℤ) (rule : List ℕ)
-        → AsksImport (texts words.entry.now) store key sheet moment rule
-        → DoesImport M.Disk.Store result (sha256 (trim_ows key)) moment (IsDayBy (moment_of moment (M.seen machine.old).clock) rule)
-        (M.seen machine.old).files ((M.seen machine.old).sheets sheet)
-        (M.seen machine.old).left ((M.seen machine.old).stands store) (M.seen machine.new).left
-        (W.contents output.old) (W.contents output.new) (E.contents errors.old) (E.contents errors.new) }
-    ensures check { (store key : List ℕ) (acc : ℕ) (moment : Option ℤ) (rule : List ℕ)
-        → AsksCheck (texts words.entry.now) store key acc moment rule
-        → DoesCheck M.Disk.Store result (Some (sha256 (trim_ows key))) acc moment (IsDayBy (moment_of moment (M.seen machine.old).clock) rule)
-        (M.seen machine.old).left ((M.seen machine.old).stands store) (M.seen machine.new).left
-        (W.contents output.old) (W.contents output.new) (E.contents errors.old) (E.contents errors.new) }
-    ensures export { (store : List ℕ) (key : Option (List ℕ)) (moment : Option ℤ) (rule : List ℕ)
-        → AsksExport (texts words.entry.now) store key moment rule
-        → DoesExport M.Disk.Store result (option_map sha256 (option_map trim_ows key)) moment
-        (IsDayBy (moment_of moment (M.seen machine.old).clock) rule)
-        (M.seen machine.old).left ((M.seen machine.old).stands store) (M.seen machine.new).left
-        (W.contents output.old) (W.contents output.new) (E.contents errors.old) (E.contents errors.new) }
-    ensures show { (store key : List ℕ) (what : Shown) (moment : Option ℤ) (rule : List ℕ)
-        → AsksShow (texts words.entry.now) store key what moment rule
-        → DoesShow M.Disk.Store result (Some (sha256 (trim_ows key))) (what_of what) moment
-        (IsDayBy (moment_of moment (M.seen machine.old).clock) rule)
-        (M.seen machine.old).left ((M.seen machine.old).stands store) (M.seen machine.new).left
-        (W.contents output.old) (W.contents output.new) (E.contents errors.old) (E.contents errors.new) }
+    ensures so { why.old.told ≡ None → IfSome why.new.told (λ told. Runs M.Disk.Store M.Door.told M.Door.coming (M.seen machine.old) (M.seen machine.new)
+        (record { input = R.remaining input.old; out = W.contents output.old; written = W.contents output.new })
+        (E.contents errors.old) (E.contents errors.new) told result) }
+    ensures untold { why.old.told ≡ None → why.new.told ≡ None
+        → (machine.new ≡ machine.old) × EndsUntold (texts words.entry.now) result (E.contents errors.old) (E.contents errors.new) }
 {
     match read_words(alloc, words) {
         Ok(told) => {

@@ -1,12 +1,13 @@
-use Rattle.std.proofs.Common.{◌≡◌, ◌∙◌, ◌≤◌, ap, arith, inl, inr, refl, subst, sym}
+use Rattle.std.proofs.Common.{◌∙◌, ap, arith, inl, inr, refl, subst, sym}
 use Rattle.std.specs.Io.KnownBytes.{Keeps}
 use Rattle.std.proofs.KnownBytes.{Keeps-refl}
-use Rattle.std.proofs.lemmas.Result.{IfErr-weaker, IfOk-weaker}
-use Rattle.rd_commands.proofs.ReadLimits.{reads_after, reads_within}
+use Rattle.std.proofs.lemmas.Result.{IfOk-weaker}
+use Rattle.rd_commands.proofs.ReadLimits.{reads_within}
 use Rattle.rd_program.specs.Completing.{Completes}
 use Rattle.rd_program.specs.Leaves.{GivesBack}
-use Rattle.rd_program.specs.Performing.{CompletesSo, Performs}
-use Rattle.rd_program.proofs.CompletingLemmas.{early_never, extracts_none, kept_alike, reads_nothing_more, whole_alike}
+use Rattle.rd_program.specs.Does.{DoesTold}
+use Rattle.rd_program.proofs.PerformLemmas.{other_input}
+use Rattle.rd_program.proofs.CompletingLemmas.{early_never, kept_alike, reads_nothing_more, whole_alike}
 use Rattle.rd_program.proofs.dispatch.perform_completed.Goals as goal
 
 -- ---- what is whole
@@ -40,39 +41,15 @@ returns-in-Ok-clause-limit g c =
 pub returns-in-Ok-clause-completed : goal.returns-in-Ok-clause-completed
 returns-in-Ok-clause-completed g c =
     let alike = whole_alike _ _ c.args.told c.completed-ask.result (c.completed-ask.ensures _ _ c.in-Ok.ensures.read) in
-    inl (subst
-    (λ machine. CompletesSo g.M.Disk.Store g.M.Door.Door.told g.M.Door.Door.coming
-    (g.M.Machine.seen machine)
-    (g.M.Machine.seen c.perform.new.machine)
-    (g.R.Read.remaining c.args.input.now) (g.W.Write.contents c.args.output.now) (g.W.Write.contents c.perform.new.output) c.args.told c.perform.result)
+    inl (subst (λ machine. DoesTold g.M.Disk.Store g.M.Door.Door.told g.M.Door.Door.coming (g.M.Machine.seen machine) (g.M.Machine.seen c.perform.new.machine)
+    (record { input = g.R.Read.remaining c.args.input.now; out = g.W.Write.contents c.args.output.now; written = g.W.Write.contents c.perform.new.output }) c.args.told c.perform.result)
     c.read_operands.ensures.same (record {
-      ask = c.completed-ask.result;
+      command = c.completed-ask.result;
       whole = subst (λ machine. Completes (g.M.Machine.seen machine).files (g.R.Read.remaining c.args.input.now) c.args.told c.completed-ask.result) (sym c.read_operands.ensures.same)
           (c.completed-ask.ensures _ _ c.in-Ok.ensures.read);
-      performs = record {
-        gives = c.perform.ensures.of_file;
-        makes = c.perform.ensures.makes;
-        puts = c.perform.ensures.puts;
-        listens = c.perform.ensures.listens;
-        serves = c.perform.ensures.serves;
-        limits = c.perform.ensures.limits;
-        imports = c.perform.ensures.imports;
-        sifts = c.perform.ensures.sifts;
-        extracts = extracts_none _ _ _ _ _ _ c.completed-ask.result c.perform.result (alike.read ∙ c.requires.of_store);
-        answers = c.perform.ensures.answers;
-        unasked = c.perform.ensures.unasked;
-        on_time = c.perform.ensures.on_time;
-        clock_due = c.perform.ensures.clock;
-        bad_sheet = c.perform.ensures.bad_sheet;
-        leaves = c.perform.ensures.leaves;
-        leaves_refused = c.perform.ensures.leaves_refused;
-        there = c.perform.ensures.there;
-        wanted = c.perform.ensures.asked;
-        sums = c.perform.ensures.sums;
-        lent = c.perform.ensures.lent;
-        late = c.perform.ensures.late;
-        copies = c.perform.ensures.copies;
-      };
+      does = other_input g.M.Disk.Store g.M.Door.Door.told g.M.Door.Door.coming (g.M.Machine.seen c.read_operands.new.machine) (g.M.Machine.seen c.perform.new.machine)
+          (g.R.Read.remaining c.read_operands.new.input) (g.R.Read.remaining c.args.input.now) (g.W.Write.contents c.args.output.now) (g.W.Write.contents c.perform.new.output)
+          c.completed-ask.result c.perform.result (alike.read ∙ c.requires.of_store) c.perform.ensures.does;
     }))
 
 -- ---- a file that is not read
