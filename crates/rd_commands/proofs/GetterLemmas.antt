@@ -79,6 +79,12 @@ kind_is None word kind found none is = absurd (none kind is)
 abbrev pub ReadsAs : ℕ → Text → Result ℕ ParseIntError → Type 0
 ReadsAs bits text r = ParsesUnsigned bits 10 text r × ExplainsUnsignedError 10 text r × HasUnsignedDigitsIfOk text r
 
+-- the word of a kind that is read is told
+pub kind_told : (rows : List Row) (word : Text) (r : Option Kind) → first_of (codes "KIND") rows ≡ Some word → IfSome r (λ kind. word ≡ word_of kind)
+    → IfSome r (λ kind. first_of (codes "KIND") rows ≡ Some (word_of kind))
+kind_told rows word (Some kind) there is = there ∙ ap Some is
+kind_told rows word None there is = tt
+
 -- the text of a number reads as the number
 pub number_is : (bits : ℕ) (text : Text) (number : ℕ) (r : Option ℕ) → ReadsOne (ReadsAs bits) text r → ParsesUnsigned {E = ParseIntError} bits 10 text (Ok number)
     → r ≡ Some number

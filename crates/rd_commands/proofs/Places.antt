@@ -125,6 +125,13 @@ count_given None r none value = subst (λ x. IfSome x (IsCountGiven None)) (sym 
 count_given (Some text) (Some n) none value = (text, refl, (value text refl).0)
 count_given (Some text) None none value = tt
 
+-- and so it is of a slot
+pub slot_given : (told : Option Text) (r : Option ℕ) → (told ≡ None → r ≡ None) → ((text : Text) → told ≡ Some text → ReadsOne (ReadsAs 16) text r)
+    → IfSome r (λ slot. (text : Text) × (told ≡ Some text) × ParsesUnsigned {E = ParseIntError} 16 10 text (Ok slot))
+slot_given None r none value = subst (λ (x : Option ℕ). IfSome x (λ slot. (text : Text) × (None ≡ Some text) × ParsesUnsigned {E = ParseIntError} 16 10 text (Ok slot))) (sym (none refl)) tt
+slot_given (Some text) (Some n) none value = (text, refl, (value text refl).0)
+slot_given (Some text) None none value = tt
+
 -- so it is told
 pub count_told : (rows : List Row) (read : Option ℕ) → IfSome read (IsCountGiven (one_of (codes "count") rows)) → IfSome read (IsCountTold rows)
 count_told rows (Some count) told = inl told

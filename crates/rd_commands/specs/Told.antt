@@ -5,6 +5,8 @@ use Rattle.std.specs.Str.Parse.{ParsesUnsigned}
 use Rattle.std.specs.declared.num.ParseIntError.{ParseIntError}
 use Rattle.clap.specs.Words.{Row, Text, first_of, one_of}
 use Rattle.httparse.specs.Grammar.{trim_ows}
+use Rattle.rd_geometry.specs.Kinds.{word_of}
+use Rattle.rd_geometry.specs.declared.kind.Kind.{Kind}
 use Rattle.rd_policy.specs.Rules.{IsScope}
 use Rattle.rd_policy.specs.Zones.{IsZoneOf}
 use Rattle.rd_commands.specs.Asks.{AreWays}
@@ -17,6 +19,9 @@ use Rattle.rd_commands.specs.declared.beside.Told.{Told}
 use Rattle.rd_commands.specs.declared.words.Ask.{Ask}
 use Rattle.rd_commands.specs.declared.words.Ask.TheVariants.{Copy, Extract, File, Files, Import, Init, OneQuestion, Serve, Sift, StaffKey}
 use Rattle.rd_commands.specs.declared.words.CopyAsk.{CopyAsk}
+use Rattle.rd_commands.specs.declared.words.ExtractAsk.{ExtractAsk}
+use Rattle.rd_commands.specs.declared.words.FileAsk.{FileAsk}
+use Rattle.rd_commands.specs.declared.words.ImageAsk.{ImageAsk}
 use Rattle.rd_commands.specs.declared.words.ImportAsk.{ImportAsk}
 use Rattle.rd_commands.specs.declared.words.InitAsk.{InitAsk}
 use Rattle.rd_commands.specs.declared.words.OneQuestionAsk.{OneQuestionAsk}
@@ -49,7 +54,31 @@ pub record WhenFrom (rows : List Row) (ask : WhenAsk) : Type 0 where
 abbrev pub IsAccessionTold : List Row → ℕ → Type 0
 IsAccessionTold rows acc = (text : Text) × (one_of (codes "acc") rows ≡ Some text) × (ParsesUnsigned {E = ParseIntError} 32 10 text (Ok acc) × IsScope acc)
 
+-- the operand for a kind is its word
+abbrev pub IsKindTold : List Row → Kind → Type 0
+IsKindTold rows kind = first_of (codes "KIND") rows ≡ Some (word_of kind)
+
+-- the operand for a slot gives this number
+abbrev pub IsSlotTold : List Row → ℕ → Type 0
+IsSlotTold rows slot = (text : Text) × (one_of (codes "SLOT") rows ≡ Some text) × ParsesUnsigned {E = ParseIntError} 16 10 text (Ok slot)
+
 -- ---- commands
+
+-- what `cat` asks for
+pub record FileFrom (rows : List Row) (ask : FileAsk) : Type 0 where
+  pub kind : IsKindTold rows ask.kind
+  pub image : first_of (codes "IMAGE") rows ≡ Some ask.image.now
+  pub slot : IsSlotTold rows ask.slot
+
+-- what `list` asks for
+pub record ImageFrom (rows : List Row) (ask : ImageAsk) : Type 0 where
+  pub kind : IsKindTold rows ask.kind
+  pub image : first_of (codes "IMAGE") rows ≡ Some ask.image.now
+
+-- what `files` asks for
+pub record ExtractFrom (rows : List Row) (ask : ExtractAsk) : Type 0 where
+  pub image : ImageFrom rows ask.image
+  pub folder : first_of (codes "to") rows ≡ Some ask.folder.now
 
 -- what `init` asks for
 pub record InitFrom (rows : List Row) (ask : InitAsk) : Type 0 where
@@ -106,8 +135,11 @@ pub record OneFrom (rows : List Row) (ask : OneQuestionAsk) : Type 0 where
   pub question : QuestionFrom rows ask.question
   pub when : WhenFrom rows ask.when
 
--- what a command on a store asks for
+-- what a command asks for
 abbrev pub AskFrom : List Row → Ask → Type 0
+AskFrom rows (File ask) = FileFrom rows ask
+AskFrom rows (Files ask) = ImageFrom rows ask
+AskFrom rows (Extract ask) = ExtractFrom rows ask
 AskFrom rows (Init ask) = InitFrom rows ask
 AskFrom rows (Serve ask) = ServeFrom rows ask
 AskFrom rows (Import ask) = ImportFrom rows ask × WaysFrom rows false false
@@ -115,7 +147,6 @@ AskFrom rows (Sift ask) = ImportFrom rows ask.import × WaysFrom rows ask.dry_ru
 AskFrom rows (OneQuestion ask) = OneFrom rows ask
 AskFrom rows (StaffKey ask) = StaffKeyFrom rows ask
 AskFrom rows (Copy ask) = CopyFrom rows ask
-AskFrom rows other = ⊤
 
 -- the name of a question's command
 abbrev pub question_name : Question → Text

@@ -5,7 +5,6 @@ ghost use Rattle.std.specs.Str.Parse.{ParsesUnsigned};
 ghost use Rattle.std.specs.declared.num.ParseIntError.{ParseIntError};
 ghost use Rattle.clap.specs.Words.{first_of, found_of, one_of, rows_of};
 ghost use Rattle.httparse.specs.Grammar.{trim_ows};
-ghost use Rattle.rd_geometry.specs.Kinds.{word_of};
 ghost use Rattle.rd_policy.specs.Rules.{IsScope};
 ghost use Rattle.rd_policy.specs.Zones.{IsZoneOf};
 ghost use Rattle.rd_commands.specs.Asks.{AreCatRows, AreCheckRows, AreExportRows, AreFilesRows, AreImportRows, AreInitRows, AreListRows, AreServeRows, AreShowRows, AreWays, IsMomentNamed};
@@ -16,7 +15,7 @@ ghost use Rattle.rd_commands.specs.Serving.{GivesTimeouts};
 ghost use Rattle.rd_commands.specs.Serving as spec;
 ghost use Rattle.rd_commands.specs.Shown.{NamesShown};
 ghost use Rattle.rd_commands.specs.Words.{IsSlotText};
-ghost use Rattle.rd_commands.specs.Told.{AreSecondsTold, CopyFrom, AskFrom, ImportFrom, InitFrom, IsAccessionTold, IsKeyTold, OneFrom, ServeFrom, StaffKeyFrom, WhenFrom, command_name};
+ghost use Rattle.rd_commands.specs.Told.{AreSecondsTold, AskFrom, CopyFrom, ExtractFrom, FileFrom, ImageFrom, ImportFrom, InitFrom, IsAccessionTold, IsKeyTold, IsKindTold, IsSlotTold, OneFrom, ServeFrom, StaffKeyFrom, WhenFrom, command_name};
 ghost use Rattle.rd_commands.specs.Zones.{HasZoneRule, IsFlagTold, IsRuleNamed, TellsTrust, rule_text};
 ghost use Rattle.rd_commands.specs.declared.words.Ask.TheVariants as ask;
 
@@ -33,27 +32,28 @@ use rd_volume::Kind;
 
 /// The kind that the operand for a kind names, `None` if there is none.
 fn kind_asked(found: &ArgMatches) -> Option<Kind>
-    ensures { (kind : Kind)
-        → first_of (codes "KIND") (rows_of (found_of found.now)) ≡ Some (word_of kind)
-        → result ≡ Some kind }
+    ensures asked { (kind : Kind) → IsKindTold (rows_of (found_of found.now)) kind → result ≡ Some kind }
+    ensures from { IfSome result (IsKindTold (rows_of (found_of found.now))) }
 {
     Kind::from_word(found.get_str("KIND")?)
 }
 
 /// The number that the operand for a slot reads as, `None` if there is none.
 fn slot_asked(found: &ArgMatches) -> Option<u16>
-    ensures { (text : List ℕ) (slot : ℕ)
+    ensures asked { (text : List ℕ) (slot : ℕ)
         → one_of (codes "SLOT") (rows_of (found_of found.now)) ≡ Some text
         → IsSlotText text slot → result ≡ Some slot }
+    ensures from { IfSome result (IsSlotTold (rows_of (found_of found.now))) }
 {
     found.get_one::<u16>("SLOT")
 }
 
 /// What the operands of `cat` ask for; `None` if one is missing or badly written.
 pub(crate) fn file_asked<'a>(found: &ArgMatches<'a>) -> Option<FileAsk<'a>>
-    ensures { (kind : Kind) (image : List ℕ) (slot : ℕ)
+    ensures asked { (kind : Kind) (image : List ℕ) (slot : ℕ)
         → AreCatRows (rows_of (found_of found.now)) kind image slot
         → IsSomeAnd result (λ ask. AsksFile ask kind image slot) }
+    ensures from { IfSome result (FileFrom (rows_of (found_of found.now))) }
 {
     Some(FileAsk {
         kind: kind_asked(found)?,
@@ -64,9 +64,10 @@ pub(crate) fn file_asked<'a>(found: &ArgMatches<'a>) -> Option<FileAsk<'a>>
 
 /// What the operands of `list` ask for; `None` if one is missing or badly written.
 pub(crate) fn files_asked<'a>(found: &ArgMatches<'a>) -> Option<ImageAsk<'a>>
-    ensures { (kind : Kind) (image : List ℕ)
+    ensures asked { (kind : Kind) (image : List ℕ)
         → AreListRows (rows_of (found_of found.now)) kind image
         → IsSomeAnd result (λ ask. AsksFiles ask kind image) }
+    ensures from { IfSome result (ImageFrom (rows_of (found_of found.now))) }
 {
     Some(ImageAsk {
         kind: kind_asked(found)?,
@@ -236,9 +237,10 @@ pub(crate) fn sheet_asked<'a>(found: &ArgMatches<'a>) -> Option<Ask<'a>>
 
 /// What the operands of `files` ask for; `None` if one is missing or badly written.
 pub(crate) fn extract_asked<'a>(found: &ArgMatches<'a>) -> Option<ExtractAsk<'a>>
-    ensures { (kind : Kind) (image folder : List ℕ)
+    ensures asked { (kind : Kind) (image folder : List ℕ)
         → AreFilesRows (rows_of (found_of found.now)) kind image folder
         → IsSomeAnd result (λ ask. AsksExtracted ask kind image folder) }
+    ensures from { IfSome result (ExtractFrom (rows_of (found_of found.now))) }
 {
     Some(ExtractAsk {
         image: files_asked(found)?,

@@ -12,12 +12,12 @@ use Rattle.rd_commands.proofs.words.ask_found.Goals as goal
 pub returns-in_err-file_asked-in-cat-clause-file : goal.returns-in_err-file_asked-in-cat-clause-file
 returns-in_err-file_asked-in-cat-clause-file c = λ kind image slot enters.
     let rows = rows_met c.args.matches.now _ enters.rows _ enters.into (sym c.in_ok-name.ensures.rows) in
-    absurd (c.in_err-file_asked-in-cat.ensures kind image slot (subst (λ r. AreCatRows r kind image slot) rows enters.found))
+    absurd (c.in_err-file_asked-in-cat.ensures.asked kind image slot (subst (λ r. AreCatRows r kind image slot) rows enters.found))
 
 pub returns-in_ok-file_asked-in-cat-clause-file : goal.returns-in_ok-file_asked-in-cat-clause-file
 returns-in_ok-file_asked-in-cat-clause-file c = λ kind image slot enters.
     let rows = rows_met c.args.matches.now _ enters.rows _ enters.into (sym c.in_ok-name.ensures.rows) in
-    c.in_ok-file_asked-in-cat.ensures kind image slot (subst (λ r. AreCatRows r kind image slot) rows enters.found)
+    c.in_ok-file_asked-in-cat.ensures.asked kind image slot (subst (λ r. AreCatRows r kind image slot) rows enters.found)
 
 pub returns-in_ok-init_asked-in-init-clause-init : goal.returns-in_ok-init_asked-in-init-clause-init
 returns-in_ok-init_asked-in-init-clause-init c = λ store key enters.
@@ -61,12 +61,12 @@ returns-in_ok-sheet_asked-in-import-clause-sift c = λ store key sheet moment ru
 pub returns-in_err-extract_asked-in-files-clause-extract : goal.returns-in_err-extract_asked-in-files-clause-extract
 returns-in_err-extract_asked-in-files-clause-extract c = λ kind image folder enters.
     let rows = rows_met c.args.matches.now _ enters.rows _ enters.into (sym c.in_ok-name.ensures.rows) in
-    absurd (c.in_err-extract_asked-in-files.ensures kind image folder (subst (λ r. AreFilesRows r kind image folder) rows enters.found))
+    absurd (c.in_err-extract_asked-in-files.ensures.asked kind image folder (subst (λ r. AreFilesRows r kind image folder) rows enters.found))
 
 pub returns-in_ok-extract_asked-in-files-clause-extract : goal.returns-in_ok-extract_asked-in-files-clause-extract
 returns-in_ok-extract_asked-in-files-clause-extract c = λ kind image folder enters.
     let rows = rows_met c.args.matches.now _ enters.rows _ enters.into (sym c.in_ok-name.ensures.rows) in
-    c.in_ok-extract_asked-in-files.ensures kind image folder (subst (λ r. AreFilesRows r kind image folder) rows enters.found)
+    c.in_ok-extract_asked-in-files.ensures.asked kind image folder (subst (λ r. AreFilesRows r kind image folder) rows enters.found)
 
 pub returns-in_ok-extract_asked-in-files-clause-zone : goal.returns-in_ok-extract_asked-in-files-clause-zone
 returns-in_ok-extract_asked-in-files-clause-zone c = λ name rows into clocks.
@@ -170,13 +170,13 @@ returns-in_ok-sheet_asked-in-import-clause-timeouts c = sheet_timed c.in_ok-shee
 -- ---- in all forms
 
 pub returns-in_ok-file_asked-in-cat-clause-from : goal.returns-in_ok-file_asked-in-cat-clause-from
-returns-in_ok-file_asked-in-cat-clause-from c = λ naming. (_, entered_named c.args.matches.now _ (codes "cat") _ c.in_ok-name.ensures.name c.in_ok-name.ensures.rows c.in-cat.is, tt)
+returns-in_ok-file_asked-in-cat-clause-from c = λ naming. (_, entered_named c.args.matches.now _ (codes "cat") _ c.in_ok-name.ensures.name c.in_ok-name.ensures.rows c.in-cat.is, c.in_ok-file_asked-in-cat.ensures.from)
 
 pub returns-in_ok-files_asked-in-list-clause-from : goal.returns-in_ok-files_asked-in-list-clause-from
-returns-in_ok-files_asked-in-list-clause-from c = λ naming. (_, entered_named c.args.matches.now _ (codes "list") _ c.in_ok-name.ensures.name c.in_ok-name.ensures.rows c.in-list.is, tt)
+returns-in_ok-files_asked-in-list-clause-from c = λ naming. (_, entered_named c.args.matches.now _ (codes "list") _ c.in_ok-name.ensures.name c.in_ok-name.ensures.rows c.in-list.is, c.in_ok-files_asked-in-list.ensures.from)
 
 pub returns-in_ok-extract_asked-in-files-clause-from : goal.returns-in_ok-extract_asked-in-files-clause-from
-returns-in_ok-extract_asked-in-files-clause-from c = λ naming. (_, entered_named c.args.matches.now _ (codes "files") _ c.in_ok-name.ensures.name c.in_ok-name.ensures.rows c.in-files.is, tt)
+returns-in_ok-extract_asked-in-files-clause-from c = λ naming. (_, entered_named c.args.matches.now _ (codes "files") _ c.in_ok-name.ensures.name c.in_ok-name.ensures.rows c.in-files.is, c.in_ok-extract_asked-in-files.ensures.from)
 
 pub returns-in_ok-init_asked-in-init-clause-from : goal.returns-in_ok-init_asked-in-init-clause-from
 returns-in_ok-init_asked-in-init-clause-from c = λ naming. (_, entered_named c.args.matches.now _ (codes "init") _ c.in_ok-name.ensures.name c.in_ok-name.ensures.rows c.in-init.is, c.in_ok-init_asked-in-init.ensures.from)
