@@ -1,5 +1,6 @@
 -- What the program writes of an explanation, and the first fault of a row.
 use Rattle.std.specs.Prelude.{◌≡◌, ◌≢◌, ℕ, List, None, Option, Some}
+use Rattle.std.specs.String.{string_bytes}
 use Rattle.rd_geometry.specs.Kinds.{size_of}
 use Rattle.rd_geometry.specs.declared.kind.Kind.{Kind}
 use Rattle.rd_explanations.specs.Explained.{AreLines}
@@ -23,6 +24,25 @@ IsBadAt fields column.Kind = kind_at 1 fields ≡ None
 IsBadAt fields column.Deed = scope_at 2 fields ≡ None
 IsBadAt fields column.Digest = digest_at 3 fields ≡ None
 IsBadAt fields column.File = path_at 4 fields ≡ None
+
+-- the line says of this row how many bytes the file at this path has, and which kind was wanted
+abbrev pub IsSizeOf : ℕ → List ℕ → ℕ → Kind → Line → Type 0
+IsSizeOf row file found kind (line.RowSize number path bytes wanted) =
+    (number ≡ row) × (string_bytes path ≡ file) × (bytes ≡ found) × (wanted ≡ kind)
+IsSizeOf row file found kind (line.RowTooLong number path wanted) = (number ≡ row) × (string_bytes path ≡ file) × (wanted ≡ kind)
+IsSizeOf row file found kind _ = ⊥
+
+-- the line says that the file of this row cannot be read
+abbrev pub IsUnreadOf : ℕ → Line → Type 0
+IsUnreadOf row (line.Unread number path said) = number ≡ row
+IsUnreadOf row _ = ⊥
+
+-- the line says of this row what was noted of it
+abbrev pub IsLineOf : ℕ → RowNote → Line → Type 0
+IsLineOf row (note.Bad column) noted = noted ≡ line.Field row column
+IsLineOf row (note.Refused acc reason) noted = noted ≡ line.Row row acc reason
+IsLineOf row (note.Size file found kind) noted = IsSizeOf row file.now found kind noted
+IsLineOf row note.Unread noted = IsUnreadOf row noted
 
 -- the line names a kind whose images have so many bytes, as the file of this row, or says that no kind has such images
 abbrev pub IsFitOf : ℕ → ℕ → Line → Type 0

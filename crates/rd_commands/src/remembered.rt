@@ -1,10 +1,10 @@
 //! What a machine remembers of a run, for an explanation: what the system said last, and the rows of a sheet that were not
 //! done. It stands in cells, so that a machine stays as it was where it remembers something more.
 
-ghost use Rattle.std.specs.Prelude.{◌≡◌, ◌<◌, ◌≤◌};
+ghost use Rattle.std.specs.Prelude.{◌≡◌, ◌<◌, ◌≤◌, IfSome};
 ghost use Rattle.rd_geometry.specs.Places.{CPM_SIZE};
 ghost use Rattle.rd_explanations.specs.declared.line.Line.TheVariants.{RowSize, RowTooLong};
-ghost use Rattle.rd_commands.specs.Explaining.{IsFitOf, IsNextLine};
+ghost use Rattle.rd_commands.specs.Explaining.{IsFitOf, IsLineOf, IsNextLine};
 
 use rd_explanations::{Column, Line, Reason, Said, kind_that_fits};
 use rd_volume::Kind;
@@ -130,7 +130,9 @@ impl Remembered {
     }
 
     /// The line of a row; `None` if the system said nothing of its file, or memory runs out.
-    fn line_of(&self, row: u64, note: RowNote) -> Option<Line> {
+    fn line_of(&self, row: u64, note: RowNote) -> Option<Line>
+        ensures { IfSome result (IsLineOf row note.entry) }
+    {
         match note {
             RowNote::Bad(column) => Some(Line::Field { row, column }),
             RowNote::Refused(acc, reason) => Some(Line::Row { row, acc, reason }),
