@@ -1,41 +1,8 @@
 -- What one query shows of the files of accessions that follow each other.
-use Rattle.std.proofs.Common.{◌≡◌, inl, inr, ℕ, zero, suc, ◌-◌, ◌<◌, ◌≤◌, pos, List, [], ◌∷◌, ◌++◌, map, take, drop, length, slice_index_or, Bool, true, false, not, T, ◌&&◌, ◌==◌, Some, refl, sym, ap, ap₂, subst, ◌∙◌, arith, nat_cmp, int_cmp, int_le, int_lt, is_lt, is_eq, Less}
-use Rattle.std.specs.FinMap.{FinMap, entries, entries_sorted, get, retain_keys}
-use Rattle.std.specs.FinMap.Entries.{is_sorted}
-use Rattle.std.specs.List.{AllZip}
-use Rattle.std.specs.List.Sorted.{IsPartitionedBy}
-use Rattle.std.specs.Ordering.{ordering_then}
-use Rattle.std.proofs.lemmas.Bool.{cases_eq}
-use Rattle.std.proofs.lemmas.Bool.Decides.{nat_tests}
-use Rattle.std.proofs.lemmas.List.{drop-map, get_or-map, length-map, take-map}
-use Rattle.sqlite.specs.declared.types.Value.TheVariants.{Int}
-use Rattle.sqlite.specs.Order.{Row, column}
-use Rattle.sqlite.specs.Query.{key_cmp}
-use Rattle.sqlite.specs.Collation.TheVariants.{Binary}
-use Rattle.sqlite_rules.specs.Lists.{Has}
-use Rattle.sqlite_rules.proofs.ListLemmas.{contains_had}
-use Rattle.sqlite_sql.specs.Ops.{binary, is_true}
-use Rattle.sqlite_sql.specs.declared.ops.BinaryOp.TheVariants.{Compare}
-use Rattle.sqlite_sql.specs.declared.ops.CompareOp.TheVariants.{Ge, Le}
-use Rattle.sqlite_trees.proofs.ListLemmas.{filter-map}
-use Rattle.sqlite_value.proofs.OrderLemmas.{value_cmp-Int, then-Equal}
-use Rattle.rd_volume.specs.Volumes.{AreFounds}
-use Rattle.rd_volume.specs.declared.found.Found.{Found}
-use Rattle.rd_tables.specs.Asked.{IsPicked, rising}
-use Rattle.rd_tables.specs.Queries.{batch_query}
-use Rattle.rd_tables.specs.Spellings.{Spells, entry_of, map_of}
-use Rattle.rd_tables.proofs.Entries.{entries_retained, entry_got}
-use Rattle.rd_tables.proofs.QueryMaps.{in_order}
-use Rattle.rd_tables.proofs.ListLemmas.{and_true, filter_filter, filter_same}
-use Rattle.rd_tables.proofs.TestPlaces.{Turns, between, pairs_rise, parted, parted_map, sorted_after, sorted_before}
-use Rattle.rd_tables.proofs.Values.{least_numbers, most_numbers}
-use Rattle.rd_store.specs.declared.images.Heading.{Heading}
-use Rattle.rd_holdings.specs.declared.rows.ImageRow.{ImageRow}
+use Rattle.rd_store.proofs.Common.{◌≡◌, inl, inr, ℕ, zero, suc, ◌-◌, ◌<◌, ◌≤◌, pos, List, [], ◌∷◌, ◌++◌, map, take, drop, length, slice_index_or, Bool, true, false, not, T, ◌&&◌, ◌==◌, Some, refl, sym, ap, ap₂, subst, ◌∙◌, arith, nat_cmp, int_cmp, int_le, int_lt, is_lt, is_eq, Less, FinMap, entries, entries_sorted, get, retain_keys, is_sorted, AllZip, IsPartitionedBy, ordering_then, cases_eq, nat_tests, drop-map, get_or-map, length-map, take-map, Int, Row, column, key_cmp, Binary, Has, contains_had, is_true, Compare, Ge, Le, filter-map, value_cmp-Int, then-Equal, AreFounds, Found, IsPicked, rising, batch_query, Spells, entry_of, map_of, entries_retained, entry_got, in_order, and_true, filter_filter, filter_same, between, pairs_rise, parted, parted_map, sorted_after, sorted_before, least_numbers, most_numbers, Heading, ImageRow, IsIndexed, IsIndexedBy, filed_shown, files_at, is_from_to, is_number_below, is_number_up_to, AreFilesIn, FileAt, IsIndexOf, file_cmp, entry_for, register_of, file_in, file_spelling, later}
+use Rattle.sqlite_sql.specs.Ops.{binary}
+use Rattle.rd_tables.proofs.TestPlaces.{Turns}
 use Rattle.rd_holdings.specs.declared.rows.Indexed.{Indexed}
-use Rattle.rd_store.specs.Batched.{IsIndexed, IsIndexedBy, filed_shown, files_at, is_from_to, is_number_below, is_number_up_to}
-use Rattle.rd_store.specs.Index.{AreFilesIn, FileAt, IsIndexOf, file_cmp}
-use Rattle.rd_store.specs.Register.{entry_for, register_of}
-use Rattle.rd_store.specs.Spelled.{file_in, file_spelling, later}
 use Rattle.rd_store.proofs.IndexQueries.{files_in}
 use Rattle.rd_store.proofs.Orders.{file_back, file_order, number_order}
 

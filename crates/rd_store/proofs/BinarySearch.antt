@@ -1,20 +1,7 @@
 -- What a binary search of ascending numbers finds.
-use Rattle.std.proofs.Common.{◌≡◌, ◌⊎◌, inl, inr, ℕ, ℤ, ◌+◌, ◌<◌, ◌≤◌, pos, negsuc, List, map, length, get_or, true, false, int_lt, int_cmp, Result, Ok, Err, is_ok, Less, Equal, Greater, [], refl, sym, arith}
-use Rattle.std.specs.Ordering.{ordering_index}
-use Rattle.std.specs.List.Sorted.{IsBinarySearchResult, IsNonDecreasing, IsSearchInRange}
-use Rattle.std.proofs.lemmas.Bool.{cases_order}
-use Rattle.std.proofs.lemmas.Bool.Decides.{nat_tests}
-use Rattle.std.proofs.lemmas.List.{length-map, get_or-map}
+use Rattle.rd_store.proofs.Common.{◌≡◌, ◌⊎◌, inl, inr, ℕ, ℤ, ◌+◌, ◌<◌, ◌≤◌, pos, negsuc, List, map, length, get_or, true, false, int_lt, int_cmp, Result, Ok, Err, is_ok, Less, Equal, Greater, [], refl, sym, arith, ordering_index, IsBinarySearchResult, IsNonDecreasing, IsSearchInRange, cases_order, nat_tests, length-map, get_or-map, IsNonDecreasingBy-from_all_adjacent, Value, Null, Int, Real, Text, Blob, Row, column, id_in, AreRising, natural, natural_of, is_number, is_one_of}
 use Rattle.std.proofs.lemmas.List.Folds.{list_any_at, list_any_none}
-use Rattle.std.proofs.lemmas.List.Sorted.{IsNonDecreasingBy-from_all_adjacent}
-use Rattle.sqlite.specs.declared.types.Value.{Value}
-use Rattle.sqlite.specs.declared.types.Value.TheVariants.{Null, Int, Real, Text, Blob}
-use Rattle.sqlite.specs.Order.{Row, column}
-use Rattle.sqlite_rules.specs.Edit.{id_in}
 use Rattle.sqlite_trees.specs.View.{is_int}
-use Rattle.rd_tables.specs.Asked.{AreRising}
-use Rattle.rd_tables.specs.Spellings.{natural, natural_of}
-use Rattle.rd_store.specs.RowColumns.{is_number, is_one_of}
 
 -- ---- the first columns of rising rows ascend
 

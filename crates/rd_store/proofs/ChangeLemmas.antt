@@ -1,13 +1,5 @@
 -- Calls that change the desk, after a call that reads.
-use Rattle.std.proofs.Common.{◌≡◌, ◌⊎◌, ◌∙◌, Result, Ok, Err, OnOk, OnErr, ap, inl, subst, sym}
-use Rattle.sqlite.specs.Store.{Ghosts}
-use Rattle.sqlite.specs.Held.{Held, state}
-use Rattle.rd_store.specs.declared.image_cache.KeptImage.{KeptImage}
-use Rattle.rd_holdings.specs.State.{Desk}
-use Rattle.rd_store.specs.Held.{Changes, HoldsDesk, IsLeft, IsOpen, Keeps, Reads, desk}
-use Rattle.rd_store.specs.ImageCache.{IsAmong, IsLastOf}
-use Rattle.rd_store.specs.declared.register.Register.{Register}
-use Rattle.rd_store.specs.Register.{IsRegisterOf, listed, register_of}
+use Rattle.rd_store.proofs.Common.{◌≡◌, ◌⊎◌, ◌∙◌, Result, Ok, Err, OnOk, OnErr, ap, inl, subst, sym, Ghosts, Held, state, KeptImage, Desk, Changes, HoldsDesk, IsLeft, IsOpen, Keeps, Reads, desk, IsAmong, IsLastOf, Register, IsRegisterOf, listed, register_of}
 use Rattle.rd_store.proofs.KeptImages.{last_changes}
 use Rattle.rd_store.proofs.Laws.{lasts_then}
 

@@ -1,24 +1,7 @@
 -- The text that asks for all checks, and what it shows.
-use Rattle.std.proofs.Common.{◌≡◌, ◌∙◌, ℕ, ℤ, pos, List, [], ◌∷◌, false, true, Less, ap, ap₂, arith, codes, int_cmp, is_eq, is_lt, map, nat_cmp, refl, sym}
-use Rattle.std.specs.FinMap.{entries}
-use Rattle.std.specs.Ordering.{ordering_then}
-use Rattle.std.proofs.lemmas.Bool.Decides.{nat_tests}
-use Rattle.sqlite.specs.declared.types.Value.TheVariants.{Int}
+use Rattle.rd_store.proofs.Common.{◌≡◌, ◌∙◌, ℕ, ℤ, pos, List, [], ◌∷◌, false, true, Less, ap, ap₂, arith, codes, int_cmp, is_eq, is_lt, map, nat_cmp, refl, sym, entries, ordering_then, nat_tests, Int, Row, column, Query, key_cmp, col, value_cmp-Int, then-Equal, IsPicked, asks_of, rising, Spells, map_of, retain_all, in_order, AsksBy, Checkup, checkup_cmp, Outcome, numbered_check, check_spelling}
 use Rattle.sqlite.specs.Listing.{understood}
-use Rattle.sqlite.specs.Order.{Row, column}
-use Rattle.sqlite.specs.Query.{Query, key_cmp}
-use Rattle.sqlite.specs.Term.{col}
 use Rattle.sqlite_tied.specs.Compute.{everything}
-use Rattle.sqlite_value.proofs.OrderLemmas.{value_cmp-Int, then-Equal}
-use Rattle.rd_tables.specs.Asked.{IsPicked, asks_of, rising}
-use Rattle.rd_tables.specs.Spellings.{Spells, map_of}
-use Rattle.rd_tables.proofs.Entries.{retain_all}
-use Rattle.rd_tables.proofs.QueryMaps.{in_order}
-use Rattle.rd_tables.proofs.QueryTexts.{AsksBy}
-use Rattle.rd_holdings.specs.State.{Checkup, checkup_cmp}
-use Rattle.rd_holdings.specs.declared.rows.Outcome.{Outcome}
-use Rattle.rd_store.specs.Copied.{numbered_check}
-use Rattle.rd_store.specs.Spelled.{check_spelling}
 use Rattle.rd_store.proofs.Orders.{checkup_order, outcome_back}
 
 -- all checks, by accession and day

@@ -1,20 +1,6 @@
 -- What a column shows, and the value that it spells.
-use Rattle.std.proofs.Common.{◌≡◌, inl, inr, ℕ, ℤ, ◌≤◌, pos, negsuc, List, [], ◌∷◌, length, true, false, not, ◌&&◌, ◌||◌, int_lt, Some, None, Option, refl, arith}
-use Rattle.std.specs.Prelude.{IfSome}
-use Rattle.std.proofs.lemmas.Bool.{cases_Bool}
-use Rattle.std.proofs.lemmas.Bool.Decides.{nat_tests}
-use Rattle.sqlite.specs.declared.types.Value.{Value}
-use Rattle.sqlite.specs.declared.types.Value.TheVariants.{Null, Int, Real, Text, Blob}
-use Rattle.sqlite.specs.Values.{or_null}
-use Rattle.sqlite_value.specs.Order.{bytes}
-use Rattle.sqlite_rules.specs.Edit.{id_in}
-use Rattle.sqlite_rules.specs.Lists.{Has}
+use Rattle.rd_store.proofs.Common.{◌≡◌, inl, inr, ℕ, ℤ, ◌≤◌, pos, negsuc, List, [], ◌∷◌, length, true, false, not, ◌&&◌, ◌||◌, int_lt, Some, None, Option, refl, arith, IfSome, cases_Bool, nat_tests, Value, Null, Int, Real, Text, Blob, or_null, bytes, id_in, Has, IsPlainText, natural, day_in, IsDonor, is_number, is_one_of, is_day, is_some_day, is_digest, IsDonorAt, IsWordAt}
 use Rattle.rd_policy.specs.Days.{IsDay}
-use Rattle.rd_policy.specs.Rules.{IsPlainText}
-use Rattle.rd_tables.specs.Spellings.{natural}
-use Rattle.rd_store.specs.Codes.{day_in}
-use Rattle.rd_holdings.specs.Lawful.{IsDonor}
-use Rattle.rd_store.specs.RowColumns.{is_number, is_one_of, is_day, is_some_day, is_digest, IsDonorAt, IsWordAt}
 
 pub number_spelled : (low high : ℕ) (v : Value) → is_number low high v ≡ true → (v ≡ Int (pos (natural v))) × (low ≤ natural v) × (natural v ≤ high)
 number_spelled low high (Int (pos n)) is = (refl, grind (arith, nat_tests, is), grind (arith, nat_tests, is))

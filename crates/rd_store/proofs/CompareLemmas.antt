@@ -1,20 +1,5 @@
 -- Two desks whose tables show the same.
-use Rattle.std.proofs.Common.{◌≡◌, ◌∙◌, inl, inr, ℕ, zero, suc, ◌+◌, ◌<◌, List, [], ◌∷◌, length, get_or, map, Bool, true, false, Some, Result, Ok, Err, ap, arith, refl, subst, sym, IsErr, IsTrue, true≢false}
-use Rattle.std.specs.FinMap.{FinMap, entries, get, keys, same_entries_map}
-use Rattle.std.specs.Ordering.{nat_cmp}
-use Rattle.std.proofs.lemmas.Result.{IfOk-weaker}
-use Rattle.std.proofs.lemmas.List.{ext_get_or, get_or-map, length-map}
-use Rattle.sqlite.specs.Order.{Row}
-use Rattle.sqlite.specs.Store.{Ghosts}
-use Rattle.sqlite.specs.Held.{Held}
-use Rattle.sqlite_rules.specs.Lists.{Has}
-use Rattle.rd_tables.specs.Spellings.{Spelling}
-use Rattle.rd_tables.proofs.Entries.{entry_got}
-use Rattle.rd_holdings.specs.State.{Desk}
-use Rattle.rd_holdings.specs.declared.rows.DeedRow.{DeedRow}
-use Rattle.rd_store.specs.Copied.{Compares, TellsSame, TellsSameBoth}
-use Rattle.rd_store.specs.Held.{IsClean, IsOpen, Keeps, Reads, desk}
-use Rattle.rd_store.specs.Spelled.{deed_spelling}
+use Rattle.rd_store.proofs.Common.{◌≡◌, ◌∙◌, inl, inr, ℕ, zero, suc, ◌+◌, ◌<◌, List, [], ◌∷◌, length, get_or, map, Bool, true, false, Some, Result, Ok, Err, ap, arith, refl, subst, sym, IsErr, IsTrue, true≢false, FinMap, entries, get, keys, same_entries_map, nat_cmp, IfOk-weaker, ext_get_or, get_or-map, length-map, Row, Ghosts, Held, Has, Spelling, entry_got, Desk, DeedRow, Compares, TellsSame, TellsSameBoth, IsClean, IsOpen, Keeps, Reads, desk, deed_spelling}
 use Rattle.rd_store.proofs.CopyLemmas.{keeps_then, some_same}
 use Rattle.rd_store.proofs.Listings.{below_or_at}
 use Rattle.rd_store.proofs.Orders.{number_order}

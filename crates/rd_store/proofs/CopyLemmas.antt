@@ -1,24 +1,7 @@
 -- A desk that is copied entry by entry, inside one transaction.
-use Rattle.std.proofs.Common.{◌≡◌, ◌⊎◌, ◌∙◌, inl, inr, ℕ, zero, suc, ◌+◌, ◌<◌, ◌++◌, ◌&&◌, List, [], ◌∷◌, length, get_or, take, Bool, true, false, cond, T, Some, None, Result, Ok, Err, Ordering, Less, Equal, Greater, ap, arith, refl, subst, sym, is_eq, is_lt, IfOk, IsErr, IsTrue, MatchBool, OnOk, true≢false}
-use Rattle.std.specs.FinMap.{FinMap, entries, entries_sorted, from_entries, from_entries_push, get, get-entries, get-from_entries, insert, same_map}
-use Rattle.std.specs.FinMap.Entries.{below_all, find, is_sorted}
-use Rattle.std.specs.Ordering.{eq_by_cmp}
-use Rattle.std.proofs.lemmas.Cmp.{eq_by_cmp_equiv}
-use Rattle.std.proofs.lemmas.List.{take_all, take_more}
-use Rattle.sqlite.specs.Store.{Ghosts}
-use Rattle.sqlite.specs.Effect.{Database}
-use Rattle.sqlite.specs.Held.{Held, state}
-use Rattle.sqlite.specs.declared.error.Error.{Error}
-use Rattle.rd_tables.proofs.Entries.{IsKeyOrder}
-use Rattle.rd_holdings.specs.State.{Desk}
-use Rattle.rd_tables.specs.Schemas.{IsBlank, has_desk}
-use Rattle.rd_store.specs.Copied.{AndClean, IsCopied, IsNotCopied, KeepsOrStays, LeavesCopy, OpensCopy}
+use Rattle.rd_store.proofs.Common.{◌≡◌, ◌⊎◌, ◌∙◌, inl, inr, ℕ, zero, suc, ◌+◌, ◌<◌, ◌++◌, ◌&&◌, List, [], ◌∷◌, length, get_or, take, Bool, true, false, cond, T, Some, None, Result, Ok, Err, Ordering, Less, Equal, Greater, ap, arith, refl, subst, sym, is_eq, is_lt, IfOk, IsErr, IsTrue, MatchBool, OnOk, true≢false, FinMap, entries, entries_sorted, from_entries, from_entries_push, get, get-entries, get-from_entries, insert, same_map, below_all, find, is_sorted, eq_by_cmp, eq_by_cmp_equiv, take_all, take_more, Ghosts, Database, Held, state, Error, IsKeyOrder, Desk, IsBlank, has_desk, AndClean, IsCopied, IsNotCopied, KeepsOrStays, LeavesCopy, OpensCopy, LeavesOldOrNew, RestsIn, Turns, OpenFault, IsNotOpened, IsOpened, Holds, IsAtRest, IsClean, IsLeft, IsOpen, Keeps, Lasts, LeavesOpen, Moves, Reads, desk}
 use Rattle.rd_store.specs.declared.faults.CreateFault.{CreateFault}
 use Rattle.rd_store.specs.declared.faults.CreateFault.TheVariants.{Exists, Sql}
-use Rattle.rd_store.specs.Created.{LeavesOldOrNew, RestsIn, Turns}
-use Rattle.rd_store.specs.declared.faults.OpenFault.{OpenFault}
-use Rattle.rd_store.specs.Opened.{IsNotOpened, IsOpened}
-use Rattle.rd_store.specs.Held.{Holds, IsAtRest, IsClean, IsLeft, IsOpen, Keeps, Lasts, LeavesOpen, Moves, Reads, desk}
 use Rattle.rd_store.proofs.Laws.{lasts_still, lasts_then, left_is}
 use Rattle.rd_store.proofs.TransactionSteps.{and_then}
 

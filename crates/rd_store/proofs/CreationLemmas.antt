@@ -1,36 +1,9 @@
 -- What making the tables and their first rows comes to.
-use Rattle.std.proofs.Common.{◌≡◌, inl, inr, ℕ, ◌+◌, ◌<◌, List, [], ◌∷◌, ◌++◌, length, get_or, false, Option, Some, None, Result, Ok, refl, sym, ap, ap₂, subst, ◌∙◌}
-use Rattle.std.specs.List.{AllByRecursion, IsDistinct}
-use Rattle.std.specs.FinMap.{get, from_entries, get-from_entries}
-use Rattle.sqlite.specs.Order.{Row}
-use Rattle.sqlite.specs.Tree.{Trees, put_row}
-use Rattle.sqlite.specs.Table.{Table}
-use Rattle.sqlite.specs.Schema.{Schema}
-use Rattle.sqlite.specs.Command.TheVariants.{CreateTable}
+use Rattle.rd_store.proofs.Common.{◌≡◌, inl, inr, ℕ, ◌+◌, ◌<◌, List, [], ◌∷◌, ◌++◌, length, get_or, false, Option, Some, None, Result, Ok, refl, sym, ap, ap₂, subst, ◌∙◌, AllByRecursion, get, from_entries, get-from_entries, Row, Trees, put_row, Table, Schema, CreateTable, Ghosts, Held, state, Database, Tally, Does, lacks_sequence, statement_of, Staff, desk_schema, Spelling, Spells, SpellLawful, HaveRowids, map_of, create_texts, schema_after, put_version_text, put_version, Creates, creates, creates_writes, IsKeyOrder, get_inserted, Makes, plain_mode, puts_version, version_row, put_version_writes, digest_cmp, IsLawful, IsKey, AreMarksIn, joined, IsFileIn, IsIndexOf, deed_spelling, image_spelling, marks_spelling, rule_spelling, key_spelling, check_spelling, file_spelling, HasVersion, IsOf, IsDeskAt, HoldsDesk, IsOpen, LeavesOnly, desk, RestsIn, HasFirstTables, LeavesOldOrNew, Turns, empty_desk, new_desk}
+use Rattle.std.specs.List.{IsDistinct}
 use Rattle.sqlite.specs.Change.{created, next_tree, KeepsRows}
-use Rattle.sqlite.specs.Store.{Ghosts}
-use Rattle.sqlite.specs.Held.{Held, state}
-use Rattle.sqlite.specs.Effect.{Database}
-use Rattle.sqlite.specs.Does.{Tally, Does, lacks_sequence}
 use Rattle.sqlite.specs.Listing.{understood}
-use Rattle.sqlite.proofs.Callers.{statement_of}
-use Rattle.rd_policy.specs.declared.audience.Audience.TheVariants.{Staff}
-use Rattle.rd_tables.specs.Schemas.{desk_schema}
-use Rattle.rd_tables.specs.Spellings.{Spelling, Spells, SpellLawful, HaveRowids, map_of}
-use Rattle.rd_tables.specs.Statements.{create_texts, schema_after, put_version_text, put_version}
-use Rattle.rd_tables.proofs.CreateTexts.{Creates, creates, creates_writes}
-use Rattle.rd_tables.proofs.Entries.{IsKeyOrder, get_inserted}
-use Rattle.rd_tables.proofs.StatementRuns.{Makes, plain_mode}
-use Rattle.rd_tables.proofs.Statements.{puts_version, version_row}
-use Rattle.rd_tables.proofs.StatementTexts.{put_version_writes}
 use Rattle.rd_tables.proofs.TableSteps.{went, same_value}
-use Rattle.rd_holdings.specs.State.{digest_cmp}
-use Rattle.rd_holdings.specs.Lawful.{IsLawful, IsKey}
-use Rattle.rd_store.specs.Marks.{AreMarksIn, joined}
-use Rattle.rd_store.specs.Index.{IsFileIn, IsIndexOf}
-use Rattle.rd_store.specs.Spelled.{deed_spelling, image_spelling, marks_spelling, rule_spelling, key_spelling, check_spelling, file_spelling, HasVersion}
-use Rattle.rd_store.specs.Held.{IsOf, IsDeskAt, HoldsDesk, IsOpen, LeavesOnly, desk}
-use Rattle.rd_store.specs.Created.{RestsIn, HasFirstTables, LeavesOldOrNew, Turns, empty_desk, new_desk}
 use Rattle.rd_store.proofs.Laws.{Laws, leaves_only, left_is}
 use Rattle.rd_store.proofs.MarkedImages.{joined_none}
 use Rattle.rd_store.proofs.StatementCalls.{rests_on}

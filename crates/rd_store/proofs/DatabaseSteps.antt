@@ -1,47 +1,10 @@
 -- What the statements make of a database of a desk.
-use Rattle.std.proofs.Common.{◌≡◌, ◌==◌, ◌+◌, ◌<◌, [], ◌∷◌, inl, inr, AllPairs, get_or, length, option_map, ℕ, ℤ, pos, List, filter, Bool, true, false, not, ◌&&◌, Some, None, IsSome, refl, sym, ap, ap₂, subst, subst₂, ◌∙◌, nat_cmp, arith}
-use Rattle.std.specs.List.{AllByRecursion}
-use Rattle.std.specs.Ordering.{eq_by_cmp}
-use Rattle.std.specs.FinMap.{FinMap, get, insert, remove}
-use Rattle.std.proofs.lemmas.Bool.Decides.{nat_tests}
-use Rattle.sqlite.specs.declared.types.Value.TheVariants.{Int, Blob}
-use Rattle.sqlite.specs.Collation.TheVariants.{Binary}
-use Rattle.sqlite.specs.Order.{Row, column}
-use Rattle.sqlite.specs.Tree.{put_row, rowid, has_rowid}
-use Rattle.sqlite.specs.Effect.{Database, IsDatabase}
+use Rattle.rd_store.proofs.Common.{◌≡◌, ◌==◌, ◌+◌, ◌<◌, [], ◌∷◌, inl, inr, AllPairs, get_or, length, option_map, ℕ, ℤ, pos, List, filter, Bool, true, false, not, ◌&&◌, Some, None, IsSome, refl, sym, ap, ap₂, subst, subst₂, ◌∙◌, nat_cmp, arith, AllByRecursion, eq_by_cmp, FinMap, get, insert, remove, nat_tests, Int, Blob, Binary, Row, column, put_row, rowid, has_rowid, Database, IsDatabase, statement_of, is_true, Compare, Eq, CBM_BLOCKS, Kind, Cpm8, D64, D64e, Audience, desk_schema, Spelling, Spells, SpellLawful, IsSpelled, HaveRowids, entry_of, map_of, put_deed_text, put_deed, set_deed_text, set_deed, put_image_text, put_image, put_marks_text, put_marks, put_rule_text, put_rule, drop_rule_text, drop_rule, put_key_text, put_key, drop_key_text, drop_key, put_check_text, put_check, drop_check_text, drop_check, put_file_text, put_file, and_true, same_numbers, equal_numbers, equal_integers, equal_blobs, insert_removed, Makes, put_deed_writes, set_deed_writes, put_image_writes, put_marks_writes, put_rule_writes, drop_rule_writes, put_key_writes, drop_key_writes, put_check_writes, drop_check_writes, put_file_writes, deed_params, deed_row, has_number, puts_deed, sets_deed, image_params, image_row, puts_image, marks_params, marks_row, puts_marks, place_params, has_place, drops_rule, rule_row, puts_rule, digest_params, has_digest, drops_key, key_params, key_row, puts_key, checkup_params, has_checkup, drops_check, check_params, check_row, puts_check, file_row, puts_file, DeedRow, ImageRow, Outcome, kind_code, kind_in, audiences_code, audience_code, effect_code, outcome_code, how, number, word, class_code, units_code, Desk, Place, Terms, Checkup, place_cmp, digest_cmp, checkup_cmp, with_deed, with_rule, without_rule, with_check, without_check, with_key, without_key, band_code, AreFounds, Found, FileAt, file_cmp, IsFiledTo, IsIndexOf, with_new_image, AreMarksIn, joined, with_marks, as_row, HaveOwnRowids, deed_spelling, image_spelling, images_of, marks_spelling, rule_spelling, key_spelling, check_spelling, file_spelling, file_shown, index_of, HasVersion, IsOf, IsDeskWith, LacksImage}
 use Rattle.sqlite.specs.Listing.{understood}
-use Rattle.sqlite.proofs.Callers.{statement_of}
-use Rattle.sqlite_sql.specs.Ops.{binary, is_true}
-use Rattle.sqlite_sql.specs.declared.ops.BinaryOp.TheVariants.{Compare}
-use Rattle.sqlite_sql.specs.declared.ops.CompareOp.TheVariants.{Eq}
-use Rattle.rd_geometry.specs.Blocks.{CBM_BLOCKS}
-use Rattle.rd_geometry.specs.declared.kind.Kind.{Kind}
-use Rattle.rd_geometry.specs.declared.kind.Kind.TheVariants.{Cpm8, D64, D64e}
-use Rattle.rd_policy.specs.declared.audience.Audience.{Audience}
-use Rattle.rd_tables.specs.Schemas.{desk_schema}
-use Rattle.rd_tables.specs.Spellings.{Spelling, Spells, SpellLawful, IsSpelled, HaveRowids, entry_of, map_of}
-use Rattle.rd_tables.specs.Statements.{put_deed_text, put_deed, set_deed_text, set_deed, put_image_text, put_image, put_marks_text, put_marks, put_rule_text, put_rule, drop_rule_text, drop_rule, put_key_text, put_key, drop_key_text, drop_key, put_check_text, put_check, drop_check_text, drop_check, put_file_text, put_file}
-use Rattle.rd_tables.proofs.ListLemmas.{and_true}
-use Rattle.rd_tables.proofs.Values.{same_numbers, equal_numbers, equal_integers, equal_blobs}
-use Rattle.rd_tables.proofs.Entries.{insert_removed}
+use Rattle.sqlite_sql.specs.Ops.{binary}
 use Rattle.rd_tables.proofs.MapChanges.{spells_put, map_put, none_at, one_at, map_left, spells_left, none_left}
 use Rattle.rd_tables.proofs.RemovedRows.{rowids_left, rowids_put}
-use Rattle.rd_tables.proofs.StatementRuns.{Makes}
 use Rattle.rd_tables.proofs.DatabaseSteps.{Sets, is_index_tree, not_taken}
-use Rattle.rd_tables.proofs.StatementTexts.{put_deed_writes, set_deed_writes, put_image_writes, put_marks_writes, put_rule_writes, drop_rule_writes, put_key_writes, drop_key_writes, put_check_writes, drop_check_writes, put_file_writes}
-use Rattle.rd_tables.proofs.Statements.{deed_params, deed_row, has_number, puts_deed, sets_deed, image_params, image_row, puts_image, marks_params, marks_row, puts_marks, place_params, has_place, drops_rule, rule_row, puts_rule, digest_params, has_digest, drops_key, key_params, key_row, puts_key, checkup_params, has_checkup, drops_check, check_params, check_row, puts_check, file_row, puts_file}
-use Rattle.rd_holdings.specs.declared.rows.DeedRow.{DeedRow}
-use Rattle.rd_holdings.specs.declared.rows.ImageRow.{ImageRow}
-use Rattle.rd_holdings.specs.declared.rows.Outcome.{Outcome}
-use Rattle.rd_store.specs.Codes.{kind_code, kind_in, audiences_code, audience_code, effect_code, outcome_code, how, number, word, class_code, units_code}
-use Rattle.rd_holdings.specs.State.{Desk, Place, Terms, Checkup, place_cmp, digest_cmp, checkup_cmp, with_deed, with_rule, without_rule, with_check, without_check, with_key, without_key, band_code}
-use Rattle.rd_volume.specs.Volumes.{AreFounds}
-use Rattle.rd_volume.specs.declared.found.Found.{Found}
-use Rattle.rd_store.specs.Index.{FileAt, file_cmp, IsFiledTo, IsIndexOf, with_new_image}
-use Rattle.rd_store.specs.Marks.{AreMarksIn, joined, with_marks}
-use Rattle.rd_store.specs.Shown.{as_row}
-use Rattle.rd_store.specs.Spelled.{HaveOwnRowids, deed_spelling, image_spelling, images_of, marks_spelling, rule_spelling, key_spelling, check_spelling, file_spelling, file_shown, index_of, HasVersion}
-use Rattle.rd_store.specs.Held.{IsOf, IsDeskWith, LacksImage}
 use Rattle.rd_store.proofs.IndexInserts.{none_filed, next_free, one_filed, all_filed}
 use Rattle.rd_store.proofs.MarkedImages.{joined_image, joined_marks, no_marks, none_apart, plain_there, still_marks}
 use Rattle.rd_store.proofs.Orders.{number_order, place_order, digest_order, checkup_order, file_order, audience_back, outcome_back, rule_back, entry_back}

@@ -1,21 +1,6 @@
 -- What the tests of a database say of it, from the tests of its rows.
-use Rattle.std.proofs.Common.{◌≡◌, ◌≢◌, inl, inr, ◌||◌, ℕ, List, [], get_or, Bool, true, false, Option, Result, Ok, Err, IfOk, IfErr, refl, sym, ap, subst, ◌∙◌, true≢false, arith}
-use Rattle.std.specs.Prelude.{IsErrAnd}
-use Rattle.sqlite.specs.Order.{Row, column}
-use Rattle.sqlite.specs.Store.{Ghosts}
-use Rattle.sqlite.specs.Effect.{Database, IsDatabase}
-use Rattle.sqlite.specs.Held.{Held, state}
-use Rattle.sqlite.specs.Table.{Table}
-use Rattle.rd_tables.specs.Schemas.{TellsVersion, desk_schema, desk_with, first_schema, has_desk_columns, has_foreign_desk, may_be_desk}
-use Rattle.rd_tables.specs.Spellings.{natural}
-use Rattle.rd_tables.proofs.VersionText.{desk_first, one_tree}
-use Rattle.rd_store.specs.declared.faults.OpenFault.{OpenFault}
-use Rattle.rd_store.specs.declared.faults.OpenFault.TheVariants.{NotADesk, Version as OtherVersion, Inconsistent, Sql}
-use Rattle.rd_store.specs.declared.version.Version.{Version}
-use Rattle.rd_store.specs.Spelled.{HasVersion, HaveOwnRowids, unmarked}
-use Rattle.rd_store.specs.Held.{Asks, IsClean, IsOpen, Stays}
-use Rattle.rd_store.specs.Opened.{IsConsistent, IsConsistentAs, IsNamed, IsNoDesk, IsResting, IsSaid, IsSettledAt, Judged, IsHeld, NamesDesk, Refuses, Says, Tests, TestsDatabase}
-use Rattle.rd_store.specs.Migrated.{IsHeldFirst, RefusesEach}
+use Rattle.rd_store.proofs.Common.{◌≡◌, ◌≢◌, inl, inr, ◌||◌, ℕ, List, [], get_or, Bool, true, false, Option, Result, Ok, Err, IfOk, IfErr, refl, sym, ap, subst, ◌∙◌, true≢false, arith, IsErrAnd, Row, column, Ghosts, Database, IsDatabase, Held, state, Table, TellsVersion, desk_schema, desk_with, first_schema, has_desk_columns, has_foreign_desk, may_be_desk, natural, desk_first, one_tree, OpenFault, NotADesk, Inconsistent, Version, HasVersion, HaveOwnRowids, unmarked, Asks, IsClean, IsOpen, Stays, IsConsistent, IsConsistentAs, IsNamed, IsNoDesk, IsResting, IsSaid, IsSettledAt, Judged, IsHeld, NamesDesk, Refuses, Says, Tests, TestsDatabase, IsHeldFirst, RefusesEach}
+use Rattle.rd_store.specs.declared.faults.OpenFault.TheVariants.{Version as OtherVersion, Sql}
 use Rattle.rd_store.proofs.Laws.{stays_here, stays_then}
 
 held : (db : Database) → db.schema ≡ desk_schema → IsDatabase db → IsConsistent db.trees → HaveOwnRowids db.trees → IsHeld db

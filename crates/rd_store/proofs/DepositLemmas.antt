@@ -1,16 +1,6 @@
 -- A transaction that puts an image and its files.
-use Rattle.std.proofs.Common.{◌≡◌, ◌⊎◌, ℕ, None, IsSome, OnOk, Result, Option, sym, subst, ap}
-use Rattle.std.specs.FinMap.{get}
-use Rattle.sqlite.specs.Store.{Ghosts}
-use Rattle.sqlite.specs.Held.{Held, state}
-use Rattle.rd_holdings.specs.declared.rows.ImageRow.{ImageRow}
-use Rattle.rd_store.specs.Created.{RestsIn, Turns}
-use Rattle.rd_store.specs.Held.{Changes, HoldsDesk, IsLeft, IsOf, IsOpen, LacksImage, desk}
-use Rattle.rd_holdings.specs.Lawful.{IsImage}
-use Rattle.rd_holdings.specs.State.{Desk, put_or_kept, with_image}
-use Rattle.rd_store.specs.Index.{with_new_image}
+use Rattle.rd_store.proofs.Common.{◌≡◌, ◌⊎◌, ℕ, None, IsSome, OnOk, Result, Option, sym, subst, ap, get, Ghosts, Held, state, ImageRow, RestsIn, Turns, Changes, HoldsDesk, IsLeft, IsOf, IsOpen, LacksImage, desk, IsImage, Desk, put_or_kept, with_image, with_new_image, lawful_insert}
 use Rattle.rd_store.proofs.Laws.{Laws}
-use Rattle.rd_holdings.proofs.Lawful.{lawful_insert}
 use Rattle.rd_store.proofs.Transactions.{starts, changes}
 
 -- the same change, told by a desk that is the same where the connection was open

@@ -1,19 +1,5 @@
 -- Images that are copied one by one, inside one transaction, from the desk of another connection.
-use Rattle.std.proofs.Common.{◌≡◌, ◌∙◌, ℕ, ◌+◌, ◌<◌, List, [], length, get_or, Some, None, Result, Ok, Err, ap, subst, sym, IsErr}
-use Rattle.std.specs.FinMap.{FinMap, entries, from_entries, get, insert, keys}
-use Rattle.std.specs.Ordering.{nat_cmp}
-use Rattle.std.proofs.lemmas.List.{get_or-map, length-map}
-use Rattle.sqlite.specs.Store.{Ghosts}
-use Rattle.sqlite.specs.Effect.{Database}
-use Rattle.sqlite.specs.Held.{Held}
-use Rattle.sqlite.specs.declared.error.Error.{Error}
-use Rattle.rd_geometry.specs.declared.kind.Kind.TheVariants.{D64}
-use Rattle.rd_tables.proofs.Entries.{entry_got}
-use Rattle.rd_holdings.specs.State.{Desk}
-use Rattle.rd_holdings.specs.declared.rows.ImageRow.{ImageRow}
-use Rattle.rd_store.specs.Copied.{AndClean, TakesImage, with_images}
-use Rattle.rd_store.specs.Held.{IsClean, IsOf, Moves, desk}
-use Rattle.rd_store.specs.Index.{with_new_image}
+use Rattle.rd_store.proofs.Common.{◌≡◌, ◌∙◌, ℕ, ◌+◌, ◌<◌, List, [], length, get_or, Some, None, Result, Ok, Err, ap, subst, sym, IsErr, FinMap, entries, from_entries, get, insert, keys, nat_cmp, get_or-map, length-map, Ghosts, Database, Held, Error, D64, entry_got, Desk, ImageRow, AndClean, TakesImage, with_images, IsClean, IsOf, Moves, desk, with_new_image}
 use Rattle.rd_store.proofs.CompareLemmas.{any_default, has_at}
 use Rattle.rd_store.proofs.CopyLemmas.{earlier_both, first_all, first_of, goes_on, moves_none, next_free, next_put}
 use Rattle.rd_store.proofs.Orders.{number_order}

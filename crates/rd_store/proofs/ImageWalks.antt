@@ -1,43 +1,9 @@
 -- What a walk over the images finds.
-use Rattle.std.proofs.Common.{◌≡◌, inl, inr, ℕ, ◌-◌, pos, List, [], ◌∷◌, ◌++◌, map, filter, length, take, All, Bool, true, false, Option, Some, None, IsSome, option_map, slice_get, Result, Ok, Err, refl, sym, ap, ap₂, subst, ◌∙◌, arith, nat_cmp}
-use Rattle.std.specs.Prelude.{IsErrAnd, MatchBool}
-use Rattle.std.specs.FinMap.{FinMap, entries, get, keys}
-use Rattle.std.proofs.lemmas.List.{length_push, map-append}
-use Rattle.std.proofs.lemmas.List.Elements.{All-from_recursion, All-weaker}
-use Rattle.sqlite.specs.declared.types.Value.TheVariants.{Int}
-use Rattle.sqlite.specs.Effect.{Database, IsDatabase}
-use Rattle.sqlite.specs.Held.{Held, state}
-use Rattle.sqlite.specs.Order.{Row, column}
-use Rattle.sqlite.specs.Store.{Ghosts}
-use Rattle.sqlite.specs.Table.{Table}
-use Rattle.sqlite.specs.Tree.{Trees}
-use Rattle.sqlite_rules.specs.Edit.{id_in}
-use Rattle.sqlite_rules.specs.Lists.{Has}
-use Rattle.sqlite_rules.proofs.ListLemmas.{has_either}
+use Rattle.rd_store.proofs.Common.{◌≡◌, inl, inr, ℕ, ◌-◌, pos, List, [], ◌∷◌, ◌++◌, map, filter, length, take, All, Bool, true, false, Option, Some, None, IsSome, option_map, slice_get, Result, Ok, Err, refl, sym, ap, ap₂, subst, ◌∙◌, arith, nat_cmp, IsErrAnd, MatchBool, FinMap, entries, get, keys, length_push, map-append, All-from_recursion, All-weaker, Int, Database, IsDatabase, Held, state, Row, column, Ghosts, Table, Trees, id_in, Has, has_either, Length, TypeOf, AreRising, IsListed, greater, all_images_query, all_marks_query, desk_with, IsSpelled, Spells, entry_of, map_of, natural, entry_got, got_entry, all_in, row_got, rows_lawful, and_true, from_map, in_map, map_map, greater_int, OpenFault, Heading, ImageRow, HasErrorBytes, IsImageRow, IsMarksRow, is_number, is_one_of, IsScope, IsClean, IsOpen, Stays, AreFiledUnder, AreKeys, AreListed, HaveAccessions, HaveFiles, IsConsistent, IsConsistentAs, IsImageOf, JudgedPart, LawfulCommon, LawfulImages, LawfulMarks, TestsPart, is_among, entry_in, number_of, register_of, as_row, HasVersion, deed_spelling, image_spelling, images_of, marks_spelling, unmarked, AreBatchOf, AreFiledOf, AreNextOf, AreReadNext, HasFilesOnce, IsJudgedImage, IsLawfulAt, IsReadOf, IsWalk, IsWalkTo, LawfulGivenWalk, LawfulWalk, SpellMarksIf, StandsOnce, image_read, image_columns, last_number}
 use Rattle.sqlite_sql.specs.Ops.{unary}
-use Rattle.sqlite_sql.specs.declared.ops.UnaryOp.TheVariants.{Length, TypeOf}
-use Rattle.rd_tables.specs.Asked.{AreRising, IsListed, greater}
-use Rattle.rd_tables.specs.Queries.{all_images_query, all_marks_query}
-use Rattle.rd_tables.specs.Schemas.{desk_with}
-use Rattle.rd_tables.specs.Spellings.{IsSpelled, Spells, entry_of, map_of, natural}
 use Rattle.rd_tables.specs.Walks.{AreNext, ComesNext, IsWalked, is_after}
-use Rattle.rd_tables.proofs.Entries.{entry_got, got_entry}
-use Rattle.rd_tables.proofs.TestedRows.{all_in, row_got, rows_lawful}
-use Rattle.rd_tables.proofs.ListLemmas.{and_true, from_map, in_map, map_map}
-use Rattle.rd_tables.proofs.Values.{greater_int}
 use Rattle.rd_tables.proofs.RowWalks.{all_walked, comes_from, each_next, none_next, walk_goes_on, walk_starts}
-use Rattle.rd_store.specs.declared.faults.OpenFault.{OpenFault}
 use Rattle.rd_store.specs.declared.faults.OpenFault.TheVariants.{Sql}
-use Rattle.rd_store.specs.declared.images.Heading.{Heading}
-use Rattle.rd_holdings.specs.declared.rows.ImageRow.{ImageRow}
-use Rattle.rd_store.specs.RowColumns.{HasErrorBytes, IsImageRow, IsMarksRow, is_number, is_one_of}
-use Rattle.rd_policy.specs.Rules.{IsScope}
-use Rattle.rd_store.specs.Held.{IsClean, IsOpen, Stays}
-use Rattle.rd_store.specs.Opened.{AreFiledUnder, AreKeys, AreListed, HaveAccessions, HaveFiles, IsConsistent, IsConsistentAs, IsImageOf, JudgedPart, LawfulCommon, LawfulImages, LawfulMarks, TestsPart, is_among}
-use Rattle.rd_store.specs.Register.{entry_in, number_of, register_of}
-use Rattle.rd_store.specs.Shown.{as_row}
-use Rattle.rd_store.specs.Spelled.{HasVersion, deed_spelling, image_spelling, images_of, marks_spelling, unmarked}
-use Rattle.rd_store.specs.Walked.{AreBatchOf, AreFiledOf, AreNextOf, AreReadNext, HasFilesOnce, IsJudgedImage, IsLawfulAt, IsReadOf, IsWalk, IsWalkTo, LawfulGivenWalk, LawfulWalk, SpellMarksIf, StandsOnce, image_read, image_columns, last_number}
 use Rattle.rd_store.proofs.ColumnValues.{number_shown, number_spelled, one_of_spelled}
 use Rattle.rd_store.proofs.IndexTests.{filed_at, have_accessions, lawful_files}
 use Rattle.rd_store.proofs.QueryResults.{images_listed}

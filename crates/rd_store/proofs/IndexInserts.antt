@@ -1,14 +1,5 @@
 -- The files of an image go into the index one after another.
-use Rattle.std.proofs.Common.{◌≡◌, inl, inr, ℕ, ◌+◌, ◌<◌, List, length, get_or, AllPairs, Option, Some, None, refl, sym, ap, subst, ◌∙◌, arith, nat_cmp}
-use Rattle.std.specs.FinMap.{FinMap, get, insert}
-use Rattle.std.proofs.lemmas.Bool.{cases_eq}
-use Rattle.sqlite_rules.proofs.ListLemmas.{has_contained, contains_had}
-use Rattle.rd_tables.proofs.ListLemmas.{from_map}
-use Rattle.rd_tables.proofs.Entries.{get_inserted}
-use Rattle.rd_volume.specs.Volumes.{AreFounds, IsFound, IsFoundAt}
-use Rattle.rd_volume.specs.declared.found.Found.{Found}
-use Rattle.rd_holdings.specs.declared.rows.ImageRow.{ImageRow}
-use Rattle.rd_store.specs.Index.{FileAt, file_cmp, IsFileIn, IsFiledTo, IsIndexOf}
+use Rattle.rd_store.proofs.Common.{◌≡◌, inl, inr, ℕ, ◌+◌, ◌<◌, List, length, get_or, AllPairs, Option, Some, None, refl, sym, ap, subst, ◌∙◌, arith, nat_cmp, FinMap, get, insert, cases_eq, has_contained, contains_had, from_map, get_inserted, AreFounds, IsFound, IsFoundAt, Found, ImageRow, FileAt, file_cmp, IsFileIn, IsFiledTo, IsIndexOf}
 use Rattle.rd_store.proofs.Listings.{any_default, below_or_at}
 use Rattle.rd_store.proofs.Orders.{number_order, file_order}
 use Rattle.rd_store.proofs.Maps.{found_after, others_stay}

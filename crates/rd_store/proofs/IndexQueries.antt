@@ -1,34 +1,7 @@
 -- What the queries show of the index.
-use Rattle.std.proofs.Common.{◌≡◌, inl, inr, ℕ, ◌<◌, pos, List, [], ◌∷◌, map, AllPairs, Bool, true, false, cond, T, ◌&&◌, ◌==◌, Option, Some, None, refl, sym, ap, subst, ◌∙◌, arith, nat_cmp, int_cmp, is_lt, is_eq, Less, Equal}
-use Rattle.std.specs.Option.{option_to_list}
-use Rattle.std.specs.Ordering.{eq_by_cmp, ordering_then}
-use Rattle.std.specs.FinMap.{FinMap, get, entries, entries_sorted, retain_keys, get-retain_keys}
-use Rattle.std.specs.FinMap.Entries.{is_sorted, below_all}
-use Rattle.std.proofs.lemmas.Bool.Decides.{nat_tests}
-use Rattle.std.proofs.lemmas.List.Elements.{All-from_recursion}
+use Rattle.rd_store.proofs.Common.{◌≡◌, inl, inr, ℕ, ◌<◌, pos, List, [], ◌∷◌, map, AllPairs, Bool, true, false, cond, T, ◌&&◌, ◌==◌, Option, Some, None, refl, sym, ap, subst, ◌∙◌, arith, nat_cmp, int_cmp, is_lt, is_eq, Less, Equal, option_to_list, eq_by_cmp, ordering_then, FinMap, get, entries, entries_sorted, retain_keys, get-retain_keys, is_sorted, below_all, nat_tests, All-from_recursion, Int, Row, column, Binary, is_true, Compare, Eq, value_cmp-Int, then-Equal, Has, contains_had, AreFounds, IsFound, IsFoundAt, IsSlotOfFile, Found, IsPicked, file_query, files_query, Spells, map_of, entry_of, map_map, and_true, in_map, from_map, equal_numbers, entry_got, got_entry, below_has, looked_up, in_order, all_in, ImageRow, FileAt, file_cmp, AreFilesIn, IsFileIn, file_spelling, file_shown, later}
 use Rattle.std.proofs.lemmas.List.Kept.{AllPairs-cons}
-use Rattle.sqlite.specs.declared.types.Value.TheVariants.{Int}
-use Rattle.sqlite.specs.Order.{Row, column}
-use Rattle.sqlite.specs.Collation.TheVariants.{Binary}
-use Rattle.sqlite_sql.specs.Ops.{binary, is_true}
-use Rattle.sqlite_sql.specs.declared.ops.BinaryOp.TheVariants.{Compare}
-use Rattle.sqlite_sql.specs.declared.ops.CompareOp.TheVariants.{Eq}
-use Rattle.sqlite_value.proofs.OrderLemmas.{value_cmp-Int, then-Equal}
-use Rattle.sqlite_rules.specs.Lists.{Has}
-use Rattle.sqlite_rules.proofs.ListLemmas.{contains_had}
-use Rattle.rd_volume.specs.Volumes.{AreFounds, IsFound, IsFoundAt, IsSlotOfFile}
-use Rattle.rd_volume.specs.declared.found.Found.{Found}
-use Rattle.rd_tables.specs.Asked.{IsPicked}
-use Rattle.rd_tables.specs.Queries.{file_query, files_query}
-use Rattle.rd_tables.specs.Spellings.{Spells, map_of, entry_of}
-use Rattle.rd_tables.proofs.ListLemmas.{map_map, and_true, in_map, from_map}
-use Rattle.rd_tables.proofs.Values.{equal_numbers}
-use Rattle.rd_tables.proofs.Entries.{entry_got, got_entry, below_has}
-use Rattle.rd_tables.proofs.QueryMaps.{looked_up, in_order}
-use Rattle.rd_tables.proofs.TestedRows.{all_in}
-use Rattle.rd_holdings.specs.declared.rows.ImageRow.{ImageRow}
-use Rattle.rd_store.specs.Index.{FileAt, file_cmp, AreFilesIn, IsFileIn}
-use Rattle.rd_store.specs.Spelled.{file_spelling, file_shown, later}
+use Rattle.sqlite_sql.specs.Ops.{binary}
 use Rattle.rd_store.proofs.Orders.{file_order}
 
 -- ---- the file at one slot

@@ -1,42 +1,6 @@
 -- What the tests of the index say of it.
-use Rattle.std.proofs.Common.{◌≡◌, ◌≢◌, inl, inr, ℕ, suc, pos, List, [], ◌∷◌, filter, map, All, length, get_or, Bool, true, false, Option, Some, None, IsSome, option_map, refl, sym, ap, subst, ◌∙◌, arith, nat_cmp}
-use Rattle.std.specs.Option.{unwrap_or}
-use Rattle.std.specs.Prelude.{MatchBool}
-use Rattle.std.specs.List.{list_all}
-use Rattle.std.specs.Ordering.{eq_by_cmp}
-use Rattle.std.specs.FinMap.{get}
-use Rattle.std.proofs.lemmas.Bool.Decides.{nat_tests}
-use Rattle.std.proofs.lemmas.List.{get_or-map, length-map}
-use Rattle.std.proofs.lemmas.List.Sorted.{IsPermutation-sym}
-use Rattle.std.proofs.lemmas.List.Elements.{recursion_from_All}
-use Rattle.sqlite.specs.declared.types.Value.TheVariants.{Int}
-use Rattle.sqlite.specs.Order.{Row, column, value_cmp}
-use Rattle.sqlite.specs.Tree.{Trees, rowid}
-use Rattle.sqlite.specs.Effect.{Database, IsDatabase}
-use Rattle.sqlite.specs.Table.{Table}
-use Rattle.sqlite.specs.Query.{Output, output}
-use Rattle.sqlite_sql.specs.Term.{holds}
-use Rattle.sqlite_rules.specs.Lists.{Has}
-use Rattle.sqlite_rules.proofs.ListLemmas.{all_has, has_contained, has_filtered, has_kept}
-use Rattle.rd_volume.specs.Volumes.{AreFounds, IsFound}
-use Rattle.rd_volume.specs.declared.found.Found.{Found}
+use Rattle.rd_store.proofs.Common.{◌≡◌, ◌≢◌, inl, inr, ℕ, suc, pos, List, [], ◌∷◌, filter, map, All, length, get_or, Bool, true, false, Option, Some, None, IsSome, option_map, refl, sym, ap, subst, ◌∙◌, arith, nat_cmp, unwrap_or, MatchBool, list_all, eq_by_cmp, get, nat_tests, get_or-map, length-map, IsPermutation-sym, recursion_from_All, Int, Row, column, value_cmp, Trees, rowid, Database, IsDatabase, Table, Output, output, holds, Has, all_has, has_contained, has_filtered, has_kept, AreFounds, IsFound, Found, picked, IsPicked, IsListed, files_query, all_files_query, desk_with, Spells, IsSpelled, entry_of, map_of, seen, and_true, in_map, from_map, equal_numbers, tie, to_permuted, all_in, each_shown, shown_each, rowids_apart, have_rowids, apart_by_rowids, row_got, got_row, same_int, agree_two, one_file, D64, ImageRow, is_one_of, IsFiledRow, IsFileRow, ShowFiles, FileAt, file_cmp, AreFilesIn, IsFileIn, AreFiledUnder, AreKeys, HasDiskIf, HasFiles, HaveAccessions, HasDisk, HaveFiles, IsFiledAt, IsIndexAt, LawfulFiles, image_among, image_if, is_among, with_marks, file_spelling, file_shown, image_spelling, index_of, later, marks_spelling}
 use Rattle.rd_volume.proofs.OneSurvey.{one_survey}
-use Rattle.rd_tables.specs.Asked.{picked, IsPicked, IsListed}
-use Rattle.rd_tables.specs.Queries.{files_query, all_files_query}
-use Rattle.rd_tables.specs.Schemas.{desk_with}
-use Rattle.rd_tables.specs.Spellings.{Spells, IsSpelled, entry_of, map_of, seen}
-use Rattle.rd_tables.proofs.ListLemmas.{and_true, in_map, from_map}
-use Rattle.rd_tables.proofs.Values.{equal_numbers}
-use Rattle.rd_tables.proofs.Entries.{tie}
-use Rattle.rd_tables.proofs.TestedRows.{to_permuted, all_in, each_shown, shown_each, rowids_apart, have_rowids, apart_by_rowids, row_got, got_row}
-use Rattle.rd_tables.proofs.UniqueKeys.{same_int, agree_two, one_file}
-use Rattle.rd_geometry.specs.declared.kind.Kind.TheVariants.{D64}
-use Rattle.rd_holdings.specs.declared.rows.ImageRow.{ImageRow}
-use Rattle.rd_store.specs.RowColumns.{is_one_of, IsFiledRow, IsFileRow, ShowFiles}
-use Rattle.rd_store.specs.Index.{FileAt, file_cmp, AreFilesIn, IsFileIn}
-use Rattle.rd_store.specs.Opened.{AreFiledUnder, AreKeys, HasDiskIf, HasFiles, HaveAccessions, HasDisk, HaveFiles, IsFiledAt, IsIndexAt, LawfulFiles, image_among, image_if, is_among}
-use Rattle.rd_store.specs.Marks.{with_marks}
-use Rattle.rd_store.specs.Spelled.{file_spelling, file_shown, image_spelling, index_of, later, marks_spelling}
 use Rattle.rd_store.proofs.ColumnValues.{one_of_spelled, one_of_shown}
 use Rattle.rd_store.proofs.IndexQueries.{files_found}
 use Rattle.rd_store.proofs.Orders.{file_order, entry_back}

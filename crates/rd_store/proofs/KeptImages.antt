@@ -1,14 +1,6 @@
 -- What becomes of the image that is kept in memory.
-use Rattle.std.proofs.Common.{◌≡◌, ℕ, Option, Some, None, Result, Ok, Err, OnOk, OnErr, refl, sym, ap, subst, ◌∙◌, nat_cmp}
-use Rattle.std.specs.FinMap.{FinMap, get, insert}
-use Rattle.sqlite.specs.Store.{Ghosts}
-use Rattle.sqlite.specs.Held.{Held}
-use Rattle.rd_store.specs.declared.image_cache.KeptImage.{KeptImage}
+use Rattle.rd_store.proofs.Common.{◌≡◌, ℕ, Option, Some, None, Result, Ok, Err, OnOk, OnErr, refl, sym, ap, subst, ◌∙◌, nat_cmp, FinMap, get, insert, Ghosts, Held, KeptImage, ImageRow, Desk, put_or_kept, with_image, Changes, desk, IsAmong, IsLastOf}
 use Rattle.rd_store.specs.declared.image_cache.KeptImage.TheVariants.{Unasked, AskedFor, Kept}
-use Rattle.rd_holdings.specs.declared.rows.ImageRow.{ImageRow}
-use Rattle.rd_holdings.specs.State.{Desk, put_or_kept, with_image}
-use Rattle.rd_store.specs.Held.{Changes, desk}
-use Rattle.rd_store.specs.ImageCache.{IsAmong, IsLastOf}
 use Rattle.rd_store.proofs.Maps.{others_stay}
 use Rattle.rd_store.proofs.Orders.{number_order}
 

@@ -1,28 +1,9 @@
 -- The text that asks for the checks after a day, and what it shows.
-use Rattle.std.proofs.Common.{◌≡◌, ◌∙◌, ◌&&◌, ◌==◌, ℕ, ℤ, pos, Bool, List, [], ◌∷◌, false, Less, ap, ap₂, arith, codes, eqb-true, int_cmp, int_lt, is_eq, is_gt, is_lt, length, map, nat_cmp, not, refl, subst, sym, true}
-use Rattle.std.specs.Prelude.{◌≢◌, MatchBool}
-use Rattle.std.specs.FinMap.{entries, retain_keys}
-use Rattle.std.specs.Ordering.{ordering_then}
-use Rattle.std.proofs.lemmas.Bool.Decides.{nat_tests}
-use Rattle.sqlite.specs.declared.types.Value.TheVariants.{Int}
+use Rattle.rd_store.proofs.Common.{◌≡◌, ◌∙◌, ◌&&◌, ◌==◌, ℕ, ℤ, pos, Bool, List, [], ◌∷◌, false, Less, ap, ap₂, arith, codes, eqb-true, int_cmp, int_lt, is_eq, is_gt, is_lt, length, map, nat_cmp, not, refl, subst, sym, true, ◌≢◌, MatchBool, entries, retain_keys, ordering_then, nat_tests, Int, Row, column, Query, key_cmp, Binary, col, is_true, Compare, Gt, value_cmp-Int, then-Equal, IsPicked, asks_of, greater, rising, Spells, entry_of, map_of, and_true, empty_by_length, in_order, AsksBy, truth_kept, checkup_shown, check_spelling}
 use Rattle.sqlite.specs.Listing.{understood}
-use Rattle.sqlite.specs.Order.{Row, column}
-use Rattle.sqlite.specs.Query.{Query, key_cmp}
-use Rattle.sqlite.specs.Collation.TheVariants.{Binary}
-use Rattle.sqlite.specs.Term.{col}
-use Rattle.sqlite_sql.specs.Ops.{binary, is_true}
-use Rattle.sqlite_sql.specs.declared.ops.BinaryOp.TheVariants.{Compare}
-use Rattle.sqlite_sql.specs.declared.ops.CompareOp.TheVariants.{Gt}
+use Rattle.sqlite_sql.specs.Ops.{binary}
 use Rattle.sqlite_tied.specs.Compute.{everything}
-use Rattle.sqlite_value.proofs.OrderLemmas.{value_cmp-Int, then-Equal}
-use Rattle.rd_tables.specs.Asked.{IsPicked, asks_of, greater, rising}
-use Rattle.rd_tables.specs.Spellings.{Spells, entry_of, map_of}
-use Rattle.rd_tables.proofs.ListLemmas.{and_true, empty_by_length}
-use Rattle.rd_tables.proofs.QueryMaps.{in_order}
-use Rattle.rd_tables.proofs.QueryTexts.{AsksBy}
-use Rattle.rd_tables.proofs.Values.{truth_kept}
-use Rattle.rd_store.specs.Latest.{checkup_shown, is_after}
-use Rattle.rd_store.specs.Spelled.{check_spelling}
+use Rattle.rd_store.specs.Latest.{is_after}
 use Rattle.rd_store.proofs.Orders.{checkup_order}
 
 -- the checks of later days than a parameter, by accession and day

@@ -1,31 +1,10 @@
 -- The text that asks for the latest check of an accession, and what it shows.
-use Rattle.std.proofs.Common.{◌≡◌, ℕ, ℤ, pos, List, [], ◌∷◌, ◌∙◌, ◌&&◌, ◌==◌, true, false, Ordering, Less, Equal, Greater, ap, arith, codes, int_cmp, is_eq, is_lt, map, nat_cmp, option_to_list, refl, sym}
-use Rattle.std.specs.FinMap.{entries, retain_keys}
-use Rattle.std.specs.Ordering.{eq_by_cmp, ordering_then, ordering_reverse}
-use Rattle.std.proofs.lemmas.Bool.Decides.{nat_tests}
-use Rattle.std.proofs.lemmas.Cmp.{int_cmp_total}
-use Rattle.sqlite.specs.declared.types.Value.TheVariants.{Int}
+use Rattle.rd_store.proofs.Common.{◌≡◌, ℕ, ℤ, pos, List, [], ◌∷◌, ◌∙◌, ◌&&◌, ◌==◌, true, false, Ordering, Less, Equal, Greater, ap, arith, codes, int_cmp, is_eq, is_lt, map, nat_cmp, option_to_list, refl, sym, entries, retain_keys, eq_by_cmp, ordering_then, ordering_reverse, nat_tests, int_cmp_total, Int, Row, column, Query, Binary, col, is_true, Compare, Eq, value_cmp-Int, then-Equal, IsPicked, IsStart, asks_of, equals, rising, desk_schema, Spells, entry_of, map_of, and_true, equal_numbers, in_order, AsksStart, check_shown, is_of, check_spelling}
 use Rattle.sqlite.specs.Listing.{understood}
-use Rattle.sqlite.specs.Order.{Row, column}
-use Rattle.sqlite.specs.Query.{Query}
-use Rattle.sqlite.specs.Collation.TheVariants.{Binary}
-use Rattle.sqlite.specs.Term.{col}
-use Rattle.sqlite_sql.specs.Ops.{binary, is_true}
-use Rattle.sqlite_sql.specs.declared.ops.BinaryOp.TheVariants.{Compare}
-use Rattle.sqlite_sql.specs.declared.ops.CompareOp.TheVariants.{Eq}
+use Rattle.sqlite_sql.specs.Ops.{binary}
 use Rattle.sqlite_tied.specs.Compute.{everything}
-use Rattle.sqlite_value.proofs.OrderLemmas.{value_cmp-Int, then-Equal}
-use Rattle.rd_tables.specs.Asked.{IsPicked, IsStart, asks_of, equals, rising}
-use Rattle.rd_tables.specs.Schemas.{desk_schema}
-use Rattle.rd_tables.specs.Spellings.{Spells, entry_of, map_of}
-use Rattle.rd_tables.proofs.ListLemmas.{and_true}
-use Rattle.rd_tables.proofs.Values.{equal_numbers}
-use Rattle.rd_tables.proofs.QueryMaps.{in_order}
-use Rattle.rd_tables.proofs.QueryTexts.{AsksStart}
 use Rattle.rd_tables.proofs.ReversedOrder.{last_picked, turned}
 use Rattle.rd_holdings.specs.Findings.{last_of}
-use Rattle.rd_store.specs.Latest.{check_shown, is_of}
-use Rattle.rd_store.specs.Spelled.{check_spelling}
 use Rattle.rd_store.proofs.Orders.{checkup_order}
 
 -- the latest check of an accession

@@ -1,18 +1,6 @@
 -- The laws of a store that are used, and what they say of a connection.
-use Rattle.std.proofs.Common.{◌≡◌, [], ◌∷◌, inl, inr, ◌∙◌, Bool, false, sym, ap, subst, IsTrue, refl, arith}
-use Rattle.sqlite.specs.Tree.{Trees}
-use Rattle.sqlite.specs.Store.{Ghosts}
-use Rattle.sqlite.specs.Effect.{Database}
-use Rattle.sqlite.specs.State.{State, Survives}
-use Rattle.sqlite.specs.Held.{Held, state}
-use Rattle.sqlite.proofs.StateLemmas.{clean_if_open}
-use Rattle.rd_tables.specs.Schemas.{marks_table}
-use Rattle.rd_holdings.specs.State.{Desk}
-use Rattle.std.specs.FinMap.{get}
-use Rattle.rd_store.specs.Spelled.{desk_of, index_of}
+use Rattle.rd_store.proofs.Common.{◌≡◌, [], ◌∷◌, inl, inr, ◌∙◌, Bool, false, sym, ap, subst, IsTrue, refl, arith, Trees, Ghosts, Database, State, Survives, Held, state, clean_if_open, marks_table, Desk, get, desk_of, index_of, HoldsMarksIf, Holds, IsAtRest, IsLeft, HoldsDesk, HoldsTables, HoldsCommonTables, Lasts, LeavesOld, LeavesOnly, Stays, IsOpen, IsClean, desk}
 use Rattle.rd_store.proofs.IndexQueries.{files_in, files_of}
-use Rattle.rd_store.specs.Opened.{HoldsMarksIf}
-use Rattle.rd_store.specs.Held.{Holds, IsAtRest, IsLeft, HoldsDesk, HoldsTables, HoldsCommonTables, Lasts, LeavesOld, LeavesOnly, Stays, IsOpen, IsClean, desk}
 
 pub record Laws {S : Type 0} (g : Ghosts S) : Type 0 where
   -- while the store is open, a crash leaves the last commit

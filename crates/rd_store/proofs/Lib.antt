@@ -1,3 +1,4 @@
+pub mod Common
 pub mod Laws
 pub mod QueryEffects
 pub mod Orders

@@ -1,15 +1,7 @@
 -- What the texts that ask for all rows of a table show.
-use Rattle.std.proofs.Common.{◌≡◌, ◌⊎◌, inl, inr, ℕ, zero, suc, ◌+◌, ◌<◌, List, [], ◌∷◌, length, slice_index_or, refl, sym, ap, ◌∙◌, IsTrue, arith}
-use Rattle.sqlite.specs.Order.{Row}
-use Rattle.sqlite.specs.State.{State, Shown}
-use Rattle.rd_tables.specs.Asked.{IsPicked}
-use Rattle.rd_tables.specs.Schemas.{desk_schema}
-use Rattle.rd_tables.proofs.QueryTexts.{all_deeds_asks, all_rules_asks, all_keys_asks, all_checks_asks, all_files_asks, all_marks_asks}
-use Rattle.rd_tables.proofs.QueryEffects.{shown_picks}
+use Rattle.rd_store.proofs.Common.{◌≡◌, ◌⊎◌, inl, inr, ℕ, zero, suc, ◌+◌, ◌<◌, List, [], ◌∷◌, length, slice_index_or, refl, sym, ap, ◌∙◌, IsTrue, arith, Row, State, Shown, IsPicked, desk_schema, all_deeds_asks, all_rules_asks, all_keys_asks, all_checks_asks, all_files_asks, all_marks_asks, shown_picks, IsReadable, HoldsListed, listing_text, listing_query, listing_tree}
 use Rattle.rd_store.specs.declared.opening.TableListing.{TableListing}
 use Rattle.rd_store.specs.declared.opening.TableListing.TheVariants.{Deeds, Rules, Keys, Checks, Files, Marks}
-use Rattle.rd_store.specs.Held.{IsReadable}
-use Rattle.rd_store.specs.Opened.{HoldsListed, listing_text, listing_query, listing_tree}
 
 pub listing_reads : (table : TableListing) (s : State) → HoldsListed table s → IsTrue s.is_open → IsReadable (listing_text table) s
 listing_reads Deeds s held is_open = let at = held is_open in record { over = _; rests = at.rests; plain = (all_deeds_asks at.more).plain }

@@ -1,7 +1,5 @@
 -- What a finite map has after a put, for keys in an order that lemmas of tables take.
-use Rattle.std.proofs.Common.{◌≡◌, ◌≢◌, ◌⊎◌, Some, Ordering}
-use Rattle.std.specs.FinMap.{FinMap, get, insert}
-use Rattle.rd_tables.proofs.Entries.{IsKeyOrder}
+use Rattle.rd_store.proofs.Common.{◌≡◌, ◌≢◌, ◌⊎◌, Some, Ordering, FinMap, get, insert, IsKeyOrder}
 use Rattle.rd_holdings.proofs.Lawful.{found_after as found_of, others_stay as others_of}
 
 module _ {K X : Type 0} (cmp : K → K → Ordering) (order : IsKeyOrder cmp) (m : FinMap cmp X) where

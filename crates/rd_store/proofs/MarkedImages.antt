@@ -1,17 +1,6 @@
 -- Maps whose values are made into others, and the images with their error bytes.
-use Rattle.std.proofs.Common.{◌≡◌, inl, inr, ℕ, List, [], ◌∷◌, ◌&&◌, map, Bool, true, false, cond, T, Option, Some, None, option_map, is_some, refl, sym, ap, ap₂, subst, ◌∙◌, Ordering, nat_cmp, is_lt}
-use Rattle.std.specs.Option.{unwrap_or}
-use Rattle.std.specs.Ordering.{eq_by_cmp}
-use Rattle.std.specs.FinMap.{FinMap, get, entries, insert, from_entries, get-entries, get-insert, get-from_entries, get-from_sorted, entries-from_sorted, entries_sorted, same_map}
-use Rattle.std.specs.FinMap.Entries.{find, is_sorted, below_all}
-use Rattle.std.proofs.lemmas.Bool.{cases_Bool}
-use Rattle.rd_geometry.specs.declared.kind.Kind.{Kind}
-use Rattle.rd_geometry.specs.declared.kind.Kind.TheVariants.{Cpm8, D64, D64e}
-use Rattle.rd_tables.proofs.Entries.{IsKeyOrder, tie}
-use Rattle.rd_holdings.specs.declared.rows.ImageRow.{ImageRow}
-use Rattle.rd_store.specs.Codes.{kind_code, kind_in}
-use Rattle.rd_store.specs.Shown.{as_row}
-use Rattle.rd_store.specs.Marks.{AreMarksIn, joined, kind_with, map_values, with_marks}
+use Rattle.rd_store.proofs.Common.{◌≡◌, inl, inr, ℕ, List, [], ◌∷◌, ◌&&◌, map, Bool, true, false, cond, T, Option, Some, None, option_map, is_some, refl, sym, ap, ap₂, subst, ◌∙◌, Ordering, nat_cmp, is_lt, unwrap_or, eq_by_cmp, FinMap, get, entries, insert, from_entries, get-entries, get-insert, get-from_entries, get-from_sorted, entries-from_sorted, entries_sorted, same_map, find, is_sorted, below_all, cases_Bool, Kind, Cpm8, D64, D64e, IsKeyOrder, tie, ImageRow, kind_code, kind_in, as_row, AreMarksIn, joined, kind_with, with_marks}
+use Rattle.rd_store.specs.Marks.{map_values}
 use Rattle.rd_store.proofs.Orders.{number_order}
 use Rattle.rd_store.proofs.Maps.{others_stay}
 

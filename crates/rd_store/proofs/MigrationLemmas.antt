@@ -1,34 +1,7 @@
 -- What bringing the tables of version 1 to version 2 comes to.
-use Rattle.std.proofs.Common.{◌≡◌, inl, inr, ℕ, pos, List, [], ◌∷◌, map, length, get_or, true, false, None, Ok, Err, Result, IfOk, IfErr, IsTrue, refl, sym, ap, subst, subst₂, ◌∙◌, arith}
-use Rattle.sqlite.specs.declared.types.Value.TheVariants.{Int}
-use Rattle.sqlite.specs.Order.{Row, column}
-use Rattle.sqlite.specs.Tree.{Trees}
-use Rattle.sqlite.specs.Store.{Ghosts}
-use Rattle.sqlite.specs.Schema.{Schema}
-use Rattle.sqlite.specs.Command.TheVariants.{CreateTable}
-use Rattle.sqlite.specs.Effect.{Database}
-use Rattle.sqlite.specs.Does.{Does}
-use Rattle.sqlite.specs.Held.{Held, state}
+use Rattle.rd_store.proofs.Common.{◌≡◌, inl, inr, ℕ, pos, List, [], ◌∷◌, map, length, get_or, true, false, None, Ok, Err, Result, IfOk, IfErr, IsTrue, refl, sym, ap, subst, subst₂, ◌∙◌, arith, Int, Row, column, Trees, Ghosts, Schema, CreateTable, Database, Does, Held, state, statement_of, desk_schema, first_schema, has_desk_columns, has_foreign_desk, Spells, SpellLawful, HaveRowids, map_of, marks_text, set_version_text, set_version, creates, creates_writes, Makes, plain_mode, sets_version, set_version_writes, OpenFault, Desk, IsIndexOf, IsLawful, AreMarksIn, joined, SpellDesk, HasVersion, HaveOwnRowids, desk_of, unmarked, deed_spelling, image_spelling, marks_spelling, rule_spelling, key_spelling, check_spelling, file_spelling, RestsIn, IsUntouched, Turns, Holds, HoldsDesk, IsClean, IsDeskAt, IsLeft, IsOf, IsOpen, Stays, IsHeld, IsSettledAt, IsFirst, IsFirstConsistent, IsHalfway, IsHeldFirst, IsMigrated, IsNotMigrated, IsSecondConsistent, LeavesOldOrMigrated, first_desk}
 use Rattle.sqlite.specs.Listing.{understood}
-use Rattle.sqlite.proofs.Callers.{statement_of}
-use Rattle.rd_tables.specs.Schemas.{desk_schema, first_schema, has_desk_columns, has_foreign_desk}
-use Rattle.rd_tables.specs.Spellings.{Spells, SpellLawful, HaveRowids, map_of}
-use Rattle.rd_tables.specs.Statements.{marks_text, set_version_text, set_version}
-use Rattle.rd_tables.proofs.CreateTexts.{creates, creates_writes}
-use Rattle.rd_tables.proofs.StatementRuns.{Makes, plain_mode}
-use Rattle.rd_tables.proofs.Statements.{sets_version}
-use Rattle.rd_tables.proofs.StatementTexts.{set_version_writes}
-use Rattle.rd_store.specs.declared.faults.OpenFault.{OpenFault}
 use Rattle.rd_store.specs.declared.faults.OpenFault.TheVariants.{Sql}
-use Rattle.rd_holdings.specs.State.{Desk}
-use Rattle.rd_store.specs.Index.{IsIndexOf}
-use Rattle.rd_holdings.specs.Lawful.{IsLawful}
-use Rattle.rd_store.specs.Marks.{AreMarksIn, joined}
-use Rattle.rd_store.specs.Spelled.{SpellDesk, HasVersion, HaveOwnRowids, desk_of, unmarked, deed_spelling, image_spelling, marks_spelling, rule_spelling, key_spelling, check_spelling, file_spelling}
-use Rattle.rd_store.specs.Created.{RestsIn, IsUntouched, Turns}
-use Rattle.rd_store.specs.Held.{Holds, HoldsDesk, IsClean, IsDeskAt, IsLeft, IsOf, IsOpen, Stays}
-use Rattle.rd_store.specs.Opened.{IsHeld, IsSettledAt}
-use Rattle.rd_store.specs.Migrated.{IsFirst, IsFirstConsistent, IsHalfway, IsHeldFirst, IsMigrated, IsNotMigrated, IsSecondConsistent, LeavesOldOrMigrated, first_desk}
 use Rattle.rd_store.proofs.CreationLemmas.{one_made}
 use Rattle.rd_store.proofs.Laws.{Laws, lasts_still, lasts_then, leaves_only, left_is, same_commit}
 use Rattle.rd_store.proofs.StatementCalls.{rests_on}

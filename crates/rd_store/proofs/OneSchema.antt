@@ -1,21 +1,11 @@
 -- The list of objects of a desk's database tells one schema.
-use Rattle.std.proofs.Common.{◌≡◌, ◌∙◌, inl, inr, ℕ, zero, suc, ◌+◌, ◌≤◌, List, [], ◌∷◌, length, filter, slice_get, Option, Some, Result, Ok, true, refl, sym, ap, ap₂, subst, arith, pos}
-use Rattle.std.specs.List.{AllByRecursion, AllZip}
-use Rattle.sqlite.specs.declared.types.Value.{Value}
-use Rattle.sqlite.specs.declared.types.Value.TheVariants.{Null, Int, Real, Text, Blob}
-use Rattle.sqlite.specs.Order.{Row, column}
-use Rattle.sqlite.specs.Table.{Table}
-use Rattle.sqlite.specs.Schema.{Schema}
-use Rattle.sqlite.specs.Tree.{Trees, rowid}
-use Rattle.sqlite.specs.Effect.{IsDatabase}
-use Rattle.sqlite_rules.specs.Lists.{Has}
+use Rattle.rd_store.proofs.Common.{◌≡◌, ◌∙◌, inl, inr, ℕ, zero, suc, ◌+◌, ◌≤◌, List, [], ◌∷◌, length, filter, slice_get, Option, Some, Result, Ok, true, refl, sym, ap, ap₂, subst, arith, pos, AllByRecursion, AllZip, Value, Null, Int, Real, Text, Blob, Row, column, Table, Schema, Trees, rowid, IsDatabase, Has, desk_with}
 use Rattle.sqlite_schema.specs.declared.schema.Index.{Index}
 use Rattle.sqlite_schema.specs.declared.schema.View.{View}
 use Rattle.sqlite_schema.specs.Names.{same_name}
 use Rattle.sqlite_catalog.specs.Listing.{AreListed, IsDefined, IsIndexRow, IsTableRow, IsViewRow, automatic, is_index_row, is_table_row, is_view_row}
 use Rattle.sqlite_catalog.proofs.StepLemmas.{named_once, same_itself}
 use Rattle.sqlite_resolve.specs.Compile.{table_defined_by}
-use Rattle.rd_tables.specs.Schemas.{desk_with}
 
 same_tree : (row : Row) (a b : ℕ) → rowid row ≡ Int (pos (a + 1)) → rowid row ≡ Int (pos (b + 1)) → a ≡ b
 same_tree row a b x y = let e : a + 1 ≡ b + 1 = cc in omega (arith, e)

@@ -1,27 +1,9 @@
 -- The orders of the keys, and that columns spell the entry that they come from.
-use Rattle.std.proofs.Common.{◌≡◌, ◌+◌, ◌*◌, map, ◌/◌, ◌%◌, ap₂, ℕ, zero, suc, ℤ, pos, List, [], ◌∷◌, Bool, Option, Some, None, true, false, option_map, refl, arith, nat_cmp}
-use Rattle.std.specs.FinMap.{nat_cmp-IsAntisymmetric}
-use Rattle.std.proofs.lemmas.Cmp.{nat_cmp_total, then_total, on_total}
-use Rattle.sqlite.specs.declared.types.Value.TheVariants.{Int}
-use Rattle.sqlite.specs.Values.{or_null}
+use Rattle.rd_store.proofs.Common.{◌≡◌, ◌+◌, ◌*◌, map, ◌/◌, ◌%◌, ap₂, ℕ, zero, suc, ℤ, pos, List, [], ◌∷◌, Bool, Option, Some, None, true, false, option_map, refl, arith, nat_cmp, nat_cmp-IsAntisymmetric, nat_cmp_total, then_total, on_total, Int, or_null, Audience, Public, Room, Staff, Band, Takedown, Deed, Effect, Deny, Read, Select, Slot, Prefix, User, IsKeyOrder, Outcome, Sound, Changed, kind_code, kind_in, band_in, effect_code, effect_in, audiences_code, audiences_in, audience_code, audience_in, outcome_code, outcome_in, how, number, word, select_in, day_in, number_in, units_code, units_in, class_code, class_in, FileAt, file_cmp, Place, Terms, place_cmp, digest_cmp, checkup_cmp, band_code, Found, key_spelling, rule_spelling, file_spelling, file_shown, file_in}
 use Rattle.sqlite_value.proofs.KeyLemmas.{then_tied}
-use Rattle.rd_policy.specs.declared.audience.Audience.{Audience}
-use Rattle.rd_policy.specs.declared.audience.Audience.TheVariants.{Public, Room, Staff}
 use Rattle.rd_policy.specs.declared.audience.Audiences.{Audiences}
-use Rattle.rd_policy.specs.declared.rule.Band.{Band}
-use Rattle.rd_policy.specs.declared.rule.Band.TheVariants.{Takedown, Deed}
-use Rattle.rd_policy.specs.declared.rule.Effect.{Effect}
-use Rattle.rd_policy.specs.declared.rule.Effect.TheVariants.{Deny, List as Listed, Read}
-use Rattle.rd_policy.specs.declared.select.Select.{Select}
-use Rattle.rd_policy.specs.declared.select.Select.TheVariants.{All, Slot, Prefix, User, Kind as OfKind}
-use Rattle.rd_tables.proofs.Entries.{IsKeyOrder}
-use Rattle.rd_holdings.specs.declared.rows.Outcome.{Outcome}
-use Rattle.rd_holdings.specs.declared.rows.Outcome.TheVariants.{Sound, Changed}
-use Rattle.rd_store.specs.Codes.{kind_code, kind_in, band_in, effect_code, effect_in, audiences_code, audiences_in, audience_code, audience_in, outcome_code, outcome_in, how, number, word, select_in, day_in, number_in, units_code, units_in, class_code, class_in}
-use Rattle.rd_store.specs.Index.{FileAt, file_cmp}
-use Rattle.rd_holdings.specs.State.{Place, Terms, place_cmp, digest_cmp, checkup_cmp, band_code}
-use Rattle.rd_volume.specs.declared.found.Found.{Found}
-use Rattle.rd_store.specs.Spelled.{key_spelling, rule_spelling, file_spelling, file_shown, file_in}
+use Rattle.rd_policy.specs.declared.rule.Effect.TheVariants.{List as Listed}
+use Rattle.rd_policy.specs.declared.select.Select.TheVariants.{All, Kind as OfKind}
 use Rattle.rd_holdings.proofs.KeyOrders.{number_order as numbers, digest_order as digests, place_order as places, checkup_order as checkups}
 
 -- the orders of the keys, as lemmas of tables take them

@@ -1,14 +1,6 @@
 -- What a query leaves of a connection.
-use Rattle.std.proofs.Common.{◌≡◌, inl, inr, ℕ, List, [], IsTrue, sym, ◌∙◌}
-use Rattle.sqlite.specs.Order.{Row}
-use Rattle.sqlite.specs.Store.{Ghosts}
-use Rattle.sqlite.specs.Schema.{Schema}
-use Rattle.sqlite.specs.declared.error.Error.{Error}
-use Rattle.sqlite.specs.State.{State, IsUnchanged, IsRolledBack, IsNotRun, FailsToQuery, Shown, Survives, CommitsShowing}
-use Rattle.sqlite.specs.Held.{Held, state}
-use Rattle.sqlite.proofs.StateLemmas.{survives_weaker}
-use Rattle.rd_tables.proofs.QueryEffects.{query_fails, shown_was_open, shown_unchanged, read_survives}
-use Rattle.rd_store.specs.Held.{RestsOver, IsReadable, Stays, IsOpen, IsClean}
+use Rattle.rd_store.proofs.Common.{◌≡◌, inl, inr, ℕ, List, [], IsTrue, sym, ◌∙◌, Row, Ghosts, Schema, Error, State, IsUnchanged, IsRolledBack, IsNotRun, Shown, Survives, CommitsShowing, Held, state, survives_weaker, query_fails, shown_was_open, shown_unchanged, read_survives, RestsOver, IsReadable, Stays, IsOpen, IsClean}
+use Rattle.sqlite.specs.State.{FailsToQuery}
 use Rattle.rd_store.proofs.Laws.{Laws, clean_at, lasts_of}
 
 -- the connection was open, and shows what it did

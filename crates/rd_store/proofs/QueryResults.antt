@@ -1,42 +1,6 @@
 -- What the queries show of a desk.
-use Rattle.std.proofs.Common.{◌≡◌, inl, inr, ℕ, zero, suc, ap₂, ◌<◌, slice_index_or, pos, List, [], ◌∷◌, map, Bool, true, false, Option, Some, None, option_map, refl, sym, ap, ◌∙◌, arith, nat_cmp, int_cmp, is_lt, is_eq, Less, Equal, Greater, Ordering, ◌&&◌, ◌==◌, All, subst, length}
-use Rattle.std.specs.Prelude.{MatchBool}
-use Rattle.std.specs.Option.{option_to_list}
-use Rattle.std.specs.List.{Any}
-use Rattle.std.proofs.lemmas.Cmp.{nat_list_cmp_total}
-use Rattle.std.proofs.lemmas.List.Elements.{recursion_from_All}
-use Rattle.sqlite_rules.specs.Lists.{Has}
-use Rattle.sqlite_rules.proofs.ListLemmas.{all_has}
-use Rattle.sqlite_value.proofs.OrderLemmas.{value_cmp-Blob}
-use Rattle.rd_policy.specs.declared.audience.Audience.{Audience}
-use Rattle.rd_policy.specs.declared.audience.Audience.TheVariants.{Staff}
-use Rattle.std.specs.Ordering.{eq_by_cmp, ordering_then, ordering_reverse}
-use Rattle.std.specs.FinMap.{get, entries, retain_keys}
-use Rattle.std.proofs.lemmas.Bool.Decides.{nat_tests}
-use Rattle.sqlite.specs.declared.types.Value.TheVariants.{Int, Blob}
-use Rattle.sqlite.specs.Order.{Row, column}
-use Rattle.sqlite.specs.Query.{key_cmp}
-use Rattle.sqlite.specs.Collation.TheVariants.{Binary}
-use Rattle.sqlite_sql.specs.Ops.{binary, is_true, unary}
-use Rattle.sqlite_sql.specs.declared.ops.UnaryOp.TheVariants.{Length, TypeOf}
-use Rattle.sqlite_sql.specs.declared.ops.BinaryOp.TheVariants.{Compare}
-use Rattle.sqlite_sql.specs.declared.ops.CompareOp.TheVariants.{Eq}
-use Rattle.sqlite_value.proofs.OrderLemmas.{value_cmp-Int, then-Equal}
-use Rattle.rd_tables.specs.Asked.{IsPicked, rising}
-use Rattle.rd_tables.specs.Queries.{all_deeds_query, all_images_query, deed_query, image_query, marks_query, audience_query, rules_query, placed_rules_query, keys_query}
-use Rattle.rd_tables.specs.Spellings.{Spells, entry_of, map_of, natural, seen}
-use Rattle.rd_tables.proofs.ListLemmas.{and_true, both, in_map, from_map}
-use Rattle.rd_tables.proofs.Values.{equal_numbers, equal_blobs}
-use Rattle.rd_tables.proofs.Entries.{retain_all, entry_got, got_entry}
-use Rattle.rd_tables.proofs.QueryMaps.{looked_up, in_order}
-use Rattle.rd_tables.proofs.TestedRows.{got_row}
-use Rattle.rd_policy.specs.declared.rule.Band.{Band}
-use Rattle.rd_store.specs.Walked.{image_columns}
-use Rattle.rd_holdings.specs.State.{Desk, Place, Terms, digest_cmp, place_cmp, rule_of, HasOtherStaff, band_code, is_at}
-use Rattle.rd_holdings.specs.declared.rows.DeedRow.{DeedRow}
-use Rattle.rd_holdings.specs.declared.rows.ImageRow.{ImageRow}
-use Rattle.rd_store.specs.Shown.{as_row, deed_shown, image_shown, marks_shown, audience_shown, ShowsOther, IsOtherKey}
-use Rattle.rd_store.specs.Spelled.{deed_spelling, image_spelling, key_spelling, marks_spelling, rule_spelling}
+use Rattle.rd_store.proofs.Common.{◌≡◌, inl, inr, ℕ, zero, suc, ap₂, ◌<◌, slice_index_or, pos, List, [], ◌∷◌, map, Bool, true, false, Option, Some, None, option_map, refl, sym, ap, ◌∙◌, arith, nat_cmp, int_cmp, is_lt, is_eq, Less, Equal, Greater, Ordering, ◌&&◌, ◌==◌, All, subst, length, MatchBool, option_to_list, Any, nat_list_cmp_total, recursion_from_All, Has, all_has, value_cmp-Blob, Audience, Staff, eq_by_cmp, ordering_then, ordering_reverse, get, entries, retain_keys, nat_tests, Int, Blob, Row, column, key_cmp, Binary, is_true, Length, TypeOf, Compare, Eq, value_cmp-Int, then-Equal, IsPicked, rising, all_deeds_query, all_images_query, deed_query, image_query, marks_query, audience_query, rules_query, placed_rules_query, keys_query, Spells, entry_of, map_of, natural, seen, and_true, both, in_map, from_map, equal_numbers, equal_blobs, retain_all, entry_got, got_entry, looked_up, in_order, got_row, Band, image_columns, Desk, Place, Terms, digest_cmp, place_cmp, rule_of, HasOtherStaff, band_code, is_at, DeedRow, ImageRow, as_row, deed_shown, image_shown, marks_shown, audience_shown, ShowsOther, IsOtherKey, deed_spelling, image_spelling, key_spelling, marks_spelling, rule_spelling}
+use Rattle.sqlite_sql.specs.Ops.{binary, unary}
 use Rattle.rd_store.proofs.Orders.{number_order, digest_order, place_order, kind_back, rule_back, key_back}
 
 -- the first column equals the parameter

@@ -1,9 +1,5 @@
 -- Calls that read.
-use Rattle.std.proofs.Common.{Result}
-use Rattle.std.proofs.lemmas.Result.{IfOk-weaker}
-use Rattle.sqlite.specs.Store.{Ghosts}
-use Rattle.sqlite.specs.Held.{Held, state}
-use Rattle.rd_store.specs.Held.{Asks, HoldsDesk, IsOpen, Keeps, Reads}
+use Rattle.rd_store.proofs.Common.{Result, IfOk-weaker, Ghosts, Held, state, Asks, HoldsDesk, IsOpen, Keeps, Reads}
 use Rattle.rd_store.proofs.Laws.{Laws, crash_same, desk_same, leaves_only, stays_desk}
 
 -- a query leaves the desk as it was

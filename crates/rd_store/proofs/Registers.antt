@@ -1,37 +1,6 @@
 -- What a register of images tells, and what becomes of it.
-use Rattle.std.proofs.Common.{◌≡◌, inl, inr, ℕ, zero, suc, ◌+◌, ◌<◌, ◌≤◌, pos, List, [], ◌∷◌, ◌&&◌, map, length, slice_index_or, Bool, true, false, T, Option, Some, None, is_some, option_map, Result, Ok, Err, IfOk, refl, sym, ap, ap₂, subst, ◌∙◌, arith, add-one, Ordering, nat_cmp, is_lt, Less, Equal, Greater}
+use Rattle.rd_store.proofs.Common.{◌≡◌, inl, inr, ℕ, zero, suc, ◌+◌, ◌<◌, ◌≤◌, pos, List, [], ◌∷◌, ◌&&◌, map, length, slice_index_or, Bool, true, false, T, Option, Some, None, is_some, option_map, Result, Ok, Err, IfOk, refl, sym, ap, ap₂, subst, ◌∙◌, arith, add-one, Ordering, nat_cmp, is_lt, Less, Equal, Greater, IsBinarySearchResult, IsNonDecreasingBy, IsSearchInRange, ordering_index, FinMap, entries, entries-insert, entries_sorted, from_entries, get, get-entries, get-from_entries, insert, keys, len-empty, len-entries, below_all, find, is_sorted, put, nat_tests, length-map, IsNonDecreasingBy-from_all_adjacent, Int, Ghosts, Database, Held, state, Row, Has, map_of, entry_got, empty_by_length, map_map, same_truth, OpenFault, Heading, Register, ImageRow, is_one_of, Turns, Changes, IsOf, IsOpen, Stays, desk, joined, kind_with, with_marks, first_desk, AreKeys, IsPlaceIn, IsRegisterOf, IsSameHeading, entry_for, entry_in, numbered_accession, listed, number_of, register_of, as_row, heading_of, desk_of, image_spelling, marks_spelling, Desk, HasOtherImage, put_or_kept, with_image, registered, image_columns}
 use Rattle.std.specs.List.{insert as insert_at}
-use Rattle.std.specs.List.Sorted.{IsBinarySearchResult, IsNonDecreasingBy, IsSearchInRange}
-use Rattle.std.specs.Ordering.{ordering_index}
-use Rattle.std.specs.FinMap.{FinMap, entries, entries-insert, entries_sorted, from_entries, get, get-entries, get-from_entries, insert, keys, len-empty, len-entries}
-use Rattle.std.specs.FinMap.Entries.{below_all, find, is_sorted, put}
-use Rattle.std.proofs.lemmas.Bool.Decides.{nat_tests}
-use Rattle.std.proofs.lemmas.List.{length-map}
-use Rattle.std.proofs.lemmas.List.Sorted.{IsNonDecreasingBy-from_all_adjacent}
-use Rattle.sqlite.specs.declared.types.Value.TheVariants.{Int}
-use Rattle.sqlite.specs.Store.{Ghosts}
-use Rattle.sqlite.specs.Effect.{Database}
-use Rattle.sqlite.specs.Held.{Held, state}
-use Rattle.sqlite.specs.Order.{Row}
-use Rattle.sqlite_rules.specs.Lists.{Has}
-use Rattle.rd_tables.specs.Spellings.{map_of}
-use Rattle.rd_tables.proofs.Entries.{entry_got}
-use Rattle.rd_tables.proofs.ListLemmas.{empty_by_length, map_map, same_truth}
-use Rattle.rd_store.specs.declared.faults.OpenFault.{OpenFault}
-use Rattle.rd_store.specs.declared.images.Heading.{Heading}
-use Rattle.rd_store.specs.declared.register.Register.{Register}
-use Rattle.rd_holdings.specs.declared.rows.ImageRow.{ImageRow}
-use Rattle.rd_store.specs.RowColumns.{is_one_of}
-use Rattle.rd_store.specs.Created.{Turns}
-use Rattle.rd_store.specs.Held.{Changes, IsOf, IsOpen, Stays, desk}
-use Rattle.rd_store.specs.Marks.{joined, kind_with, with_marks}
-use Rattle.rd_store.specs.Migrated.{first_desk}
-use Rattle.rd_store.specs.Opened.{AreKeys}
-use Rattle.rd_store.specs.Register.{IsPlaceIn, IsRegisterOf, IsSameHeading, entry_for, entry_in, numbered_accession, listed, number_of, register_of}
-use Rattle.rd_store.specs.Shown.{as_row, heading_of}
-use Rattle.rd_store.specs.Spelled.{desk_of, image_spelling, marks_spelling}
-use Rattle.rd_holdings.specs.State.{Desk, HasOtherImage, put_or_kept, with_image, registered}
-use Rattle.rd_store.specs.Walked.{image_columns}
 use Rattle.rd_store.proofs.ColumnValues.{one_of_shown, one_of_spelled}
 use Rattle.rd_store.proofs.QueryResults.{row_back}
 use Rattle.rd_store.proofs.MarkedImages.{deed_marked, digest_marked, entries_joined, kind_marked}

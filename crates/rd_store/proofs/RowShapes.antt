@@ -1,34 +1,10 @@
 -- A row that shows what it may spells a lawful entry, and a lawful entry shows what it may.
-use Rattle.std.proofs.Common.{◌≡◌, ◌≢◌, ◌⊎◌, inl, inr, ℕ, zero, suc, ◌≤◌, pos, List, [], ◌∷◌, length, Bool, true, false, ◌&&◌, ◌||◌, get_or, refl, sym, ap, subst, ◌∙◌, arith, true≢false}
-use Rattle.sqlite.specs.declared.types.Value.{Value}
-use Rattle.sqlite.specs.declared.types.Value.TheVariants.{Null, Int, Real, Text, Blob}
-use Rattle.sqlite.specs.Order.{Row, column}
-use Rattle.sqlite_value.specs.Order.{bytes}
+use Rattle.rd_store.proofs.Common.{◌≡◌, ◌≢◌, ◌⊎◌, inl, inr, ℕ, zero, suc, ◌≤◌, pos, List, [], ◌∷◌, length, Bool, true, false, ◌&&◌, ◌||◌, get_or, refl, sym, ap, subst, ◌∙◌, arith, true≢false, Value, Null, Int, Real, Text, Blob, Row, column, bytes, Length, TypeOf, size_of, IsPlainText, IsSelect, Audience, Public, Room, Staff, Band, Takedown, Deed, Effect, Deny, Read, Select, Slot, Prefix, User, Outcome, Sound, Changed, entry_of, IsSpelled, natural, both, kind_code, kind_in, band_in, effect_code, effect_in, audiences_code, audiences_in, audience_code, audience_in, outcome_code, outcome_in, how, number, word, select_in, deed_spelling, image_spelling, marks_spelling, rule_spelling, key_spelling, check_spelling, IsDeed, IsKey, AreMarksOf, IsImageOf, IsRuleOf, IsCheckOf, StandsAmong, is_number, is_one_of, is_size_of, blob_name, is_band, HasParts, IsDeedRow, IsImageRow, IsMarksRow, IsSelectAt, IsRuleRow, IsKeyRow, IsCheckRow, image_read, band_code}
 use Rattle.sqlite_sql.specs.Ops.{unary}
-use Rattle.sqlite_sql.specs.declared.ops.UnaryOp.TheVariants.{Length, TypeOf}
-use Rattle.rd_geometry.specs.Kinds.{size_of}
 use Rattle.rd_policy.specs.Audiences.{IsEmpty}
-use Rattle.rd_policy.specs.Rules.{IsPlainText, IsSelect}
-use Rattle.rd_policy.specs.declared.audience.Audience.{Audience}
-use Rattle.rd_policy.specs.declared.audience.Audience.TheVariants.{Public, Room, Staff}
-use Rattle.rd_policy.specs.declared.rule.Band.{Band}
-use Rattle.rd_policy.specs.declared.rule.Band.TheVariants.{Takedown, Deed}
-use Rattle.rd_policy.specs.declared.rule.Effect.{Effect}
-use Rattle.rd_policy.specs.declared.rule.Effect.TheVariants.{Deny, List as Listed, Read}
-use Rattle.rd_policy.specs.declared.select.Select.{Select}
-use Rattle.rd_policy.specs.declared.select.Select.TheVariants.{All as AllFiles, Slot, Prefix, User, Kind as OfKind}
-use Rattle.rd_holdings.specs.declared.rows.Outcome.{Outcome}
-use Rattle.rd_holdings.specs.declared.rows.Outcome.TheVariants.{Sound, Changed}
-use Rattle.rd_tables.specs.Spellings.{entry_of, IsSpelled, natural}
-use Rattle.rd_tables.proofs.ListLemmas.{both}
-use Rattle.rd_store.specs.Codes.{kind_code, kind_in, band_in, effect_code, effect_in, audiences_code, audiences_in, audience_code, audience_in, outcome_code, outcome_in, how, number, word, select_in}
-use Rattle.rd_store.specs.Spelled.{deed_spelling, image_spelling, marks_spelling, rule_spelling, key_spelling, check_spelling}
-use Rattle.rd_holdings.specs.Lawful.{IsDeed, IsKey}
-use Rattle.rd_store.specs.Opened.{AreMarksOf, IsImageOf, IsRuleOf, IsCheckOf, StandsAmong}
-use Rattle.rd_store.specs.RowColumns.{is_number, is_one_of, is_size_of, blob_name, is_band, HasParts, IsDeedRow, IsImageRow, IsMarksRow, IsSelectAt, IsRuleRow, IsKeyRow, IsCheckRow}
-use Rattle.rd_store.specs.Walked.{image_read}
+use Rattle.rd_policy.specs.declared.rule.Effect.TheVariants.{List as Listed}
+use Rattle.rd_policy.specs.declared.select.Select.TheVariants.{All as AllFiles, Kind as OfKind}
 use Rattle.rd_store.proofs.ColumnValues.{number_spelled, number_shown, one_of_spelled, one_of_shown, day_spelled, day_shown, some_day_spelled, some_day_shown, digest_spelled, digest_shown, donor_spelled, word_spelled}
-use Rattle.rd_holdings.specs.State.{band_code}
 
 either : (a b : Bool) → (a || b) ≡ true → (a ≡ true) ⊎ (b ≡ true)
 either true b is = inl refl

@@ -1,39 +1,7 @@
 -- What the tests of the rows that are shown say of the tables.
-use Rattle.std.proofs.Common.{◌≡◌, inl, inr, ℕ, suc, pos, List, [], ◌∷◌, map, All, Bool, true, false, Option, Some, None, IsSome, refl, sym, ap, subst, ◌∙◌, arith}
-use Rattle.std.specs.Prelude.{MatchBool}
-use Rattle.std.specs.List.{Any}
-use Rattle.std.specs.List.Sorted.{IsPermutation}
-use Rattle.std.specs.Ordering.{eq_by_cmp}
-use Rattle.std.specs.FinMap.{get}
-use Rattle.std.proofs.lemmas.Cmp.{eq_by_cmp_equiv}
-use Rattle.std.proofs.lemmas.List.Sorted.{IsPermutation-map, IsPermutation-sym}
-use Rattle.sqlite.specs.declared.types.Value.{Value}
-use Rattle.sqlite.specs.declared.types.Value.TheVariants.{Int, Blob}
-use Rattle.sqlite.specs.Order.{Row, column, value_cmp}
-use Rattle.sqlite.specs.Tree.{rowid}
-use Rattle.sqlite.specs.Effect.{Database, IsDatabase}
-use Rattle.sqlite.specs.Table.{Table}
-use Rattle.sqlite.proofs.Callers.{one_permutation}
-use Rattle.sqlite_sql.specs.Term.{Term, col}
+use Rattle.rd_store.proofs.Common.{◌≡◌, inl, inr, ℕ, suc, pos, List, [], ◌∷◌, map, All, Bool, true, false, Option, Some, None, IsSome, refl, sym, ap, subst, ◌∙◌, arith, MatchBool, Any, IsPermutation, eq_by_cmp, get, eq_by_cmp_equiv, IsPermutation-map, IsPermutation-sym, Value, Int, Blob, Row, column, value_cmp, rowid, Database, IsDatabase, Table, one_permutation, Term, value_cmp_total, Has, Audience, Staff, asks_of, IsPicked, IsListed, all_deeds_query, all_images_query, all_rules_query, all_keys_query, all_checks_query, all_marks_query, version_query, desk_with, Spelling, entry_of, IsSpelled, SpellLawful, map_of, natural, IsKeyOrder, tie, map_map, in_map, from_map, to_permuted, show, all_shown, each_shown, shown_each, rowids_apart, have_rowids, apart_by_rowids, row_got, got_row, rows_lawful, lawful_rows, same_int, same_blob, agree_one, agree_two, agree_three, one_rule, one_key, one_check, is_number, IsDeedRow, IsImageRow, IsRuleRow, IsKeyRow, IsCheckRow, IsMarksRow, IsStaffRow, audience_code, audience_in, IsDeed, IsKey, AreKeys, AreMarksOf, IsImageOf, IsRuleOf, IsCheckOf, HasVersion, deed_spelling, image_spelling, marks_spelling, rule_spelling, key_spelling, check_spelling, Place, Checkup, band_code}
+use Rattle.sqlite_sql.specs.Term.{col}
 use Rattle.sqlite_value.specs.declared.keys.Key.{Key}
-use Rattle.sqlite_value.proofs.OrderLemmas.{value_cmp_total}
-use Rattle.sqlite_rules.specs.Lists.{Has}
-use Rattle.rd_policy.specs.declared.audience.Audience.{Audience}
-use Rattle.rd_policy.specs.declared.audience.Audience.TheVariants.{Staff}
-use Rattle.rd_tables.specs.Asked.{asks_of, IsPicked, IsListed}
-use Rattle.rd_tables.specs.Queries.{all_deeds_query, all_images_query, all_rules_query, all_keys_query, all_checks_query, all_marks_query, version_query}
-use Rattle.rd_tables.specs.Schemas.{desk_with}
-use Rattle.rd_tables.specs.Spellings.{Spelling, entry_of, IsSpelled, SpellLawful, map_of, natural}
-use Rattle.rd_tables.proofs.Entries.{IsKeyOrder, tie}
-use Rattle.rd_tables.proofs.ListLemmas.{map_map, in_map, from_map}
-use Rattle.rd_tables.proofs.TestedRows.{to_permuted, show, all_shown, each_shown, shown_each, rowids_apart, have_rowids, apart_by_rowids, row_got, got_row, rows_lawful, lawful_rows}
-use Rattle.rd_tables.proofs.UniqueKeys.{same_int, same_blob, agree_one, agree_two, agree_three, one_rule, one_key, one_check}
-use Rattle.rd_store.specs.RowColumns.{is_number, IsDeedRow, IsImageRow, IsRuleRow, IsKeyRow, IsCheckRow, IsMarksRow, IsStaffRow}
-use Rattle.rd_store.specs.Codes.{audience_code, audience_in}
-use Rattle.rd_holdings.specs.Lawful.{IsDeed, IsKey}
-use Rattle.rd_store.specs.Opened.{AreKeys, AreMarksOf, IsImageOf, IsRuleOf, IsCheckOf}
-use Rattle.rd_store.specs.Spelled.{HasVersion, deed_spelling, image_spelling, marks_spelling, rule_spelling, key_spelling, check_spelling}
-use Rattle.rd_holdings.specs.State.{Place, Checkup, band_code}
 use Rattle.rd_store.proofs.QueryResults.{any_has}
 use Rattle.rd_store.proofs.ColumnValues.{number_spelled}
 use Rattle.rd_store.proofs.Orders.{number_order, place_order, digest_order, checkup_order}

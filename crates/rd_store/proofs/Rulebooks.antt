@@ -1,21 +1,8 @@
 -- All rules in one list: that they ascend, and where those of one band and number are among them.
-use Rattle.std.proofs.Common.{◌≡◌, ℕ, ◌+◌, ◌<◌, ◌≤◌, List, [], ◌∷◌, map, take, drop, length, Bool, true, not, T, ◌&&◌, ◌==◌, refl, sym, ap, subst, subst₂, ◌∙◌, arith, Ordering, nat_cmp, is_le, is_lt, Less}
-use Rattle.std.specs.FinMap.{entries, entries-from_sorted, from_entries, from_sorted}
-use Rattle.std.specs.FinMap.Entries.{is_sorted}
-use Rattle.std.specs.List.{AllAdjacentBelow}
-use Rattle.std.specs.List.Sorted.{IsPartitionedBy, IsStrictlySortedBy}
-use Rattle.std.specs.Ordering.{ordering_then}
-use Rattle.std.proofs.lemmas.Bool.Decides.{nat_tests}
-use Rattle.std.proofs.lemmas.List.{drop-map, get_or-map, length-map}
+use Rattle.rd_store.proofs.Common.{◌≡◌, ℕ, ◌+◌, ◌<◌, ◌≤◌, List, [], ◌∷◌, map, take, drop, length, Bool, true, not, T, ◌&&◌, ◌==◌, refl, sym, ap, subst, subst₂, ◌∙◌, arith, Ordering, nat_cmp, is_le, is_lt, Less, entries, entries-from_sorted, from_entries, from_sorted, is_sorted, AllAdjacentBelow, IsPartitionedBy, ordering_then, nat_tests, drop-map, get_or-map, length-map, filter-map, Band, Rule, entries_retained, is_rising, filter_same, map_map, between, parted, parted_map, sorted_after, AreAllRules, is_below, is_up_to, side_of, Desk, Place, Terms, all_rules, place_cmp, place_of, rule_of, rules_at, terms_of, band_code, is_at}
+use Rattle.std.specs.List.Sorted.{IsStrictlySortedBy}
 use Rattle.std.proofs.lemmas.Map.Keys.{sorted_from_all_adjacent}
-use Rattle.sqlite_trees.proofs.ListLemmas.{filter-map}
-use Rattle.rd_policy.specs.declared.rule.Band.{Band}
-use Rattle.rd_policy.specs.declared.rule.Rule.{Rule}
-use Rattle.rd_tables.proofs.Entries.{entries_retained, is_rising}
-use Rattle.rd_tables.proofs.ListLemmas.{filter_same, map_map}
-use Rattle.rd_tables.proofs.TestPlaces.{Turns, between, parted, parted_map, sorted_after}
-use Rattle.rd_store.specs.Ruled.{AreAllRules, is_below, is_up_to, side_of}
-use Rattle.rd_holdings.specs.State.{Desk, Place, Terms, all_rules, place_cmp, place_of, rule_of, rules_at, terms_of, band_code, is_at}
+use Rattle.rd_tables.proofs.TestPlaces.{Turns}
 use Rattle.rd_store.proofs.Orders.{place_order}
 
 abbrev Entries : Type 0

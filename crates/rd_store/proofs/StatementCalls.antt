@@ -1,18 +1,5 @@
 -- A call that is one statement outside a transaction, from what the statement makes of a desk.
-use Rattle.std.proofs.Common.{◌≡◌, inl, inr, ℕ, List, false, Result, Ok, Err, is_ok, true≢false, OnOk, OnErr, sym, ap, subst, ◌∙◌, IsTrue}
-use Rattle.sqlite.specs.Order.{Row}
-use Rattle.sqlite.specs.Store.{Ghosts}
-use Rattle.sqlite.specs.Command.{Command}
-use Rattle.sqlite.specs.Effect.{Database}
-use Rattle.sqlite.specs.declared.error.Error.{Error}
-use Rattle.sqlite.specs.State.{State, Executes, Survives, CommitsBy}
-use Rattle.sqlite.specs.Held.{Held, state}
-use Rattle.rd_tables.specs.Schemas.{desk_schema}
-use Rattle.rd_tables.proofs.StatementRuns.{IsWrite, Makes, write_fails, was_open, done_was_open, ran, committed}
-use Rattle.rd_holdings.specs.State.{Desk}
-use Rattle.rd_holdings.specs.Lawful.{IsLawful}
-use Rattle.rd_store.specs.Spelled.{desk_of}
-use Rattle.rd_store.specs.Held.{IsOf, Holds, IsDeskAt, HoldsDesk, Changes, IsOpen, IsClean, desk}
+use Rattle.rd_store.proofs.Common.{◌≡◌, inl, inr, ℕ, List, false, Result, Ok, Err, is_ok, true≢false, OnOk, OnErr, sym, ap, subst, ◌∙◌, IsTrue, Row, Ghosts, Command, Database, Error, State, Executes, Survives, CommitsBy, Held, state, desk_schema, IsWrite, Makes, write_fails, was_open, done_was_open, ran, committed, Desk, IsLawful, desk_of, IsOf, Holds, IsDeskAt, HoldsDesk, Changes, IsOpen, IsClean, desk}
 use Rattle.rd_store.proofs.Laws.{Laws, clean_at, lasts_of, leaves_only, left_is}
 
 -- ---- a connection that rests on a database of a desk

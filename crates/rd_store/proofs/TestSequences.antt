@@ -1,27 +1,7 @@
 -- One test of tables after another.
-use Rattle.std.proofs.Common.{◌≡◌, inl, inr, ℕ, pos, List, [], ◌++◌, length, length-append, true, false, Option, Some, None, IsSome, option_map, refl, sym, ap, subst, ◌∙◌, arith, nat_cmp, true≢false}
+use Rattle.rd_store.proofs.Common.{◌≡◌, inl, inr, ℕ, pos, List, [], ◌++◌, length, length-append, true, false, Option, Some, None, IsSome, option_map, refl, sym, ap, subst, ◌∙◌, arith, nat_cmp, true≢false, unwrap_or, FinMap, get, get-from_entries, cases_Bool, Int, Trees, Row, CBM_BLOCKS, size_of, D64, D64e, Spelling, Spells, SpellLawful, map_of, Band, Takedown, Deed, OpenFault, NotADesk, Inconsistent, ImageRow, Stands, IsFileIn, IsIndexOf, IsImage, AreMarksIn, joined, with_marks, IsConsistent, IsConsistentAs, Denied, HasDisk, AreKeys, AreNumbers, StandsAmong, StandsIn, IsImageOf, LawfulCommon, LawfulDeeds, LawfulFiles, LawfulImages, LawfulGiven, LawfulMarks, LawfulOthers, image_among, is_among, marks_if, HasVersion, desk_of, images_of, index_of, unmarked, deed_spelling, image_spelling, marks_spelling, file_spelling}
 use Rattle.std.specs.List.{IsDistinct}
-use Rattle.std.specs.Option.{unwrap_or}
-use Rattle.std.specs.FinMap.{FinMap, get, get-from_entries}
-use Rattle.std.proofs.lemmas.Bool.{cases_Bool}
-use Rattle.sqlite.specs.declared.types.Value.TheVariants.{Int}
-use Rattle.sqlite.specs.Tree.{Trees}
-use Rattle.sqlite.specs.Order.{Row}
-use Rattle.rd_geometry.specs.Blocks.{CBM_BLOCKS}
-use Rattle.rd_geometry.specs.Kinds.{size_of}
-use Rattle.rd_geometry.specs.declared.kind.Kind.TheVariants.{D64, D64e}
-use Rattle.rd_tables.specs.Spellings.{Spelling, Spells, SpellLawful, map_of}
-use Rattle.rd_policy.specs.declared.rule.Band.{Band}
-use Rattle.rd_policy.specs.declared.rule.Band.TheVariants.{Takedown, Deed}
-use Rattle.rd_store.specs.declared.faults.OpenFault.{OpenFault}
-use Rattle.rd_store.specs.declared.faults.OpenFault.TheVariants.{NotADesk, Version, Inconsistent, Sql}
-use Rattle.rd_holdings.specs.declared.rows.ImageRow.{ImageRow}
-use Rattle.rd_holdings.specs.State.{Stands}
-use Rattle.rd_store.specs.Index.{IsFileIn, IsIndexOf}
-use Rattle.rd_holdings.specs.Lawful.{IsImage}
-use Rattle.rd_store.specs.Marks.{AreMarksIn, joined, with_marks}
-use Rattle.rd_store.specs.Opened.{IsConsistent, IsConsistentAs, Denied, HasDisk, AreKeys, AreNumbers, StandsAmong, StandsIn, IsImageOf, LawfulCommon, LawfulDeeds, LawfulFiles, LawfulImages, LawfulGiven, LawfulMarks, LawfulOthers, image_among, is_among, marks_if}
-use Rattle.rd_store.specs.Spelled.{HasVersion, desk_of, images_of, index_of, unmarked, deed_spelling, image_spelling, marks_spelling, file_spelling}
+use Rattle.rd_store.specs.declared.faults.OpenFault.TheVariants.{Version, Sql}
 use Rattle.rd_store.proofs.ColumnValues.{one_of_spelled, one_of_shown}
 use Rattle.rd_store.proofs.IndexTests.{joined_stands, stands_joined}
 use Rattle.rd_store.proofs.MarkedImages.{get_joined}

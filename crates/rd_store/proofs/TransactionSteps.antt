@@ -1,22 +1,8 @@
 -- A statement inside a transaction, one after another, and the whole transaction.
-use Rattle.std.proofs.Common.{◌≡◌, inl, inr, ℕ, List, [], true, false, Result, Ok, Err, IsErr, IfErr, OnOk, OnErr, refl, sym, subst, ◌∙◌, IsTrue, true≢false, arith}
-use Rattle.std.proofs.lemmas.Bool.{cases_Bool}
-use Rattle.sqlite.specs.Order.{Row}
-use Rattle.sqlite.specs.Store.{Ghosts}
-use Rattle.sqlite.specs.Schema.{Schema}
-use Rattle.sqlite.specs.Command.{Command}
-use Rattle.sqlite.specs.Effect.{Database}
-use Rattle.sqlite.specs.declared.error.Error.{Error}
+use Rattle.rd_store.proofs.Common.{◌≡◌, inl, inr, ℕ, List, [], true, false, Result, Ok, Err, IsErr, IfErr, OnOk, OnErr, refl, sym, subst, ◌∙◌, IsTrue, true≢false, arith, cases_Bool, Row, Ghosts, Schema, Command, Database, Error, ExecutesInside, Survives, KeepsCommit, KeepsCounts, Shows, IsRolledBack, Held, state, survives_begin, survives_then, IsWrite, Makes, inside_keeps, ran, Moves, IsOpen, IsClean, RestsIn, Turns}
 use Rattle.sqlite.specs.declared.error.Error.TheVariants.{SqliteFailure}
 use Rattle.sqlite.specs.declared.error.ErrorCode.TheVariants.{TransactionState}
-use Rattle.sqlite.specs.State.{ExecutesInside, Survives, KeepsCommit, KeepsCounts, Shows, IsRolledBack}
 use Rattle.sqlite.specs.Steps.{FailsToCommit}
-use Rattle.sqlite.specs.Held.{Held, state}
-use Rattle.sqlite.proofs.Callers.{survives_begin}
-use Rattle.sqlite.proofs.StateLemmas.{survives_then}
-use Rattle.rd_tables.proofs.StatementRuns.{IsWrite, Makes, inside_keeps, ran}
-use Rattle.rd_store.specs.Held.{Moves, IsOpen, IsClean}
-use Rattle.rd_store.specs.Created.{RestsIn, Turns}
 use Rattle.rd_store.proofs.Laws.{lasts_of}
 
 -- ---- one statement

@@ -1,15 +1,7 @@
 -- A transaction that turns one desk into another.
-use Rattle.std.proofs.Common.{◌≡◌, inl, inr, Result, Ok, Err, OnOk, OnErr, ap}
-use Rattle.sqlite.specs.Store.{Ghosts}
-use Rattle.sqlite.specs.Effect.{Database}
-use Rattle.sqlite.specs.Held.{Held, state}
-use Rattle.rd_holdings.specs.State.{Desk}
-use Rattle.rd_holdings.specs.Lawful.{IsLawful}
-use Rattle.rd_store.specs.Spelled.{desk_of}
-use Rattle.rd_store.specs.Held.{IsOf, IsDeskAt, HoldsDesk, Changes, IsOpen, desk}
+use Rattle.rd_store.proofs.Common.{◌≡◌, inl, inr, Result, Ok, Err, OnOk, OnErr, ap, Ghosts, Database, Held, state, Desk, IsLawful, desk_of, IsOf, IsDeskAt, HoldsDesk, Changes, IsOpen, desk, RestsIn, Turns}
 use Rattle.rd_store.proofs.Laws.{Laws, leaves_only, left_is}
 use Rattle.rd_store.proofs.StatementCalls.{rests_on, rests_as}
-use Rattle.rd_store.specs.Created.{RestsIn, Turns}
 
 module _ {S : Type 0} (g : Ghosts S) (old new : Held S) (holds : HoldsDesk (state g old)) where
   -- where a transaction begins

@@ -1,17 +1,10 @@
 -- What the texts that make the tables come to.
-use Rattle.std.proofs.Common.{◌≡◌, ℕ, zero, suc, ◌+◌, ◌<◌, List, [], get_or, false, Ok, refl, arith}
+use Rattle.rd_tables.proofs.Common.{◌≡◌, ℕ, zero, suc, ◌+◌, ◌<◌, List, [], get_or, false, Ok, refl, arith, Table, Schema, CreateTable, lacks_sequence, IsPlain, command_of, statement_of, desk_table, deed_table, image_table, rule_table, badge_table, checked_table, found_table, marks_table, desk_text, deed_text, image_text, rule_text, badge_text, checked_text, found_text, marks_text, create_texts, schema_after}
 use Rattle.sqlite.specs.Compile.{table_defined_by}
-use Rattle.sqlite.specs.Table.{Table}
-use Rattle.sqlite.specs.Schema.{Schema}
-use Rattle.sqlite.specs.Command.TheVariants.{CreateTable}
 use Rattle.sqlite.specs.Change.{created}
-use Rattle.sqlite.specs.Does.{lacks_sequence}
 use Rattle.sqlite.specs.Listing.{understood}
-use Rattle.sqlite.proofs.Callers.{IsPlain, command_of, statement_of}
 use Rattle.sqlite_tied.specs.Compute.{everything}
 use Rattle.rd_tables.proofs.StatementRuns.{IsWrite}
-use Rattle.rd_tables.specs.Schemas.{desk_table, deed_table, image_table, rule_table, badge_table, checked_table, found_table, marks_table}
-use Rattle.rd_tables.specs.Statements.{desk_text, deed_text, image_text, rule_text, badge_text, checked_text, found_text, marks_text, create_texts, schema_after}
 
 desk_defined : table_defined_by desk_text ≡ Ok (desk_table 0)
 unfolding everything

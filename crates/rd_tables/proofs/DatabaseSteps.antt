@@ -1,13 +1,5 @@
 -- What one statement on the rows of a table makes of a database of the desk.
-use Rattle.std.proofs.Common.{◌≡◌, ℕ, ◌==◌, List, [], ◌∷◌, Bool, true, false, not, cond, ◌||◌, filter, None, Ok, refl, sym, ap, ◌∙◌, true≢false, is_eq, arith}
-use Rattle.sqlite.specs.Order.{Row, value_cmp}
-use Rattle.sqlite.specs.Tree.{Trees, rowid}
-use Rattle.sqlite.specs.Edit.{IsNoIndex, is_taken}
-use Rattle.sqlite.specs.Effect.{Database}
-use Rattle.sqlite.specs.Does.{Tally, Concludes}
-use Rattle.sqlite.specs.Rows.{Task, Written}
-use Rattle.sqlite.specs.declared.run.Mode.{Mode}
-use Rattle.rd_tables.specs.Schemas.{desk_schema}
+use Rattle.rd_tables.proofs.Common.{◌≡◌, ℕ, ◌==◌, List, [], ◌∷◌, Bool, true, false, not, cond, ◌||◌, filter, None, Ok, refl, sym, ap, ◌∙◌, true≢false, is_eq, arith, Row, value_cmp, Trees, rowid, IsNoIndex, is_taken, Database, Tally, Concludes, Task, Written, Mode, desk_schema}
 use Rattle.rd_tables.proofs.TableSteps.{SetsRows, went, same_value}
 
 -- the trees of the indexes

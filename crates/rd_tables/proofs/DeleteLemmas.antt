@@ -1,21 +1,7 @@
 -- What a DELETE of the rows that pass some tests makes of a table.
-use Rattle.std.proofs.Common.{◌≡◌, inl, inr, ℕ, List, [], ◌∷◌, map, filter, flat_map, Bool, cond, Ok, refl, sym, ap, subst, ◌∙◌}
-use Rattle.std.specs.List.{list_all}
-use Rattle.std.proofs.lemmas.List.Sorted.{Contains-permutation, IsPermutation-sym}
-use Rattle.std.proofs.lemmas.Bool.{cases_Bool}
-use Rattle.sqlite.specs.declared.types.Value.TheVariants.{Null}
-use Rattle.sqlite.specs.Order.{Row}
-use Rattle.sqlite.specs.Tree.{Trees, rowid}
-use Rattle.sqlite.specs.Term.{Term, holds}
-use Rattle.sqlite.specs.Query.{Query, IsAnswer, Output, output}
-use Rattle.sqlite.specs.Program.{overlay}
-use Rattle.sqlite.specs.Edit.{without_all}
-use Rattle.sqlite.specs.Rows.{Task, Written, Deletes}
-use Rattle.sqlite_rules.specs.Action.{works}
-use Rattle.sqlite_rules.specs.Calls.{ids_of}
-use Rattle.sqlite_rules.specs.Lists.{Has}
-use Rattle.sqlite_rules.proofs.ListLemmas.{has_filtered, has_kept, has_contained, contains_had}
-use Rattle.rd_tables.specs.Statements.{rowids_of}
+use Rattle.rd_tables.proofs.Common.{◌≡◌, inl, inr, ℕ, List, [], ◌∷◌, map, filter, Bool, cond, Ok, refl, sym, ap, subst, ◌∙◌, list_all, Contains-permutation, IsPermutation-sym, cases_Bool, Null, Row, Trees, rowid, Term, Query, IsAnswer, Output, output, overlay, without_all, Task, Written, Deletes, works, ids_of, Has, has_filtered, has_kept, has_contained, contains_had, rowids_of}
+use Rattle.std.proofs.Common.{flat_map}
+use Rattle.sqlite.specs.Term.{holds}
 use Rattle.rd_tables.proofs.ListLemmas.{in_map, from_map}
 use Rattle.rd_tables.proofs.RemovedRows.{Picks}
 use Rattle.rd_tables.proofs.TableSteps.{SetsRows, went, same_value, clears}

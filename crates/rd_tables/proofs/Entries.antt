@@ -1,19 +1,8 @@
 -- A list of entries, no two with one key, is a finite map whatever its order.
-use Rattle.std.proofs.Common.{◌≡◌, inl, inr, List, [], ◌∷◌, map, filter, Bool, true, false, cond, T, Some, None, Option, refl, sym, ap, subst, ◌∙◌, arith, Ordering, Less, Equal, Greater, is_eq, is_lt, ◌&&◌}
-use Rattle.std.specs.List.{AllByRecursion, IsDistinct}
-use Rattle.std.specs.Option.{option_to_list}
-use Rattle.std.specs.List.Sorted.{IsPermutation, IsStrictlySortedBy}
-use Rattle.std.specs.Ordering.{eq_by_cmp}
+use Rattle.rd_tables.proofs.Common.{◌≡◌, inl, inr, List, [], ◌∷◌, map, filter, Bool, true, false, cond, T, Some, None, Option, refl, sym, ap, subst, ◌∙◌, arith, Ordering, Less, Equal, Greater, is_eq, is_lt, ◌&&◌, AllByRecursion, option_to_list, IsPermutation, eq_by_cmp, FinMap, get, entries, entries_sorted, get-entries, insert, remove, from_entries, retain_keys, same_map, get-insert, get-remove, get-from_entries, get-retain_keys, IsAntisymmetric, find, find-where_key, is_sorted, is_sorted-where_key, below_all, same_entries, where_key, cases_Bool, eq_by_cmp_equiv, length_permutation, IsPermutation-map, IsDistinct-IsPermutation, IsDistinct-head, IsDistinct-tail, sorted_head, sorted_tail, Has, IsPermutation-filter, one_permutation}
+use Rattle.std.specs.List.{IsDistinct}
+use Rattle.std.specs.List.Sorted.{IsStrictlySortedBy}
 use Rattle.std.specs.Cmp.{IsTotalOrder}
-use Rattle.std.specs.FinMap.{FinMap, get, entries, entries_sorted, get-entries, insert, remove, from_entries, retain_keys, same_map, get-insert, get-remove, get-from_entries, get-retain_keys, IsAntisymmetric}
-use Rattle.std.specs.FinMap.Entries.{find, find-where_key, is_sorted, is_sorted-where_key, below_all, same_entries, where_key}
-use Rattle.std.proofs.lemmas.Bool.{cases_Bool}
-use Rattle.std.proofs.lemmas.Cmp.{eq_by_cmp_equiv}
-use Rattle.std.proofs.lemmas.List.Sorted.{length_permutation, IsPermutation-map}
-use Rattle.std.proofs.lemmas.Map.Keys.{IsDistinct-IsPermutation, IsDistinct-head, IsDistinct-tail, sorted_head, sorted_tail}
-use Rattle.sqlite_rules.specs.Lists.{Has}
-use Rattle.sqlite_trees.proofs.ListLemmas.{IsPermutation-filter}
-use Rattle.sqlite.proofs.Callers.{one_permutation}
 
 -- Keys are compared by a total order under which only equal keys are tied.
 pub record IsKeyOrder {K : Type 0} (cmp : K → K → Ordering) : Type 0 where

@@ -1,12 +1,6 @@
 -- Lists, filters and their order.
-use Rattle.std.proofs.Common.{◌≡◌, inl, inr, ℕ, List, [], ◌∷◌, map, filter, length, get_or, set, Bool, true, false, not, cond, ◌&&◌, ◌||◌, refl, sym, ap, subst, ◌∙◌, arith, true≢false}
-use Rattle.std.specs.List.{AllByRecursion, IsDistinct, swap}
-use Rattle.std.specs.List.Sorted.{IsPermutation, SwapsInRange, apply_swaps}
-use Rattle.std.proofs.lemmas.Bool.{cases_Bool}
-use Rattle.std.proofs.lemmas.List.{length-map, map-set}
-use Rattle.std.proofs.Math.ListN.{get_or-map}
-use Rattle.std.proofs.lemmas.Map.Keys.{IsDistinct-head, IsDistinct-tail}
-use Rattle.sqlite_rules.specs.Lists.{Has}
+use Rattle.rd_tables.proofs.Common.{◌≡◌, inl, inr, ℕ, List, [], ◌∷◌, map, filter, length, get_or, set, Bool, true, false, not, cond, ◌&&◌, ◌||◌, refl, sym, ap, subst, ◌∙◌, arith, true≢false, AllByRecursion, swap, IsPermutation, SwapsInRange, apply_swaps, cases_Bool, length-map, map-set, get_or-map, IsDistinct-head, IsDistinct-tail, Has}
+use Rattle.std.specs.List.{IsDistinct}
 
 pub map_map : {A B C : Type 0} (f : B → C) (g : A → B) (xs : List A) → map f (map g xs) ≡ map (λ x. f (g x)) xs
 map_map f g [] = refl

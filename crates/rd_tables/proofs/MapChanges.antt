@@ -1,20 +1,6 @@
 -- What a row put in, or rows taken out, make of the map that the rows of a table spell.
-use Rattle.std.proofs.Common.{◌≡◌, inl, inr, List, [], ◌∷◌, map, filter, Bool, true, false, not, cond, Option, Some, None, IsSome, refl, sym, ap, subst, ◌∙◌, Ordering, Less, Equal, Greater, is_eq, true≢false}
-use Rattle.std.specs.List.{AllByRecursion, IsDistinct}
-use Rattle.std.specs.List.Sorted.{IsPermutation}
-use Rattle.std.specs.Ordering.{eq_by_cmp, match_ordering}
-use Rattle.std.specs.FinMap.{get, insert, remove, same_map, get-remove, get-from_entries}
-use Rattle.std.specs.FinMap.Entries.{find, where_key, find-where_key}
-use Rattle.std.proofs.lemmas.Bool.{cases_Bool}
-use Rattle.std.proofs.lemmas.Cmp.{eq_by_cmp_equiv}
-use Rattle.std.proofs.lemmas.List.Sorted.{IsPermutation-trans, IsPermutation-refl, IsPermutation-cons, IsPermutation-map, IsPermutation-middle, IsPermutation-sym, All-permutation}
-use Rattle.std.proofs.lemmas.List.Elements.{recursion_from_All, All-from_recursion}
-use Rattle.std.proofs.lemmas.Map.Keys.{IsDistinct-IsPermutation, IsDistinct-cons, IsDistinct-head, IsDistinct-tail}
-use Rattle.std.proofs.lemmas.Map.Made.{IsDistinct-keys_filter}
-use Rattle.sqlite.specs.Order.{Row, value_cmp}
-use Rattle.sqlite.specs.Tree.{rowid, put_row}
-use Rattle.sqlite.specs.Edit.{is_taken}
-use Rattle.rd_tables.specs.Spellings.{Spelling, entry_of, IsSpelled, Spells, map_of}
+use Rattle.rd_tables.proofs.Common.{◌≡◌, inl, inr, List, [], ◌∷◌, map, filter, Bool, true, false, not, cond, Option, Some, None, IsSome, refl, sym, ap, subst, ◌∙◌, Ordering, Less, Equal, Greater, is_eq, true≢false, AllByRecursion, IsPermutation, eq_by_cmp, match_ordering, get, insert, remove, same_map, get-remove, get-from_entries, find, where_key, find-where_key, cases_Bool, eq_by_cmp_equiv, IsPermutation-trans, IsPermutation-refl, IsPermutation-cons, IsPermutation-map, IsPermutation-middle, IsPermutation-sym, All-permutation, recursion_from_All, All-from_recursion, IsDistinct-IsPermutation, IsDistinct-cons, IsDistinct-head, IsDistinct-tail, IsDistinct-keys_filter, Row, value_cmp, rowid, put_row, is_taken, Spelling, entry_of, IsSpelled, Spells, map_of}
+use Rattle.std.specs.List.{IsDistinct}
 use Rattle.rd_tables.proofs.ListLemmas.{map_map, neither, all_map, all_weaker, all_filtered}
 use Rattle.rd_tables.proofs.Entries.{IsKeyOrder, one_map, tie}
 use Rattle.rd_tables.proofs.QueryMaps.{kept_entries, keys_apart}

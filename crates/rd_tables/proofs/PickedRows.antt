@@ -1,14 +1,6 @@
 -- A query over one table shows the rows that pass.
-use Rattle.std.proofs.Common.{◌≡◌, ℕ, List, [], ◌∷◌, ◌++◌, map, filter, Bool, true, false, cond, refl, ap, subst, ◌∙◌}
-use Rattle.std.specs.List.{list_all, flat_map}
-use Rattle.std.specs.List.Sorted.{IsPermutation}
-use Rattle.sqlite.specs.Order.{Row}
-use Rattle.sqlite_value.specs.declared.keys.Key.{Key}
-use Rattle.sqlite_sql.specs.Term.{Term, Env, holds}
-use Rattle.sqlite.specs.Query.{IsAnswer, Output, output}
-use Rattle.sqlite.specs.Program.{overlay}
-use Rattle.sqlite.specs.Tree.{Trees}
-use Rattle.rd_tables.specs.Asked.{asks_of, at_most, picked, IsPicked, IsStart}
+use Rattle.rd_tables.proofs.Common.{◌≡◌, ℕ, List, [], ◌∷◌, ◌++◌, map, filter, Bool, true, false, cond, refl, ap, subst, ◌∙◌, list_all, flat_map, IsPermutation, Row, Key, Env, holds, IsAnswer, Output, output, overlay, Trees, asks_of, at_most, picked, IsPicked, IsStart}
+use Rattle.sqlite_sql.specs.Term.{Term}
 use Rattle.rd_tables.proofs.ListLemmas.{map_map}
 
 passing : (p : Row → Bool) (f : Row → Env) (rows : List Row) → flat_map (λ row. cond (p row) (f row ∷ []) []) rows ≡ map f (filter p rows)

@@ -1,19 +1,11 @@
 -- What a caller learns of a query, and what the query leaves.
-use Rattle.std.proofs.Common.{◌≡◌, ◌⊎◌, inl, inr, ℕ, List, Some, None, Option, IsTrue, sym, subst}
-use Rattle.sqlite.specs.declared.types.Value.TheVariants.{Null}
-use Rattle.sqlite.specs.Order.{Row}
-use Rattle.sqlite_value.specs.declared.keys.Key.{Key}
+use Rattle.rd_tables.proofs.Common.{◌≡◌, ◌⊎◌, inl, inr, ℕ, List, Some, None, Option, IsTrue, sym, subst, Null, Row, Key, Returning, Error, State, IsUnchanged, IsRolledBack, FailsToShow, ShowsRows, Survives, CommitsShowing, IsPlain, reads_as, never_commits, asks_of, IsPicked, IsStart, Schema}
 use Rattle.sqlite_sql.specs.Term.{Term}
-use Rattle.sqlite_schema.specs.declared.command.Returning.{Returning}
 use Rattle.sqlite_resolve.specs.declared.compiled.Compiled.{Compiled}
 use Rattle.sqlite.specs.Clock.{timed}
-use Rattle.sqlite.specs.declared.error.Error.{Error}
 use Rattle.sqlite.specs.Listing.{understood}
-use Rattle.sqlite.specs.State.{State, IsUnchanged, IsRolledBack, FailsToShow, FailsToQuery, IsNotRun, Shown, ShowsRows, Survives, CommitsShowing}
-use Rattle.sqlite.proofs.Callers.{IsPlain, reads_as, never_commits}
+use Rattle.sqlite.specs.State.{FailsToQuery, IsNotRun, Shown}
 use Rattle.sqlite.proofs.StateLemmas.{survives_weaker}
-use Rattle.rd_tables.specs.Asked.{asks_of, IsPicked, IsStart}
-use Rattle.sqlite.specs.Schema.{Schema}
 use Rattle.rd_tables.proofs.PickedRows.{answer_picks, answer_starts}
 use Rattle.rd_tables.proofs.QueryTexts.{AsksOver, AsksStart}
 

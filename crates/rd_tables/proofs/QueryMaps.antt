@@ -1,24 +1,7 @@
 -- What a query shows of the map that the rows of its table spell.
-use Rattle.std.proofs.Common.{◌≡◌, ◌+◌, ◌<◌, List, [], ◌∷◌, map, filter, length, get_or, Bool, true, false, cond, T, Some, None, Option, refl, sym, ap, subst, subst₂, ◌∙◌, arith, Less, Equal, is_lt}
-use Rattle.std.specs.List.{list_all, AllByRecursion, IsDistinct}
-use Rattle.std.specs.Option.{option_to_list}
-use Rattle.std.specs.List.Sorted.{IsPermutation, IsSorted, IsStrictlySortedBy}
-use Rattle.std.specs.Ordering.{eq_by_cmp}
-use Rattle.std.specs.FinMap.{get, entries, entries_sorted, retain_keys, get-from_entries, get-retain_keys, get-entries}
-use Rattle.std.specs.FinMap.Entries.{find, is_sorted, where_key, find-where_key, same_entries}
-use Rattle.std.proofs.lemmas.List.{length-map}
-use Rattle.std.proofs.Math.ListN.{get_or-map}
-use Rattle.std.proofs.lemmas.Cmp.{eq_by_cmp_equiv}
-use Rattle.std.proofs.lemmas.List.Sorted.{length_permutation, IsPermutation-map, All-permutation}
-use Rattle.std.proofs.lemmas.List.Elements.{recursion_from_All, All-from_recursion}
-use Rattle.std.proofs.lemmas.Map.Keys.{IsDistinct-IsPermutation, apart_from_distinct, sorted_from_all_adjacent}
-use Rattle.std.proofs.lemmas.Map.Made.{IsDistinct-keys_filter}
-use Rattle.sqlite.specs.Order.{Row}
-use Rattle.sqlite_sql.specs.Term.{holds}
-use Rattle.sqlite.specs.Query.{Query, Output, output, output_cmp, key_cmp}
-use Rattle.sqlite.proofs.Callers.{one_permutation}
-use Rattle.rd_tables.specs.Asked.{IsPicked}
-use Rattle.rd_tables.specs.Spellings.{Spelling, entry_of, IsSpelled, Spells, map_of}
+use Rattle.rd_tables.proofs.Common.{◌≡◌, ◌+◌, ◌<◌, List, [], ◌∷◌, map, filter, length, get_or, Bool, true, false, cond, T, Some, None, Option, refl, sym, ap, subst, subst₂, ◌∙◌, arith, Less, Equal, is_lt, list_all, AllByRecursion, option_to_list, IsPermutation, IsSorted, eq_by_cmp, get, entries, entries_sorted, retain_keys, get-from_entries, get-retain_keys, get-entries, find, is_sorted, where_key, find-where_key, same_entries, length-map, get_or-map, eq_by_cmp_equiv, length_permutation, IsPermutation-map, All-permutation, recursion_from_All, All-from_recursion, IsDistinct-IsPermutation, apart_from_distinct, sorted_from_all_adjacent, IsDistinct-keys_filter, Row, holds, Query, Output, output, output_cmp, key_cmp, one_permutation, IsPicked, Spelling, entry_of, IsSpelled, Spells, map_of}
+use Rattle.std.specs.List.{IsDistinct}
+use Rattle.std.specs.List.Sorted.{IsStrictlySortedBy}
 use Rattle.rd_tables.proofs.ListLemmas.{map_map, all_weaker, empty_by_length, permuted_images}
 use Rattle.rd_tables.proofs.Entries.{IsKeyOrder, found_by_key, found_in_any_order, is_rising, where_key_passes}
 

@@ -1,19 +1,8 @@
 -- What the texts of the queries mean over the tables of a desk.
-use Rattle.std.proofs.Common.{◌≡◌, ℕ, List, [], ◌∷◌, codes, false, refl}
-use Rattle.sqlite.specs.Command.TheVariants.{Select}
-use Rattle.sqlite.specs.Query.{Query}
-use Rattle.sqlite.specs.Table.{Table}
-use Rattle.sqlite.specs.Schema.{Schema}
-use Rattle.sqlite.specs.Listing.{understood, reads_listing}
-use Rattle.sqlite.specs.Program.{overlay}
-use Rattle.sqlite.specs.Tree.{Trees}
-use Rattle.sqlite.specs.Term.{Term}
-use Rattle.sqlite_value.specs.declared.keys.Key.{Key}
-use Rattle.sqlite.proofs.Callers.{IsPlain, command_of}
+use Rattle.rd_tables.proofs.Common.{◌≡◌, ℕ, List, [], ◌∷◌, codes, false, refl, Select, Query, Table, Schema, reads_listing, overlay, Trees, Term, Key, IsPlain, command_of, asks_of, at_most, desk_schema, desk_with, deed_query, image_query, marks_query, audience_text, audience_query, rules_text, rules_query, keys_text, keys_query, all_deeds_text, all_deeds_query, all_rules_text, all_rules_query, placed_rules_text, placed_rules_query, batch_text, batch_query, all_keys_text, all_keys_query, all_checks_text, all_checks_query, file_text, file_query, files_text, files_query, all_files_text, all_files_query, all_marks_text, all_marks_query, first_images_text, all_images_query, next_images_text, later_images_query}
+use Rattle.sqlite.specs.Listing.{understood}
 use Rattle.sqlite_tied.specs.Compute.{everything}
-use Rattle.rd_tables.specs.Asked.{asks_of, at_most}
-use Rattle.rd_tables.specs.Schemas.{desk_schema, desk_with}
-use Rattle.rd_tables.specs.Queries.{deed_text, deed_query, image_text, image_query, marks_text, marks_query, audience_text, audience_query, rules_text, rules_query, keys_text, keys_query, all_deeds_text, all_deeds_query, all_rules_text, all_rules_query, placed_rules_text, placed_rules_query, batch_text, batch_query, all_keys_text, all_keys_query, all_checks_text, all_checks_query, file_text, file_query, files_text, files_query, all_files_text, all_files_query, all_marks_text, all_marks_query, first_images_text, all_images_query, next_images_text, later_images_query}
+use Rattle.rd_tables.specs.Queries.{deed_text, image_text, marks_text}
 
 -- Over these tables the text asks this of the rows on one tree.
 pub record AsksOver (schema : Schema) (text : List ℕ) (tree : ℕ) (tests shown : List Term) (order : List (Term × Key)) : Type 0 where

@@ -1,21 +1,7 @@
 -- The rows that a DELETE takes out, and rows whose rowids are apart.
-use Rattle.std.proofs.Common.{◌≡◌, inl, inr, ℤ, List, [], ◌∷◌, filter, Bool, true, false, not, refl, sym, ap, subst, ◌∙◌, IsTrue, Ordering, Less, Equal, Greater, true≢false}
-use Rattle.std.specs.Ordering.{is_eq}
-use Rattle.std.specs.List.{list_any}
-use Rattle.std.proofs.lemmas.Bool.{false_from_ne_true}
-use Rattle.std.proofs.lemmas.Cmp.{tied_itself, tied_back}
-use Rattle.sqlite.specs.Order.{Row, value_cmp}
-use Rattle.sqlite.specs.declared.types.Value.TheVariants.{Int}
-use Rattle.sqlite.specs.Tree.{rowid, put_row, has_rowid, without_rowid}
-use Rattle.sqlite.specs.Edit.{is_taken}
-use Rattle.sqlite_trees.specs.View.{is_int}
-use Rattle.sqlite_rules.specs.Lists.{Has}
-use Rattle.sqlite_rules.specs.Edit.{without_all, id_in}
-use Rattle.sqlite_rules.specs.Calls.{ids_of}
-use Rattle.sqlite_rules.proofs.ListLemmas.{some_has, some_from, has_filtered}
+use Rattle.rd_tables.proofs.Common.{◌≡◌, inl, inr, ℤ, List, [], ◌∷◌, filter, Bool, true, false, not, refl, sym, ap, subst, ◌∙◌, IsTrue, Ordering, Less, Equal, Greater, true≢false, is_eq, list_any, false_from_ne_true, tied_itself, tied_back, Row, value_cmp, Int, rowid, put_row, has_rowid, without_rowid, is_taken, is_int, Has, id_in, ids_of, some_has, some_from, has_filtered, value_cmp_total, HaveRowids}
+use Rattle.sqlite_rules.specs.Edit.{without_all}
 use Rattle.sqlite_rules.proofs.TableLemmas.{int_is, put_has}
-use Rattle.sqlite_value.proofs.OrderLemmas.{value_cmp_total}
-use Rattle.rd_tables.specs.Spellings.{HaveRowids}
 use Rattle.rd_tables.proofs.ListLemmas.{filter_true, filter_filter, filter_same, not_or, same_truth}
 
 -- What was found are the rowids of the rows that pass the test, and no other.

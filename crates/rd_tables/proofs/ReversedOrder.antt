@@ -1,21 +1,9 @@
 -- A query whose order is turned round shows the same rows, the last one first.
-use Rattle.std.proofs.Common.{◌≡◌, ℕ, suc, ◌+◌, ◌-◌, ◌<◌, List, [], ◌∷◌, ◌++◌, map, reverse, take, filter, length, get_or, slice_get, false, true, not, Some, Ordering, refl, sym, ap, ap₂, subst, ◌∙◌, arith, is_lt}
-use Rattle.std.specs.List.{list_all}
-use Rattle.std.specs.List.Sorted.{IsPermutation, IsSorted}
-use Rattle.std.specs.Option.{option_to_list}
-use Rattle.std.specs.Ordering.{ordering_then}
-use Rattle.std.proofs.lemmas.List.{get_or-reverse, length-reverse, map-append, reverse-reverse, take-map}
+use Rattle.rd_tables.proofs.Common.{◌≡◌, ℕ, suc, ◌+◌, ◌-◌, ◌<◌, List, [], ◌∷◌, ◌++◌, map, reverse, take, filter, length, get_or, slice_get, false, true, not, Some, Ordering, refl, sym, ap, ap₂, subst, ◌∙◌, arith, is_lt, list_all, IsPermutation, IsSorted, option_to_list, ordering_then, get_or-reverse, length-reverse, map-append, reverse-reverse, take-map, IsPermutation-reverse, IsPermutation-trans, Row, Query, Output, output_cmp, key_cmp, Term, eval_all, holds, Key, by_key, collated, directed, IsPicked, IsStart, picked}
 use Rattle.std.proofs.lemmas.Grind.{reverse_onto}
-use Rattle.std.proofs.lemmas.List.Sorted.{IsPermutation-reverse, IsPermutation-trans}
 use Rattle.std.proofs.lemmas.Option.{slice_get-get_or}
-use Rattle.sqlite.specs.Order.{Row, column}
-use Rattle.sqlite.specs.Query.{Query, Output, output_cmp, key_cmp}
-use Rattle.sqlite.specs.Term.{Term}
-use Rattle.sqlite_sql.specs.Term.{eval_all, holds}
-use Rattle.sqlite_value.specs.declared.keys.Key.{Key}
+use Rattle.sqlite.specs.Order.{column}
 use Rattle.sqlite_value.specs.declared.value.Value.{Value}
-use Rattle.sqlite_value.specs.Keys.{by_key, collated, directed}
-use Rattle.rd_tables.specs.Asked.{IsPicked, IsStart, picked}
 use Rattle.rd_tables.proofs.ListLemmas.{map_map}
 
 -- ---- the order turned round

@@ -1,25 +1,8 @@
 -- Rows that a query shows one after the other are walked in the order of their rowids.
-use Rattle.std.proofs.Common.{◌≡◌, ◌⊎◌, inl, inr, ℕ, ℤ, zero, suc, ◌+◌, ◌<◌, List, [], ◌∷◌, ◌++◌, map, filter, take, length, get_or, true, false, Option, Some, None, refl, sym, ap, ap₂, subst, ◌∙◌, arith, cond, int_lt, int_cmp, is_lt, Ordering, Less, Equal, Greater}
-use Rattle.std.specs.List.{AllByRecursion, list_all}
-use Rattle.std.specs.List.Sorted.{IsPermutation, IsSorted}
-use Rattle.std.specs.Ordering.{is_gt, ordering_reverse}
-use Rattle.std.proofs.lemmas.Bool.{cases_order}
-use Rattle.std.proofs.lemmas.Bool.Decides.{nat_tests}
-use Rattle.std.proofs.lemmas.List.{append-nil, get_or_append_left, get_or_push, get_or-map, length-map, length_push, take-take}
-use Rattle.std.proofs.lemmas.List.Sorted.{IsPermutation-cons, IsPermutation-map, IsPermutation-pop_more, IsPermutation-refl, IsPermutation-sym, IsPermutation-trans, length_permutation}
-use Rattle.sqlite.specs.declared.types.Value.{Value}
-use Rattle.sqlite.specs.declared.types.Value.TheVariants.{Null, Int, Real, Text, Blob}
-use Rattle.sqlite.specs.Order.{Row, column, value_cmp}
-use Rattle.sqlite.specs.Query.{Query, Output, output, output_cmp}
-use Rattle.sqlite.specs.Tree.{rowid}
-use Rattle.sqlite_sql.specs.Term.{Term, col, holds}
-use Rattle.sqlite_value.proofs.OrderLemmas.{then-Equal, value_cmp_total, value_cmp-Int}
-use Rattle.sqlite_rules.specs.Edit.{id_in}
-use Rattle.sqlite_rules.specs.Lists.{Has}
-use Rattle.sqlite_rules.proofs.ListLemmas.{has_filtered}
-use Rattle.sqlite_trees.specs.View.{is_int}
-use Rattle.sqlite_trees.proofs.ListLemmas.{IsPermutation-filter, filter-filter, filter_all}
-use Rattle.rd_tables.specs.Asked.{AreRising, IsListed, IsStart, asks_of, rising}
+use Rattle.rd_tables.proofs.Common.{◌≡◌, ◌⊎◌, inl, inr, ℕ, ℤ, zero, suc, ◌+◌, ◌<◌, List, [], ◌∷◌, ◌++◌, map, filter, take, length, get_or, true, false, Option, Some, None, refl, sym, ap, ap₂, subst, ◌∙◌, arith, cond, int_lt, int_cmp, is_lt, Ordering, Less, Equal, Greater, AllByRecursion, list_all, IsPermutation, IsSorted, is_gt, ordering_reverse, cases_order, nat_tests, append-nil, get_or_append_left, get_or_push, length-map, length_push, take-take, IsPermutation-cons, IsPermutation-map, IsPermutation-pop_more, IsPermutation-refl, IsPermutation-sym, IsPermutation-trans, length_permutation, Value, Null, Int, Real, Text, Blob, Row, value_cmp, Query, Output, output, output_cmp, rowid, col, holds, then-Equal, value_cmp_total, value_cmp-Int, id_in, Has, has_filtered, is_int, IsPermutation-filter, filter-filter, filter_all, AreRising, IsListed, IsStart, asks_of, rising}
+use Rattle.std.proofs.lemmas.List.{get_or-map}
+use Rattle.sqlite.specs.Order.{column}
+use Rattle.sqlite_sql.specs.Term.{Term}
 use Rattle.rd_tables.specs.Walks.{AreNext, ComesNext, IsWalked, is_after}
 use Rattle.rd_tables.proofs.TestedRows.{to_permuted}
 use Rattle.rd_tables.proofs.ListLemmas.{empty_by_length, filter_same, filter_true, map_map, permuted_images}

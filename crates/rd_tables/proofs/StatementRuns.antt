@@ -1,20 +1,8 @@
 -- What a statement that writes does to a connection.
-use Rattle.std.proofs.Common.{◌≡◌, ◌⊎◌, inl, inr, ℕ, List, append-nil, false, true≢false, Option, None, Result, Ok, Err, sym, ap, subst, subst₂, ◌∙◌, IsTrue}
-use Rattle.std.proofs.lemmas.Bool.{cases_Bool}
-use Rattle.sqlite.specs.Order.{Row}
-use Rattle.sqlite.specs.Tree.{Trees}
-use Rattle.sqlite.specs.Schema.{Schema}
-use Rattle.sqlite.specs.Command.{Command}
-use Rattle.sqlite.specs.Command.TheVariants.{Select, Insert, InsertOr, Update, Delete, CreateTable, CreateIndex, DropTable, DropIndex, Begin, Commit, Rollback, Savepoint, Release, RollbackTo, Rows, Nothing, CreateView, DropView}
-use Rattle.sqlite_schema.specs.declared.command.Returning.{Returning}
-use Rattle.sqlite_schema.specs.declared.schema.Keys.TheVariants.{Enforced}
-use Rattle.sqlite.specs.Effect.{Database, IsDatabase}
-use Rattle.sqlite.specs.Does.{Tally, Does}
-use Rattle.sqlite.specs.declared.error.Error.{Error}
-use Rattle.sqlite.specs.declared.run.Mode.{Mode}
+use Rattle.rd_tables.proofs.Common.{◌≡◌, ◌⊎◌, inl, inr, ℕ, List, false, true≢false, Option, None, Result, Ok, Err, sym, ap, subst, subst₂, ◌∙◌, IsTrue, cases_Bool, Row, Trees, Schema, Command, Select, Insert, InsertOr, Update, Delete, CreateTable, CreateIndex, DropTable, DropIndex, Begin, Commit, Rollback, Savepoint, Release, RollbackTo, Rows, Nothing, CreateView, DropView, Returning, Enforced, Database, IsDatabase, Tally, Does, Error, Mode, State, Executes, ExecutesInside, IsUnchanged, IsRolledBack, KeepsCommit, MayCommit, Runs, Writes, shows_rows, IsPlain, command_of, statement_of, runs_as}
+use Rattle.std.proofs.Common.{append-nil}
 use Rattle.sqlite.specs.Listing.{understood}
-use Rattle.sqlite.specs.State.{State, Executes, ExecutesIn, ExecutesInside, IsNotRun, IsUnchanged, IsRolledBack, KeepsCommit, CommitsBy, MayCommit, Runs, Writes, shows_rows}
-use Rattle.sqlite.proofs.Callers.{IsPlain, command_of, statement_of, runs_as}
+use Rattle.sqlite.specs.State.{ExecutesIn, IsNotRun, CommitsBy}
 
 -- keys are enforced, and nothing waits
 abbrev pub plain_mode : Mode

@@ -1,9 +1,7 @@
 -- What the texts of the statements mean over the tables of a desk.
-use Rattle.std.proofs.Common.{refl}
+use Rattle.rd_tables.proofs.Common.{refl, desk_schema, put_version_text, put_version, set_version_text, set_version, put_deed_text, put_deed, set_deed_text, set_deed, put_image_text, put_image, put_rule_text, put_rule, drop_rule_text, drop_rule, put_key_text, put_key, drop_key_text, drop_key, put_check_text, put_check, drop_check_text, drop_check, put_file_text, put_file, put_marks_text, put_marks}
 use Rattle.sqlite.specs.Listing.{understood}
 use Rattle.sqlite_tied.specs.Compute.{everything}
-use Rattle.rd_tables.specs.Schemas.{desk_schema}
-use Rattle.rd_tables.specs.Statements.{put_version_text, put_version, set_version_text, set_version, put_deed_text, put_deed, set_deed_text, set_deed, put_image_text, put_image, put_rule_text, put_rule, drop_rule_text, drop_rule, put_key_text, put_key, drop_key_text, drop_key, put_check_text, put_check, drop_check_text, drop_check, put_file_text, put_file, put_marks_text, put_marks}
 use Rattle.rd_tables.proofs.StatementRuns.{IsWrite}
 
 pub put_version_writes : IsWrite desk_schema put_version_text put_version

@@ -1,25 +1,7 @@
 -- What each statement makes of the rows of its table.
-use Rattle.std.proofs.Common.{◌≡◌, ℕ, ℤ, pos, List, [], ◌∷◌, filter, Bool, true, false, not, Option, None, Ok, refl, ap, subst, ◌∙◌, is_eq}
-use Rattle.std.specs.List.{list_all}
-use Rattle.std.proofs.lemmas.Cmp.{eq_by_cmp_equiv}
-use Rattle.sqlite.specs.declared.types.Value.TheVariants.{Null, Int, Text, Blob}
-use Rattle.sqlite.specs.Order.{Row, column, value_cmp}
-use Rattle.sqlite.specs.Tree.{put_row, has_rowid, without_rowid}
-use Rattle.sqlite.specs.Edit.{with_rowid, next_rowid, is_taken}
-use Rattle.sqlite.specs.Effect.{Database}
-use Rattle.sqlite.specs.Does.{Tally, Does}
-use Rattle.sqlite.specs.Rows.{Task}
-use Rattle.sqlite.specs.Table.{Table}
-use Rattle.sqlite.specs.Term.{Term, lit, col, holds}
-use Rattle.sqlite.specs.Cast.{cast_row}
-use Rattle.sqlite.specs.Rowids.TheVariants.{Chosen}
-use Rattle.sqlite.specs.Values.{or_null}
-use Rattle.sqlite.specs.Command.{Command}
-use Rattle.sqlite_schema.specs.declared.schema.Keys.TheVariants.{Enforced}
-use Rattle.sqlite_value.proofs.OrderLemmas.{value_cmp_total}
-use Rattle.rd_tables.specs.Spellings.{HaveRowids}
-use Rattle.rd_tables.specs.Schemas.{desk_schema, desk_table, deed_table, image_table, rule_table, badge_table, checked_table, found_table, marks_table}
-use Rattle.rd_tables.specs.Statements.{put_version, version_then, set_version, put_deed, by_number, deed_then, set_deed, put_image, put_rule, drop_rule, by_place, put_key, drop_key, by_digest, put_check, drop_check, by_checkup, put_file, put_marks}
+use Rattle.rd_tables.proofs.Common.{◌≡◌, ℕ, ℤ, pos, List, [], ◌∷◌, filter, Bool, true, false, not, Option, None, Ok, refl, ap, subst, ◌∙◌, is_eq, list_all, eq_by_cmp_equiv, Null, Int, Text, Blob, Row, value_cmp, put_row, has_rowid, without_rowid, with_rowid, next_rowid, is_taken, Database, Tally, Does, Task, Table, Term, cast_row, Chosen, or_null, Command, Enforced, value_cmp_total, HaveRowids, desk_schema, desk_table, deed_table, image_table, rule_table, badge_table, checked_table, found_table, marks_table, put_version, version_then, set_version, put_deed, by_number, deed_then, set_deed, put_image, put_rule, drop_rule, by_place, put_key, drop_key, by_digest, put_check, drop_check, by_checkup, put_file, put_marks}
+use Rattle.sqlite.specs.Order.{column}
+use Rattle.sqlite.specs.Term.{lit, col, holds}
 use Rattle.rd_tables.proofs.ListLemmas.{filter_true}
 use Rattle.rd_tables.proofs.Values.{cast_int, cast_null, cast_or_null}
 use Rattle.rd_tables.proofs.RemovedRows.{removed_rows}

@@ -1,18 +1,6 @@
 -- What one statement makes of the rows of a table, where no foreign key acts on what it does.
-use Rattle.std.proofs.Common.{◌≡◌, ◌≢◌, ◌⊎◌, inl, inr, ℕ, ◌/◌, ℤ, List, [], ◌∷◌, length, Bool, true, false, not, Option, Result, Ok, Err, refl, sym, ap, subst, ◌∙◌, true≢false}
-use Rattle.std.proofs.lemmas.Bool.{and_parts}
-use Rattle.sqlite.specs.Order.{Row}
-use Rattle.sqlite.specs.Tree.{Trees, put_row}
-use Rattle.sqlite.specs.Term.{Term}
+use Rattle.rd_tables.proofs.Common.{◌≡◌, ◌≢◌, ◌⊎◌, inl, inr, ℕ, ◌/◌, ℤ, List, [], ◌∷◌, length, Bool, true, false, not, Option, Result, Ok, Err, refl, sym, ap, subst, ◌∙◌, true≢false, and_parts, Row, Trees, put_row, Term, Schema, Edit, edit_of, taken_by, without_all, IsNoIndex, is_taken, with_rowid, cast_row, Chosen, Given, Written, Task, Edited, Inserts, stamped, count_of, rowids_for, Counts, value_rows, one_step, works}
 use Rattle.sqlite.specs.Source.TheVariants.{Values}
-use Rattle.sqlite.specs.Schema.{Schema}
-use Rattle.sqlite.specs.Edit.{Edit, edit_of, taken_by, without_all, IsNoIndex, is_taken, with_rowid}
-use Rattle.sqlite.specs.Cast.{cast_row}
-use Rattle.sqlite.specs.Rowids.TheVariants.{Chosen, Given}
-use Rattle.sqlite.specs.Rows.{Written, Task, Edited, Inserts, stamped, count_of, rowids_for, Counts}
-use Rattle.sqlite.specs.Effect.{value_rows}
-use Rattle.sqlite.proofs.Callers.{one_step}
-use Rattle.sqlite_rules.specs.Action.{works}
 
 -- The rows on one tree are these, and each other tree but those of indexes is as it was.
 pub record SetsRows (schema : Schema) (tree : ℕ) (old new : Trees) (rows : List Row) : Type 0 where

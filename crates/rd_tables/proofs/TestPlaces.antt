@@ -1,9 +1,6 @@
 -- Where a test turns in a list in order, and what lies between two such places.
-use Rattle.std.proofs.Common.{◌≡◌, inl, inr, ℕ, zero, suc, ◌<◌, ◌≤◌, List, [], ◌∷◌, ◌&&◌, map, filter, take, drop, length, get_or, Bool, true, false, not, cond, T, sym, ap, refl, ◌∙◌, arith, is_lt, Ordering}
-use Rattle.std.specs.List.Sorted.{IsPartitionedBy, IsPartitionPoint}
-use Rattle.std.specs.FinMap.Entries.{below_all, is_sorted}
-use Rattle.std.proofs.lemmas.Bool.{cases_order}
-use Rattle.std.proofs.lemmas.List.{get_or-map, length-map}
+use Rattle.rd_tables.proofs.Common.{◌≡◌, inl, inr, ℕ, zero, suc, ◌<◌, ◌≤◌, List, [], ◌∷◌, ◌&&◌, map, filter, take, drop, length, get_or, Bool, true, false, not, cond, T, sym, ap, refl, ◌∙◌, arith, is_lt, Ordering, IsPartitionedBy, IsPartitionPoint, below_all, is_sorted, cases_order, length-map}
+use Rattle.std.proofs.lemmas.List.{get_or-map}
 
 -- ---- entries by their keys
 

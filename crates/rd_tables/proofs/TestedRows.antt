@@ -1,32 +1,8 @@
 -- What the rows of a table are where all of them were shown and tested.
-use Rattle.std.proofs.Common.{◌≡◌, inl, inr, ℕ, ◌+◌, ◌<◌, List, [], ◌∷◌, map, filter, length, get_or, All, Bool, true, false, Some, refl, sym, ap, subst, ◌∙◌, arith, true≢false, int_lt, Less, Ordering, is_eq}
-use Rattle.std.specs.List.{AllByRecursion, IsDistinct}
-use Rattle.std.specs.List.Sorted.{IsPermutation}
-use Rattle.std.specs.Ordering.{eq_by_cmp}
-use Rattle.std.specs.FinMap.{get, get-from_entries}
-use Rattle.std.specs.FinMap.Entries.{find}
-use Rattle.std.proofs.lemmas.Bool.{cases_Bool}
-use Rattle.std.proofs.lemmas.Cmp.{eq_by_cmp_equiv}
-use Rattle.std.proofs.lemmas.List.{length-map}
-use Rattle.std.proofs.Math.ListN.{get_or-map}
-use Rattle.std.proofs.lemmas.List.Sorted.{IsPermutation-map, IsPermutation-sym, All-permutation}
-use Rattle.std.proofs.lemmas.List.Elements.{recursion_from_All, All-from_recursion}
-use Rattle.std.proofs.lemmas.Map.Keys.{IsDistinct-IsPermutation, IsDistinct-from_sorted, IsDistinct-head, IsDistinct-tail, sorted_from_all_adjacent}
-use Rattle.sqlite.specs.declared.types.Value.{Value}
-use Rattle.sqlite.specs.declared.types.Value.TheVariants.{Null, Int, Real, Text, Blob}
-use Rattle.sqlite.specs.Order.{Row, column, value_cmp}
-use Rattle.sqlite.specs.Tree.{rowid}
-use Rattle.sqlite.specs.Query.{Query, Output, output}
-use Rattle.sqlite_sql.specs.Term.{Term, col}
-use Rattle.sqlite_value.specs.declared.keys.Key.{Key}
-use Rattle.sqlite_value.proofs.OrderLemmas.{value_cmp_total, value_cmp-Int}
-use Rattle.sqlite_rules.specs.Edit.{id_in}
-use Rattle.std.proofs.lemmas.Bool.Decides.{nat_tests}
-use Rattle.sqlite_trees.specs.View.{is_int}
-use Rattle.sqlite_rules.specs.Lists.{Has}
-use Rattle.sqlite_rules.proofs.ListLemmas.{all_has}
-use Rattle.rd_tables.specs.Asked.{asks_of, picked, IsPicked, AreRising, IsListed}
-use Rattle.rd_tables.specs.Spellings.{Spelling, entry_of, IsSpelled, Spells, SpellLawful, HaveRowids, map_of}
+use Rattle.rd_tables.proofs.Common.{◌≡◌, inl, inr, ℕ, ◌+◌, ◌<◌, List, [], ◌∷◌, map, filter, length, get_or, All, Bool, true, false, Some, refl, sym, ap, subst, ◌∙◌, arith, true≢false, int_lt, Less, Ordering, is_eq, AllByRecursion, IsPermutation, eq_by_cmp, get, get-from_entries, find, cases_Bool, eq_by_cmp_equiv, length-map, get_or-map, IsPermutation-map, IsPermutation-sym, All-permutation, recursion_from_All, All-from_recursion, IsDistinct-IsPermutation, IsDistinct-from_sorted, IsDistinct-head, IsDistinct-tail, sorted_from_all_adjacent, Value, Null, Int, Real, Text, Blob, Row, value_cmp, rowid, Query, Output, output, col, Key, value_cmp_total, value_cmp-Int, id_in, nat_tests, is_int, Has, all_has, asks_of, picked, IsPicked, AreRising, IsListed, Spelling, entry_of, IsSpelled, Spells, SpellLawful, HaveRowids, map_of}
+use Rattle.std.specs.List.{IsDistinct}
+use Rattle.sqlite.specs.Order.{column}
+use Rattle.sqlite_sql.specs.Term.{Term}
 use Rattle.rd_tables.proofs.ListLemmas.{map_map, filter_true, in_map, from_map, one_row}
 use Rattle.rd_tables.proofs.Entries.{IsKeyOrder, found_has}
 

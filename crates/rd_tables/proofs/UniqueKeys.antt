@@ -1,28 +1,12 @@
 -- No two rows of a table have one key of a unique index.
-use Rattle.std.proofs.Common.{◌≡◌, inl, inr, ℕ, ℤ, List, [], ◌∷◌, Bool, true, false, not, ◌&&◌, refl, sym, ap, subst, ◌∙◌, true≢false, Ordering, is_eq, Less, Equal, Greater}
-use Rattle.std.specs.List.{AllByRecursion, list_all}
-use Rattle.std.specs.Ordering.{eq_by_cmp, is_ne}
-use Rattle.std.proofs.lemmas.Bool.{cases_Bool}
-use Rattle.std.proofs.lemmas.Cmp.{nat_list_cmp_total, eq_by_cmp_equiv}
-use Rattle.sqlite.specs.declared.types.Value.{Value}
-use Rattle.sqlite.specs.declared.types.Value.TheVariants.{Null, Int, Real, Text, Blob}
-use Rattle.sqlite.specs.Collation.TheVariants.{Binary}
-use Rattle.sqlite.specs.Order.{Row, column, value_cmp}
-use Rattle.sqlite.specs.Tree.{Trees, rowid}
-use Rattle.sqlite.specs.Table.{Table}
-use Rattle.sqlite.specs.Schema.{Schema}
-use Rattle.sqlite.specs.Effect.{Database, IsDatabase}
+use Rattle.rd_tables.proofs.Common.{◌≡◌, inl, inr, ℕ, ℤ, List, [], ◌∷◌, Bool, true, false, not, ◌&&◌, refl, sym, ap, subst, ◌∙◌, true≢false, Ordering, is_eq, Less, Equal, Greater, AllByRecursion, list_all, eq_by_cmp, is_ne, cases_Bool, nat_list_cmp_total, eq_by_cmp_equiv, Value, Null, Int, Real, Text, Blob, Binary, Row, value_cmp, Trees, rowid, Table, Schema, Database, IsDatabase, equal, differ, agree, clashes, guards, Keeps, is_int, plain, value_cmp_total, Has, all_has, some_from, desk_with, rule_table, badge_table, checked_table, found_table, rule_index, badge_index, checked_index, found_index, rule_key, badge_key, checked_key, found_key}
+use Rattle.sqlite.specs.Order.{column}
 use Rattle.sqlite_catalog.specs.Listing.{IsSound}
-use Rattle.sqlite_schema.specs.Rules.{equal, differ, agree, clashes, guards, passes, Keeps}
+use Rattle.sqlite_schema.specs.Rules.{passes}
 use Rattle.sqlite_schema.specs.declared.schema.Constraint.TheVariants.{Unique}
 use Rattle.sqlite_schema.specs.declared.schema.Index.{Index}
 use Rattle.sqlite_sql.specs.Ops.{binary}
-use Rattle.sqlite_trees.specs.View.{is_int}
-use Rattle.sqlite_value.specs.Keys.{plain, first_key}
-use Rattle.sqlite_value.proofs.OrderLemmas.{value_cmp_total}
-use Rattle.sqlite_rules.specs.Lists.{Has}
-use Rattle.sqlite_rules.proofs.ListLemmas.{all_has, some_from}
-use Rattle.rd_tables.specs.Schemas.{desk_with, rule_table, badge_table, checked_table, found_table, rule_index, badge_index, checked_index, found_index, rule_key, badge_key, checked_key, found_key}
+use Rattle.sqlite_value.specs.Keys.{first_key}
 use Rattle.rd_tables.proofs.Values.{equal_int, equal_blobs, truth_kept}
 
 pub same_int : (a b : Value) (n : ℤ) → a ≡ b → b ≡ Int n → equal Binary a b ≡ true

@@ -1,21 +1,6 @@
 -- What an UPDATE of one row, which stays at its rowid, makes of a table.
-use Rattle.std.proofs.Common.{◌≡◌, ℤ, List, [], ◌∷◌, map, filter, Bool, Ok, ap, subst, ◌∙◌}
-use Rattle.std.specs.List.{list_all}
-use Rattle.std.specs.List.Sorted.{IsPermutation}
-use Rattle.sqlite.specs.declared.types.Value.TheVariants.{Null, Int}
-use Rattle.sqlite.specs.Order.{Row}
-use Rattle.sqlite.specs.Tree.{Trees, put_row, without_rowid}
-use Rattle.sqlite.specs.Term.{Term, holds}
-use Rattle.sqlite.specs.Query.{Query, Output, output}
-use Rattle.sqlite.specs.Program.{overlay}
-use Rattle.sqlite.specs.Edit.{Edit, edit_of, taken_by}
-use Rattle.sqlite.specs.Cast.{cast_row}
-use Rattle.sqlite.specs.Rowids.TheVariants.{Given}
-use Rattle.sqlite.specs.Rows.{Written, Task, Edited, Updates}
-use Rattle.sqlite.proofs.Callers.{one_permutation, one_step}
-use Rattle.sqlite_rules.specs.Action.{works}
-use Rattle.sqlite_rules.specs.Calls.{ids_of}
-use Rattle.rd_tables.specs.Asked.{asks_of}
+use Rattle.rd_tables.proofs.Common.{◌≡◌, ℤ, List, [], ◌∷◌, map, filter, Bool, Ok, ap, subst, ◌∙◌, list_all, IsPermutation, Null, Int, Row, Trees, put_row, without_rowid, Term, Query, Output, output, overlay, Edit, edit_of, taken_by, cast_row, Given, Written, Task, Edited, Updates, one_permutation, one_step, works, ids_of, asks_of}
+use Rattle.sqlite.specs.Term.{holds}
 use Rattle.rd_tables.proofs.PickedRows.{answer_picks}
 use Rattle.rd_tables.proofs.TableSteps.{SetsRows, went, same_value}
 

@@ -1,22 +1,11 @@
 -- How columns take values, and when a parameter equals a column.
-use Rattle.std.proofs.Common.{◌≡◌, ℕ, ℤ, pos, List, Bool, true, false, cond, Option, Some, None, refl, sym, ap, ◌∙◌, arith, nat_cmp, nat_le, int_cmp, is_eq}
-use Rattle.std.specs.Ordering.{eq_by_cmp, is_ge, is_gt, is_le}
+use Rattle.rd_tables.proofs.Common.{◌≡◌, ℕ, ℤ, pos, List, Bool, true, false, cond, Option, Some, None, refl, sym, ap, ◌∙◌, arith, nat_cmp, nat_le, int_cmp, is_eq, eq_by_cmp, is_ge, is_gt, is_le, int_cmp_total, nat_list_cmp_total, eq_by_cmp_equiv, nat_tests, Value, Null, Int, Real, Text, Blob, Binary, cast, value_cmp, or_null, equal, is_true, from_truth, value_cmp-Int, value_cmp-Blob, value_cmp-Null}
 use Rattle.std.specs.Cmp.Lexicographic.{slice_cmp}
-use Rattle.std.proofs.lemmas.Cmp.{int_cmp_total, nat_list_cmp_total, eq_by_cmp_equiv}
-use Rattle.std.proofs.lemmas.Bool.Decides.{nat_tests}
-use Rattle.sqlite.specs.declared.types.Value.{Value}
-use Rattle.sqlite.specs.declared.types.Value.TheVariants.{Null, Int, Real, Text, Blob}
-use Rattle.sqlite.specs.Collation.TheVariants.{Binary}
 use Rattle.sqlite.specs.Kind.TheVariants.{Integer}
-use Rattle.sqlite.specs.Cast.{cast}
 use Rattle.sqlite.specs.Ops.{unary}
-use Rattle.sqlite.specs.Order.{value_cmp}
-use Rattle.sqlite.specs.Values.{or_null}
-use Rattle.sqlite_schema.specs.Rules.{equal}
-use Rattle.sqlite_sql.specs.Ops.{binary, is_true, from_truth}
+use Rattle.sqlite_sql.specs.Ops.{binary}
 use Rattle.sqlite_sql.specs.declared.ops.BinaryOp.TheVariants.{Compare}
 use Rattle.sqlite_sql.specs.declared.ops.CompareOp.TheVariants.{Eq, Ge, Gt, Le}
-use Rattle.sqlite_value.proofs.OrderLemmas.{value_cmp-Int, value_cmp-Blob, value_cmp-Null}
 
 either : (b : Bool) (x : Value) → cond b x x ≡ x
 either true x = refl

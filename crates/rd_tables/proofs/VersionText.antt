@@ -1,19 +1,15 @@
 -- What the text that asks for the version means, wherever the table `desk` stands.
-use Rattle.std.proofs.Common.{◌≡◌, ◌∙◌, ℕ, zero, suc, ◌+◌, ◌-◌, ◌^◌, ◌<◌, ◌≤◌, ◌==◌, ◌||◌, ◌&&◌, not, Bool, true, false, List, [], ◌∷◌, ◌++◌, length, take, get_or, slice_get, codes, Option, Some, None, refl, sym, ap, subst, arith, nat_le, nat_lt, eq-eqb, eqb-true, is_ok, Ok, Err, negsuc}
-use Rattle.std.proofs.lemmas.Bool.Decides.{nat_tests}
-use Rattle.std.specs.List.{find, list_any, position_from}
-use Rattle.sqlite.specs.Table.{Table}
-use Rattle.sqlite.specs.Schema.{Schema}
+use Rattle.rd_tables.proofs.Common.{◌≡◌, ◌∙◌, ℕ, zero, suc, ◌+◌, ◌-◌, ◌^◌, ◌<◌, ◌≤◌, ◌==◌, ◌||◌, ◌&&◌, not, Bool, true, false, List, [], ◌∷◌, ◌++◌, length, take, get_or, slice_get, codes, Option, Some, None, refl, sym, ap, subst, arith, nat_le, nat_lt, eq-eqb, eqb-true, is_ok, Ok, Err, negsuc, nat_tests, list_any, position_from, Table, Schema, column_named, is_key, place_of, Int, lit, col, TellsVersion, are_desk_columns, desk_table, desk_with, has_tree, is_named_desk, tells_version, version_text, version_query}
+use Rattle.std.specs.List.{find}
 use Rattle.sqlite.specs.Listing.{understood}
 use Rattle.sqlite_value.specs.declared.keys.Collation.{Collation}
 use Rattle.sqlite_schema.specs.declared.schema.Column.{Column}
 use Rattle.sqlite_schema.specs.declared.command.Command.TheVariants as command
 use Rattle.sqlite_schema.specs.declared.program.Table.{Table as Let}
 use Rattle.sqlite_schema.specs.declared.program.Program.{Program}
-use Rattle.sqlite_schema.specs.Names.{column_named, is_key, place_of, same_name}
+use Rattle.sqlite_schema.specs.Names.{same_name}
 use Rattle.sqlite_tied.specs.Compute.{everything}
-use Rattle.sqlite.specs.declared.types.Value.TheVariants.{Int}
-use Rattle.sqlite_sql.specs.Term.{Term, lit, col}
+use Rattle.sqlite_sql.specs.Term.{Term}
 use Rattle.sqlite_draft.specs.declared.join.Step.TheVariants.{Inner}
 use Rattle.sqlite_draft.specs.declared.query.Draft.{Draft}
 use Rattle.sqlite_draft.specs.Join.{chain}
@@ -46,8 +42,6 @@ use Rattle.sqlite_resolve.specs.Select as one
 use Rattle.sqlite_resolve.specs.Program.{Building, Shown, alone, level, program, query, query_to, single, sources, viewing, whole, with}
 use Rattle.sqlite_resolve.specs.Compile.{command as command_in, compiled, first, meaning, planned, read, returning, timed}
 use Rattle.sqlite_catalog.proofs.SoundLemmas.{lowered}
-use Rattle.rd_tables.specs.Schemas.{TellsVersion, are_desk_columns, desk_table, desk_with, has_tree, is_named_desk, tells_version}
-use Rattle.rd_tables.specs.Queries.{version_text, version_query}
 use Rattle.rd_tables.proofs.QueryTexts.{AsksOver}
 
 -- ---- tests

@@ -1,9 +1,4 @@
-use Rattle.std.proofs.Common.{[], ◌∷◌, pos}
-use Rattle.std.proofs.lemmas.Result.{IfOk-weaker}
-use Rattle.sqlite.specs.declared.types.Value.TheVariants.{Int}
-use Rattle.sqlite.specs.Held.{state}
-use Rattle.rd_tables.proofs.QueryTexts.{batch_asks}
-use Rattle.rd_tables.proofs.QueryEffects.{shown_was_open, shown_picks}
+use Rattle.rd_store.proofs.Common.{[], ◌∷◌, pos, IfOk-weaker, Int, state, batch_asks, shown_was_open, shown_picks}
 use Rattle.rd_store.proofs.Laws.{holds_tables, stays_desk}
 use Rattle.rd_store.proofs.BatchQueries.{batch_found}
 use Rattle.rd_store.proofs.batches.batch_rows.Goals as goal

@@ -1,8 +1,5 @@
-use Rattle.std.proofs.Common.{◌+◌, ◌++◌, ◌∷◌, [], arith, subst, sym, take}
-use Rattle.std.proofs.lemmas.List.{take_more}
+use Rattle.rd_store.proofs.Common.{◌+◌, ◌++◌, ◌∷◌, [], arith, subst, sym, take, take_more, AllZip, IsIndexedBy}
 use Rattle.std.proofs.lemmas.Slice.Zip.{all_zipped_more}
-use Rattle.std.specs.List.{AllZip}
-use Rattle.rd_store.specs.Batched.{IsIndexedBy}
 use Rattle.rd_store.proofs.batches.index_each.Goals as goal
 
 pub loop-entry-preserved : goal.loop-entry-preserved

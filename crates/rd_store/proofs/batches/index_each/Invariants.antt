@@ -1,6 +1,4 @@
-use Rattle.std.proofs.Common.{take}
-use Rattle.std.specs.List.{AllZip}
-use Rattle.rd_store.specs.Batched.{IsIndexedBy}
+use Rattle.rd_store.proofs.Common.{take, AllZip, IsIndexedBy}
 use Rattle.rd_store.proofs.batches.index_each.Given as goal
 
 abbrev pub invariant-loop-entry : goal.invariant-loop-entry

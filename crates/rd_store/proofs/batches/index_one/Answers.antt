@@ -1,6 +1,4 @@
-use Rattle.std.proofs.Common.{◌∙◌, ap, map, rules}
-use Rattle.rd_store.specs.Batched.{files_at}
-use Rattle.rd_store.specs.Spelled.{file_in}
+use Rattle.rd_store.proofs.Common.{◌∙◌, ap, map, rules, files_at, file_in}
 use Rattle.rd_store.proofs.BatchQueries.{files_read}
 use Rattle.rd_store.proofs.batches.index_one.Goals as goal
 

@@ -1,10 +1,5 @@
-use Rattle.std.proofs.Common.{◌≡◌, ◌∙◌, ◌-◌, ◌≤◌, Bool, ap, drop, length, map, of_calls, rules, subst, sym, take}
-use Rattle.std.specs.List.Sorted.{IsPartitionedBy}
-use Rattle.std.proofs.lemmas.Fn.{always_returns_same}
-use Rattle.std.proofs.lemmas.List.{take_rest}
-use Rattle.sqlite.specs.Order.{Row, column}
+use Rattle.rd_store.proofs.Common.{◌≡◌, ◌∙◌, ◌-◌, ◌≤◌, Bool, ap, drop, length, map, of_calls, rules, subst, sym, take, IsPartitionedBy, always_returns_same, take_rest, Row, column, filed_shown, is_number_below, is_number_up_to}
 use Rattle.rd_tables.proofs.TestPlaces.{Turns}
-use Rattle.rd_store.specs.Batched.{filed_shown, is_number_below, is_number_up_to}
 use Rattle.rd_store.proofs.BatchQueries.{parted_below, parted_up_to, rows_picked}
 use Rattle.rd_store.proofs.batches.rows_of.Goals as goal
 

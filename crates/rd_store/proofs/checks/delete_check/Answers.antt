@@ -1,13 +1,4 @@
-use Rattle.std.proofs.Common.{IsTrue, w32}
-use Rattle.std.proofs.lemmas.Int.{to_z-of_z}
-use Rattle.sqlite.specs.State.{ExecutesInside}
-use Rattle.sqlite.specs.Held.{state}
-use Rattle.rd_tables.specs.Schemas.{desk_schema}
-use Rattle.rd_tables.specs.Statements.{drop_check_text, drop_check}
-use Rattle.rd_tables.proofs.Statements.{checkup_params}
-use Rattle.rd_tables.proofs.StatementTexts.{drop_check_writes}
-use Rattle.rd_store.specs.Held.{IsOf, IsClean}
-use Rattle.rd_holdings.specs.State.{without_check}
+use Rattle.rd_store.proofs.Common.{IsTrue, w32, to_z-of_z, ExecutesInside, state, desk_schema, drop_check_text, drop_check, checkup_params, drop_check_writes, IsOf, IsClean, without_check}
 use Rattle.rd_store.proofs.TransactionSteps.{moves}
 use Rattle.rd_store.proofs.DatabaseSteps.{makes_no_check, of_schema}
 use Rattle.rd_store.proofs.checks.delete_check.Goals as goal

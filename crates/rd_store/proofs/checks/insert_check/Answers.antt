@@ -1,14 +1,4 @@
-use Rattle.std.proofs.Common.{IsTrue, w32}
-use Rattle.std.proofs.lemmas.Int.{to_z-of_z}
-use Rattle.sqlite.specs.State.{ExecutesInside}
-use Rattle.sqlite.specs.Held.{state}
-use Rattle.rd_tables.specs.Schemas.{desk_schema}
-use Rattle.rd_tables.specs.Statements.{put_check_text, put_check}
-use Rattle.rd_tables.proofs.Statements.{check_params}
-use Rattle.rd_tables.proofs.StatementTexts.{put_check_writes}
-use Rattle.rd_store.specs.Codes.{outcome_code}
-use Rattle.rd_store.specs.Held.{IsOf, IsClean}
-use Rattle.rd_holdings.specs.State.{with_check}
+use Rattle.rd_store.proofs.Common.{IsTrue, w32, to_z-of_z, ExecutesInside, state, desk_schema, put_check_text, put_check, check_params, put_check_writes, outcome_code, IsOf, IsClean, with_check}
 use Rattle.rd_store.proofs.TransactionSteps.{moves}
 use Rattle.rd_store.proofs.DatabaseSteps.{makes_check, of_schema}
 use Rattle.rd_store.proofs.checks.insert_check.Goals as goal

@@ -1,6 +1,4 @@
-use Rattle.std.proofs.Common.{◌≡◌, map, take}
-use Rattle.rd_store.specs.Copied.{numbered_check}
-use Rattle.rd_store.specs.Spelled.{check_spelling}
+use Rattle.rd_store.proofs.Common.{◌≡◌, map, take, numbered_check, check_spelling}
 use Rattle.rd_store.proofs.checks.read_checks.Given as goal
 
 abbrev pub invariant-loop-row : goal.invariant-loop-row

@@ -1,13 +1,6 @@
-use Rattle.std.proofs.Common.{◌≡◌, subst, rules, Ok, Err, refl, ℕ, w32}
-use Rattle.std.proofs.lemmas.Int.{to_z-of_z}
-use Rattle.sqlite.specs.declared.error.Error.{Error}
-use Rattle.sqlite.specs.Held.{state}
-use Rattle.rd_tables.proofs.Entries.{get_removed, insert_removed}
-use Rattle.rd_store.specs.Held.{IsOf, HoldsDesk, Moves, Changes, desk}
-use Rattle.rd_holdings.specs.State.{Desk, checkup_cmp, with_check, without_check}
+use Rattle.rd_store.proofs.Common.{◌≡◌, subst, rules, Ok, Err, refl, ℕ, w32, to_z-of_z, Error, state, get_removed, insert_removed, IsOf, HoldsDesk, Moves, Changes, desk, Desk, checkup_cmp, with_check, without_check, lawful_check}
 use Rattle.rd_store.proofs.Laws.{Laws, clean_at}
 use Rattle.rd_store.proofs.Orders.{checkup_order}
-use Rattle.rd_holdings.proofs.Lawful.{lawful_check}
 use Rattle.rd_store.proofs.TransactionSteps.{begun, and_then, stopped, undoes, commits}
 use Rattle.rd_store.proofs.Transactions.{starts, changes}
 use Rattle.rd_store.proofs.checks.write_check.Goals as goal

@@ -1,5 +1,4 @@
-use Rattle.std.proofs.Common.{◌≡◌, take}
-use Rattle.rd_store.specs.Codes.{units_code}
+use Rattle.rd_store.proofs.Common.{◌≡◌, take, units_code}
 use Rattle.rd_store.proofs.codes.of_units.Given as goal
 
 abbrev pub invariant-loop-unit : goal.invariant-loop-unit

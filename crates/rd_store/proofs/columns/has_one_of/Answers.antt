@@ -1,4 +1,4 @@
-use Rattle.std.proofs.Common.{sym}
+use Rattle.rd_store.proofs.Common.{sym}
 use Rattle.rd_store.proofs.BinarySearch.{other_isnt}
 use Rattle.rd_store.proofs.columns.has_one_of.Goals as goal
 

@@ -1,7 +1,4 @@
-use Rattle.std.proofs.Common.{◌≡◌, ◌∙◌, ℤ, pos, int_cmp, rules, subst, w64, to_z, of_z}
-use Rattle.std.specs.List.Sorted.{IsBinarySearchResult}
-use Rattle.std.proofs.lemmas.Int.{to_z-of_z}
-use Rattle.std.proofs.lemmas.List.Sorted.{answers_always}
+use Rattle.rd_store.proofs.Common.{◌≡◌, ◌∙◌, ℤ, pos, int_cmp, rules, subst, w64, to_z, of_z, IsBinarySearchResult, to_z-of_z, answers_always}
 use Rattle.rd_store.proofs.BinarySearch.{searched}
 use Rattle.rd_store.proofs.columns.is_among.Goals as goal
 

@@ -1,4 +1,4 @@
-use Rattle.std.proofs.Common.{◌≡◌, take}
+use Rattle.rd_store.proofs.Common.{◌≡◌, take}
 use Rattle.rd_store.proofs.comparing.are_same_rows.Given as goal
 
 abbrev pub invariant-loop-at : goal.invariant-loop-at

@@ -1,8 +1,4 @@
-use Rattle.std.proofs.Common.{◌≡◌, ◌∙◌, map, sym}
-use Rattle.std.specs.FinMap.{entries}
-use Rattle.rd_store.specs.Copied.{TellsSame}
-use Rattle.rd_store.specs.Held.{desk}
-use Rattle.rd_store.specs.Spelled.{check_spelling}
+use Rattle.rd_store.proofs.Common.{◌≡◌, ◌∙◌, map, sym, entries, TellsSame, desk, check_spelling}
 use Rattle.rd_store.proofs.CompareLemmas.{asked_both, failed_both, same_spelled}
 use Rattle.rd_store.proofs.CopyLemmas.{keeps_here}
 use Rattle.rd_store.proofs.CheckListQuery.{check_back}

@@ -1,8 +1,4 @@
-use Rattle.std.proofs.Common.{◌≡◌, ◌∙◌, map, sym}
-use Rattle.std.specs.FinMap.{entries}
-use Rattle.rd_store.specs.Copied.{TellsSame}
-use Rattle.rd_store.specs.Held.{desk}
-use Rattle.rd_store.specs.Spelled.{deed_spelling}
+use Rattle.rd_store.proofs.Common.{◌≡◌, ◌∙◌, map, sym, entries, TellsSame, desk, deed_spelling}
 use Rattle.rd_store.proofs.CompareLemmas.{asked_both, failed_both, deed_back, same_spelled}
 use Rattle.rd_store.proofs.CopyLemmas.{keeps_here}
 use Rattle.rd_store.proofs.comparing.has_same_deeds.Goals as goal

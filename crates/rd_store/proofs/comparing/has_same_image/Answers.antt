@@ -1,7 +1,4 @@
-use Rattle.std.proofs.Common.{◌≡◌, ◌∙◌, sym}
-use Rattle.std.specs.FinMap.{get}
-use Rattle.rd_store.specs.Copied.{TellsSame}
-use Rattle.rd_store.specs.Held.{desk}
+use Rattle.rd_store.proofs.Common.{◌≡◌, ◌∙◌, sym, get, TellsSame, desk}
 use Rattle.rd_store.proofs.CompareLemmas.{asked_both, failed_both}
 use Rattle.rd_store.proofs.CopyLemmas.{keeps_here}
 use Rattle.rd_store.proofs.comparing.has_same_image.Goals as goal

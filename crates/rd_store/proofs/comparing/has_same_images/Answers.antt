@@ -1,7 +1,4 @@
-use Rattle.std.proofs.Common.{◌≡◌, ◌∙◌, IsTrue, arith, false, rules}
-use Rattle.std.specs.FinMap.{keys}
-use Rattle.rd_store.specs.Held.{desk}
-use Rattle.rd_store.specs.Copied.{TellsSame}
+use Rattle.rd_store.proofs.Common.{◌≡◌, ◌∙◌, IsTrue, arith, false, rules, keys, desk, TellsSame}
 use Rattle.rd_store.proofs.CompareLemmas.{asked_both, failed_both, not_told, same_all, same_fail, same_next, same_stop}
 use Rattle.rd_store.proofs.CopyLemmas.{keeps_here}
 use Rattle.rd_store.proofs.comparing.has_same_images.Goals as goal

@@ -1,7 +1,4 @@
-use Rattle.std.proofs.Common.{IsTrue, rules}
-use Rattle.rd_holdings.specs.State.{Desk}
-use Rattle.rd_store.specs.Copied.{TellsSame, TellsSameBoth}
-use Rattle.rd_store.specs.Held.{desk}
+use Rattle.rd_store.proofs.Common.{IsTrue, rules, Desk, TellsSame, TellsSameBoth, desk}
 use Rattle.rd_store.proofs.CompareLemmas.{differ, failed_both, not_told_both, same_both}
 use Rattle.rd_store.proofs.comparing.has_same_notes.Goals as goal
 

@@ -1,6 +1,4 @@
-use Rattle.std.proofs.Common.{IsTrue, rules}
-use Rattle.rd_store.specs.Copied.{TellsSame, TellsSameBoth}
-use Rattle.rd_store.specs.Held.{desk}
+use Rattle.rd_store.proofs.Common.{IsTrue, rules, TellsSame, TellsSameBoth, desk}
 use Rattle.rd_store.proofs.CompareLemmas.{differ, differ_then, failed_both, failed_then, not_told, same_desks}
 use Rattle.rd_store.proofs.comparing.is_same_desk.Goals as goal
 

@@ -1,6 +1,4 @@
-use Rattle.std.proofs.Common.{◌∙◌, IsTrue, arith, rules, sym}
-use Rattle.std.proofs.lemmas.List.{take_all, take_more_same}
-use Rattle.sqlite.specs.declared.types.Value.TheVariants.{Null}
+use Rattle.rd_store.proofs.Common.{◌∙◌, IsTrue, arith, rules, sym, take_all, take_more_same, Null}
 use Rattle.rd_store.proofs.comparing.is_same_row.Goals as goal
 
 pub loop-at-preserved : goal.loop-at-preserved

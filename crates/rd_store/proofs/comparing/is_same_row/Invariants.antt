@@ -1,4 +1,4 @@
-use Rattle.std.proofs.Common.{◌≡◌, take}
+use Rattle.rd_store.proofs.Common.{◌≡◌, take}
 use Rattle.rd_store.proofs.comparing.is_same_row.Given as goal
 
 abbrev pub invariant-loop-at : goal.invariant-loop-at

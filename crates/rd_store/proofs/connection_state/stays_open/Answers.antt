@@ -1,9 +1,4 @@
-use Rattle.std.proofs.Common.{[], Ok, Err, refl, subst, sym}
-use Rattle.std.specs.Prelude.{⊤}
-use Rattle.rd_tables.specs.Schemas.{desk_schema}
-use Rattle.rd_tables.proofs.QueryTexts.{marks_asks}
-use Rattle.rd_store.specs.declared.faults.StoreFault.TheVariants.{Sql}
-use Rattle.rd_store.specs.Held.{Asks}
+use Rattle.rd_store.proofs.Common.{[], Ok, Err, refl, subst, sym, ⊤, desk_schema, marks_asks, Sql, Asks}
 use Rattle.rd_store.proofs.Laws.{Laws, stays_desk}
 use Rattle.rd_store.proofs.QueryEffects.{not_prepared_stays, prepared_stays}
 use Rattle.rd_store.proofs.connection_state.stays_open.Goals as goal

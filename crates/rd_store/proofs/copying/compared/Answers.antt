@@ -1,5 +1,4 @@
-use Rattle.std.proofs.Common.{◌∙◌, IsTrue, rules, subst, sym}
-use Rattle.rd_store.specs.Held.{Keeps}
+use Rattle.rd_store.proofs.Common.{◌∙◌, IsTrue, rules, subst, sym, Keeps}
 use Rattle.rd_store.proofs.copying.compared.Goals as goal
 
 pub returns-in_default-clause-refused : goal.returns-in_default-clause-refused

@@ -1,12 +1,5 @@
-use Rattle.std.proofs.Common.{◌≡◌, ◌∙◌, ◌<◌, ℕ, List, Ok, Err, ap, arith, get_or, length, map, refl, subst, sym}
-use Rattle.std.specs.FinMap.{FinMap, entries}
-use Rattle.std.proofs.lemmas.List.{get_or-map, length-map}
-use Rattle.sqlite.specs.declared.error.Error.{Error}
+use Rattle.rd_store.proofs.Common.{◌≡◌, ◌∙◌, ◌<◌, ℕ, List, Ok, Err, ap, arith, get_or, length, map, refl, subst, sym, FinMap, entries, get_or-map, length-map, Error, Outcome, Checkup, checkup_cmp, with_check, numbered_check, with_checks, IsOf, Moves}
 use Rattle.rd_holdings.specs.declared.rows.Finding.{Finding}
-use Rattle.rd_holdings.specs.declared.rows.Outcome.{Outcome}
-use Rattle.rd_holdings.specs.State.{Checkup, checkup_cmp, with_check}
-use Rattle.rd_store.specs.Copied.{numbered_check, with_checks}
-use Rattle.rd_store.specs.Held.{IsOf, Moves}
 use Rattle.rd_store.proofs.CopyLemmas.{first_all, first_of, goes_on, next_free, next_put}
 use Rattle.rd_store.proofs.Orders.{checkup_order}
 use Rattle.rd_store.proofs.TransactionSteps.{and_then, stopped}

@@ -1,10 +1,4 @@
-use Rattle.std.proofs.Common.{◌≡◌, [], Ok, map}
-use Rattle.std.specs.FinMap.{FinMap, entries, from_entries}
-use Rattle.sqlite.specs.declared.error.Error.{Error}
-use Rattle.rd_holdings.specs.State.{Desk, checkup_cmp}
-use Rattle.rd_holdings.specs.declared.rows.Outcome.{Outcome}
-use Rattle.rd_store.specs.Copied.{numbered_check, with_checks}
-use Rattle.rd_store.specs.Held.{IsOf, Moves}
+use Rattle.rd_store.proofs.Common.{◌≡◌, [], Ok, map, FinMap, entries, from_entries, Error, Desk, checkup_cmp, Outcome, numbered_check, with_checks, IsOf, Moves}
 use Rattle.rd_store.proofs.CopyLemmas.{first_of}
 use Rattle.rd_store.proofs.copying.copy_checks.Given as goal
 

@@ -1,11 +1,4 @@
-use Rattle.std.proofs.Common.{◌≡◌, ◌∙◌, ◌<◌, ℕ, Ok, Err, arith, get_or, length, subst, sym}
-use Rattle.std.specs.FinMap.{FinMap, entries}
-use Rattle.std.specs.Ordering.{nat_cmp}
-use Rattle.sqlite.specs.declared.error.Error.{Error}
-use Rattle.rd_holdings.specs.State.{with_deed}
-use Rattle.rd_holdings.specs.declared.rows.DeedRow.{DeedRow}
-use Rattle.rd_store.specs.Copied.{with_deeds}
-use Rattle.rd_store.specs.Held.{IsOf, Moves}
+use Rattle.rd_store.proofs.Common.{◌≡◌, ◌∙◌, ◌<◌, ℕ, Ok, Err, arith, get_or, length, subst, sym, FinMap, entries, nat_cmp, Error, with_deed, DeedRow, with_deeds, IsOf, Moves}
 use Rattle.rd_store.proofs.CopyLemmas.{first_all, first_of, goes_on, next_free, next_put}
 use Rattle.rd_store.proofs.Orders.{number_order}
 use Rattle.rd_store.proofs.TransactionSteps.{and_then, stopped}

@@ -1,11 +1,4 @@
-use Rattle.std.proofs.Common.{◌≡◌, [], Ok}
-use Rattle.std.specs.FinMap.{FinMap, entries, from_entries}
-use Rattle.std.specs.Ordering.{nat_cmp}
-use Rattle.sqlite.specs.declared.error.Error.{Error}
-use Rattle.rd_holdings.specs.State.{Desk}
-use Rattle.rd_holdings.specs.declared.rows.DeedRow.{DeedRow}
-use Rattle.rd_store.specs.Copied.{with_deeds}
-use Rattle.rd_store.specs.Held.{IsOf, Moves}
+use Rattle.rd_store.proofs.Common.{◌≡◌, [], Ok, FinMap, entries, from_entries, nat_cmp, Error, Desk, DeedRow, with_deeds, IsOf, Moves}
 use Rattle.rd_store.proofs.CopyLemmas.{first_of}
 use Rattle.rd_store.proofs.copying.copy_deeds.Given as goal
 

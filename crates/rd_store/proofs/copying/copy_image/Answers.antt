@@ -1,8 +1,4 @@
-use Rattle.std.proofs.Common.{◌∙◌, sym}
-use Rattle.rd_holdings.specs.declared.rows.ImageRow.{ImageRow}
-use Rattle.rd_store.specs.Copied.{AndClean, TakesImage}
-use Rattle.rd_store.specs.Held.{IsOf, LacksImage, desk}
-use Rattle.rd_store.specs.Index.{with_new_image}
+use Rattle.rd_store.proofs.Common.{◌∙◌, sym, ImageRow, AndClean, TakesImage, IsOf, LacksImage, desk, with_new_image}
 use Rattle.rd_store.proofs.CopyLemmas.{of_told, some_same, unmoved_then}
 use Rattle.rd_store.proofs.copying.copy_image.Goals as goal
 

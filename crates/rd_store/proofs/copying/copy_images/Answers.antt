@@ -1,6 +1,4 @@
-use Rattle.std.proofs.Common.{◌≡◌, ◌∙◌, ap, arith, length, refl}
-use Rattle.rd_holdings.specs.State.{Desk}
-use Rattle.rd_store.specs.Held.{desk}
+use Rattle.rd_store.proofs.Common.{◌≡◌, ◌∙◌, ap, arith, length, refl, Desk, desk}
 use Rattle.rd_store.proofs.CopyLemmas.{keeps_then, unmoved}
 use Rattle.rd_store.proofs.ImageCopies.{puts_all, puts_next, puts_none, puts_stop}
 use Rattle.rd_store.proofs.copying.copy_images.Goals as goal

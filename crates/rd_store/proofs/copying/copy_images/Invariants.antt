@@ -1,10 +1,4 @@
-use Rattle.std.proofs.Common.{◌≡◌, [], Ok}
-use Rattle.std.specs.FinMap.{from_entries, keys}
-use Rattle.std.specs.Ordering.{nat_cmp}
-use Rattle.sqlite.specs.declared.error.Error.{Error}
-use Rattle.rd_holdings.specs.State.{Desk}
-use Rattle.rd_store.specs.Copied.{AndClean, with_images}
-use Rattle.rd_store.specs.Held.{IsClean, IsOf, IsOpen, Keeps, Moves, desk}
+use Rattle.rd_store.proofs.Common.{◌≡◌, [], Ok, from_entries, keys, nat_cmp, Error, Desk, AndClean, with_images, IsClean, IsOf, IsOpen, Keeps, Moves, desk}
 use Rattle.rd_store.proofs.CopyLemmas.{first_of}
 use Rattle.rd_store.proofs.copying.copy_images.Given as goal
 

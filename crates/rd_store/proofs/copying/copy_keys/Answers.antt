@@ -1,10 +1,4 @@
-use Rattle.std.proofs.Common.{◌≡◌, ◌∙◌, ◌<◌, ℕ, List, Ok, Err, arith, get_or, length, subst, sym}
-use Rattle.std.specs.FinMap.{FinMap, entries}
-use Rattle.sqlite.specs.declared.error.Error.{Error}
-use Rattle.rd_holdings.specs.State.{digest_cmp, with_key}
-use Rattle.rd_policy.specs.declared.audience.Audience.{Audience}
-use Rattle.rd_store.specs.Copied.{with_keys}
-use Rattle.rd_store.specs.Held.{IsOf, Moves}
+use Rattle.rd_store.proofs.Common.{◌≡◌, ◌∙◌, ◌<◌, ℕ, List, Ok, Err, arith, get_or, length, subst, sym, FinMap, entries, Error, digest_cmp, with_key, Audience, with_keys, IsOf, Moves}
 use Rattle.rd_store.proofs.CopyLemmas.{first_all, first_of, goes_on, next_free, next_put}
 use Rattle.rd_store.proofs.Orders.{digest_order}
 use Rattle.rd_store.proofs.TransactionSteps.{and_then, stopped}

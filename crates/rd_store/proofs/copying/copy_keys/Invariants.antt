@@ -1,10 +1,4 @@
-use Rattle.std.proofs.Common.{◌≡◌, [], Ok}
-use Rattle.std.specs.FinMap.{FinMap, entries, from_entries}
-use Rattle.sqlite.specs.declared.error.Error.{Error}
-use Rattle.rd_holdings.specs.State.{Desk, digest_cmp}
-use Rattle.rd_policy.specs.declared.audience.Audience.{Audience}
-use Rattle.rd_store.specs.Copied.{with_keys}
-use Rattle.rd_store.specs.Held.{IsOf, Moves}
+use Rattle.rd_store.proofs.Common.{◌≡◌, [], Ok, FinMap, entries, from_entries, Error, Desk, digest_cmp, Audience, with_keys, IsOf, Moves}
 use Rattle.rd_store.proofs.CopyLemmas.{first_of}
 use Rattle.rd_store.proofs.copying.copy_keys.Given as goal
 

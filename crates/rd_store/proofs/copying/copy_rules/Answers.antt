@@ -1,11 +1,4 @@
-use Rattle.std.proofs.Common.{◌≡◌, ◌∙◌, ◌<◌, ℕ, List, Ok, Err, ap, arith, get_or, length, map, subst, sym}
-use Rattle.std.specs.FinMap.{FinMap, entries}
-use Rattle.std.proofs.lemmas.List.{get_or-map, length-map}
-use Rattle.sqlite.specs.declared.error.Error.{Error}
-use Rattle.rd_policy.specs.declared.rule.Rule.{Rule}
-use Rattle.rd_holdings.specs.State.{Place, Terms, place_cmp, place_of, rule_of, terms_of, with_rule}
-use Rattle.rd_store.specs.Copied.{with_rules}
-use Rattle.rd_store.specs.Held.{IsOf, Moves}
+use Rattle.rd_store.proofs.Common.{◌≡◌, ◌∙◌, ◌<◌, ℕ, List, Ok, Err, ap, arith, get_or, length, map, subst, sym, FinMap, entries, get_or-map, length-map, Error, Rule, Place, Terms, place_cmp, place_of, rule_of, terms_of, with_rule, with_rules, IsOf, Moves}
 use Rattle.rd_store.proofs.CopyLemmas.{first_all, first_of, goes_on, next_free, next_put}
 use Rattle.rd_store.proofs.Orders.{place_order}
 use Rattle.rd_store.proofs.TransactionSteps.{and_then, stopped}

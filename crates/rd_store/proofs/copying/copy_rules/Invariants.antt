@@ -1,9 +1,4 @@
-use Rattle.std.proofs.Common.{◌≡◌, [], Ok}
-use Rattle.std.specs.FinMap.{from_entries}
-use Rattle.sqlite.specs.declared.error.Error.{Error}
-use Rattle.rd_holdings.specs.State.{Desk, all_rules, place_cmp}
-use Rattle.rd_store.specs.Copied.{with_rules}
-use Rattle.rd_store.specs.Held.{IsOf, Moves}
+use Rattle.rd_store.proofs.Common.{◌≡◌, [], Ok, from_entries, Error, Desk, all_rules, place_cmp, with_rules, IsOf, Moves}
 use Rattle.rd_store.proofs.CopyLemmas.{first_of}
 use Rattle.rd_store.proofs.copying.copy_rules.Given as goal
 

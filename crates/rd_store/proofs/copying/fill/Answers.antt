@@ -1,8 +1,4 @@
-use Rattle.std.proofs.Common.{◌∙◌, ℕ, Ok, Err, inl, inr, refl}
-use Rattle.sqlite.specs.declared.error.Error.{Error}
-use Rattle.rd_store.specs.Copied.{AndClean, with_deeds, with_images}
-use Rattle.rd_store.specs.Created.{HasFirstTables, empty_desk}
-use Rattle.rd_store.specs.Held.{IsOf, Moves, desk}
+use Rattle.rd_store.proofs.Common.{◌∙◌, ℕ, Ok, Err, inl, inr, refl, Error, AndClean, with_deeds, with_images, HasFirstTables, empty_desk, IsOf, Moves, desk}
 use Rattle.rd_store.proofs.CopyLemmas.{and_clean, both_clean}
 use Rattle.rd_store.proofs.TransactionSteps.{and_then, stopped}
 use Rattle.rd_store.proofs.copying.fill.Goals as goal

@@ -1,5 +1,4 @@
-use Rattle.std.proofs.Common.{inl, inr, refl}
-use Rattle.std.proofs.lemmas.Result.{IfErr-weaker, IfOk-weaker}
+use Rattle.rd_store.proofs.Common.{inl, inr, refl, IfErr-weaker, IfOk-weaker}
 use Rattle.rd_store.proofs.CopyLemmas.{opened_left, unopened_left, untouched_left}
 use Rattle.rd_store.proofs.copying.open_copy.Goals as goal
 

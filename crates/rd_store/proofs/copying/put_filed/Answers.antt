@@ -1,9 +1,4 @@
-use Rattle.std.proofs.Common.{ℕ, Ok, Err, length}
-use Rattle.sqlite.specs.declared.error.Error.{Error}
-use Rattle.rd_holdings.specs.declared.rows.ImageRow.{ImageRow}
-use Rattle.rd_store.specs.Held.{IsDeskWith, IsOf, LacksImage, Moves}
-use Rattle.rd_store.specs.Index.{IsFiledTo, with_new_image}
-use Rattle.rd_store.specs.Shown.{image_with}
+use Rattle.rd_store.proofs.Common.{ℕ, Ok, Err, length, Error, ImageRow, IsDeskWith, IsOf, LacksImage, Moves, IsFiledTo, with_new_image, image_with}
 use Rattle.rd_store.proofs.DatabaseSteps.{filed_whole}
 use Rattle.rd_store.proofs.TransactionSteps.{and_then, moves_to, stopped}
 use Rattle.rd_store.proofs.copying.put_filed.Goals as goal

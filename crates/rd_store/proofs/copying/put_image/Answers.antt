@@ -1,10 +1,4 @@
-use Rattle.std.proofs.Common.{◌∙◌, ℕ, List, ap, length, subst, sym}
-use Rattle.sqlite.specs.declared.error.Error.{Error}
-use Rattle.rd_volume.specs.Volumes.{AreFounds}
-use Rattle.rd_holdings.specs.declared.rows.ImageRow.{ImageRow}
-use Rattle.rd_store.specs.Held.{IsOf, LacksImage, Moves}
-use Rattle.rd_store.specs.Index.{with_new_image}
-use Rattle.rd_store.specs.Shown.{heading_of, image_with}
+use Rattle.rd_store.proofs.Common.{◌∙◌, ℕ, List, ap, length, subst, sym, Error, AreFounds, ImageRow, IsOf, LacksImage, Moves, with_new_image, heading_of, image_with}
 use Rattle.rd_store.proofs.CopyLemmas.{unmoved}
 use Rattle.rd_store.proofs.copying.put_image.Goals as goal
 

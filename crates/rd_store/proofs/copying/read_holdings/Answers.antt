@@ -1,7 +1,4 @@
-use Rattle.std.proofs.Common.{◌≡◌, map, subst}
-use Rattle.std.specs.FinMap.{entries}
-use Rattle.rd_holdings.specs.State.{Desk, all_rules}
-use Rattle.rd_store.specs.Copied.{numbered_check}
+use Rattle.rd_store.proofs.Common.{◌≡◌, map, subst, entries, Desk, all_rules, numbered_check}
 use Rattle.rd_store.proofs.CopyLemmas.{failed_read, keeps_then}
 use Rattle.rd_store.proofs.copying.read_holdings.Goals as goal
 

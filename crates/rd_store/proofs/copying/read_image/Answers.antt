@@ -1,4 +1,4 @@
-use Rattle.std.proofs.Common.{◌∙◌, sym}
+use Rattle.rd_store.proofs.Common.{◌∙◌, sym}
 use Rattle.rd_store.proofs.copying.read_image.Goals as goal
 
 pub returns-clause-reads : goal.returns-clause-reads

@@ -1,9 +1,4 @@
-use Rattle.std.proofs.Common.{◌≡◌, subst, sym}
-use Rattle.rd_holdings.specs.Lawful.{IsLawful}
-use Rattle.rd_holdings.specs.State.{Desk}
-use Rattle.rd_store.specs.Copied.{AreHoldingsOf}
-use Rattle.rd_store.specs.Created.{HasFirstTables, Turns}
-use Rattle.rd_store.specs.Held.{Holds, IsOf, desk}
+use Rattle.rd_store.proofs.Common.{◌≡◌, subst, sym, IsLawful, Desk, AreHoldingsOf, HasFirstTables, Turns, Holds, IsOf, desk}
 use Rattle.rd_store.proofs.CopyLemmas.{keeps_still, turns_none, turns_to, was_clean}
 use Rattle.rd_store.proofs.copying.write_copy.Goals as goal
 

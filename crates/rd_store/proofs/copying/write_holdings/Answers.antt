@@ -1,8 +1,4 @@
-use Rattle.std.proofs.Common.{◌≡◌, subst, rules, Ok, Err}
-use Rattle.sqlite.specs.declared.error.Error.{Error}
-use Rattle.rd_store.specs.Copied.{AndClean}
-use Rattle.rd_store.specs.Created.{HasFirstTables, Turns}
-use Rattle.rd_store.specs.Held.{IsOf, Moves, desk}
+use Rattle.rd_store.proofs.Common.{◌≡◌, subst, rules, Ok, Err, Error, AndClean, HasFirstTables, Turns, IsOf, Moves, desk}
 use Rattle.rd_store.proofs.CopyLemmas.{of_clean}
 use Rattle.rd_store.proofs.Laws.{Laws, clean_at}
 use Rattle.rd_store.proofs.TransactionSteps.{begun, undoes, commits}

@@ -1,18 +1,6 @@
-use Rattle.std.proofs.Common.{◌≡◌, ◌∙◌, [], ◌∷◌, ◌⊎◌, inl, inr, length, refl, sym, ap, subst, true≢false, true, false, arith}
-use Rattle.sqlite.specs.Effect.{Database, IsDatabase}
-use Rattle.sqlite.specs.Tree.{Trees}
-use Rattle.sqlite.specs.Schema.{Schema}
+use Rattle.rd_store.proofs.Common.{◌≡◌, ◌∙◌, [], ◌∷◌, ◌⊎◌, inl, inr, length, refl, sym, ap, subst, true≢false, true, false, arith, Database, IsDatabase, Trees, Schema, desk_schema, first_schema, marks_table, may_be_desk, OpenFault, NotADesk, Inconsistent, IsLeft, IsIndexOf, IsLawful, IsFirstConsistent, IsSecondConsistent, RefusesEach, IsConsistent, Refuses, index_of, Desk}
 use Rattle.sqlite_schema.specs.Names.{same_name}
-use Rattle.rd_tables.specs.Schemas.{desk_schema, first_schema, marks_table, may_be_desk}
-use Rattle.rd_store.specs.declared.faults.OpenFault.{OpenFault}
-use Rattle.rd_store.specs.declared.faults.OpenFault.TheVariants.{NotADesk, Version as OtherVersion, Inconsistent, Sql}
-use Rattle.rd_store.specs.Held.{IsLeft}
-use Rattle.rd_store.specs.Index.{IsIndexOf}
-use Rattle.rd_holdings.specs.Lawful.{IsLawful}
-use Rattle.rd_store.specs.Migrated.{IsFirstConsistent, IsSecondConsistent, RefusesEach}
-use Rattle.rd_store.specs.Opened.{IsConsistent, Refuses}
-use Rattle.rd_store.specs.Spelled.{index_of}
-use Rattle.rd_holdings.specs.State.{Desk}
+use Rattle.rd_store.specs.declared.faults.OpenFault.TheVariants.{Version as OtherVersion, Sql}
 use Rattle.rd_store.proofs.DatabaseTests.{said_here}
 use Rattle.rd_store.proofs.OneSchema.{HaveOneKey, one_schema}
 use Rattle.rd_store.proofs.crash_laws.left_desks_open.Goals as goal

@@ -1,7 +1,4 @@
-use Rattle.std.proofs.Common.{Ok, Err, ℕ}
-use Rattle.sqlite.specs.declared.error.Error.{Error}
-use Rattle.rd_store.specs.Created.{HasFirstTables, empty_desk, new_desk}
-use Rattle.rd_store.specs.Held.{IsOf, Moves}
+use Rattle.rd_store.proofs.Common.{Ok, Err, ℕ, Error, HasFirstTables, empty_desk, new_desk, IsOf, Moves}
 use Rattle.rd_store.proofs.CreationLemmas.{no_key}
 use Rattle.rd_store.proofs.TransactionSteps.{and_then, stopped}
 use Rattle.rd_store.proofs.create.fill.Goals as goal

@@ -1,9 +1,4 @@
-use Rattle.std.proofs.Common.{[]}
-use Rattle.rd_tables.specs.Schemas.{desk_schema}
-use Rattle.rd_tables.specs.Statements.{put_version_text, put_version}
-use Rattle.rd_tables.proofs.StatementTexts.{put_version_writes}
-use Rattle.rd_store.specs.Created.{HasFirstTables, empty_desk}
-use Rattle.rd_store.specs.Held.{IsOf}
+use Rattle.rd_store.proofs.Common.{[], desk_schema, put_version_text, put_version, put_version_writes, HasFirstTables, empty_desk, IsOf}
 use Rattle.rd_store.proofs.CreationLemmas.{makes_version, made_schema}
 use Rattle.rd_store.proofs.TransactionSteps.{moves}
 use Rattle.rd_store.proofs.create.insert_version.Goals as goal

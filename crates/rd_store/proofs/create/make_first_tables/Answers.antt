@@ -1,7 +1,4 @@
-use Rattle.std.proofs.Common.{◌≡◌, subst, rules, Ok, Err}
-use Rattle.sqlite.specs.declared.error.Error.{Error}
-use Rattle.rd_store.specs.Created.{HasFirstTables, Turns}
-use Rattle.rd_store.specs.Held.{Moves}
+use Rattle.rd_store.proofs.Common.{◌≡◌, subst, rules, Ok, Err, Error, HasFirstTables, Turns, Moves}
 use Rattle.rd_store.proofs.Laws.{Laws, clean_at}
 use Rattle.rd_store.proofs.TransactionSteps.{begun, undoes, commits}
 use Rattle.rd_store.proofs.create.make_first_tables.Goals as goal

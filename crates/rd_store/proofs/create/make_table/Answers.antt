@@ -1,11 +1,4 @@
-use Rattle.std.proofs.Common.{[], get_or, ◌+◌, IsTrue}
-use Rattle.sqlite.specs.Command.TheVariants.{CreateTable}
-use Rattle.sqlite.specs.State.{ExecutesInside}
-use Rattle.sqlite.specs.Held.{state}
-use Rattle.rd_tables.specs.Statements.{create_texts, schema_after}
-use Rattle.rd_tables.proofs.CreateTexts.{creates_writes}
-use Rattle.rd_store.specs.Created.{HasFirstTables}
-use Rattle.rd_store.specs.Held.{IsClean}
+use Rattle.rd_store.proofs.Common.{[], get_or, ◌+◌, IsTrue, CreateTable, ExecutesInside, state, create_texts, schema_after, creates_writes, HasFirstTables, IsClean}
 use Rattle.rd_store.proofs.CreationLemmas.{makes_table, made_schema}
 use Rattle.rd_store.proofs.TransactionSteps.{moves}
 use Rattle.rd_store.proofs.create.make_table.Goals as goal

@@ -1,7 +1,4 @@
-use Rattle.std.proofs.Common.{◌≡◌, Ok}
-use Rattle.sqlite.specs.declared.error.Error.{Error}
-use Rattle.rd_store.specs.Created.{HasFirstTables}
-use Rattle.rd_store.specs.Held.{Moves}
+use Rattle.rd_store.proofs.Common.{◌≡◌, Ok, Error, HasFirstTables, Moves}
 use Rattle.rd_store.proofs.create.make_tables.Given as goal
 
 -- as many tables are made as there were turns

@@ -1,6 +1,4 @@
-use Rattle.std.proofs.Common.{below_more, ◌≡◌, ◌∙◌, ◌+◌, ◌*◌, ◌/◌, ◌<◌, ℕ, zero, suc, List, [], ◌∷◌, ap₂, arith, length, refl, slice_index, slice_set, sym}
-use Rattle.std.proofs.lemmas.List.{ext_get_or, get_or-set_other, get_or-set_same, length-set}
-use Rattle.rd_store.specs.Codes.{units_in}
+use Rattle.rd_store.proofs.Common.{below_more, ◌≡◌, ◌∙◌, ◌+◌, ◌*◌, ◌/◌, ◌<◌, ℕ, zero, suc, List, [], ◌∷◌, ap₂, arith, length, refl, slice_index, slice_set, sym, ext_get_or, get_or-set_other, get_or-set_same, length-set, units_in}
 use Rattle.rd_store.proofs.decode.spell_out.Goals as goal
 
 -- two bytes spell a unit

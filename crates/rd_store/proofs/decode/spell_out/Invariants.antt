@@ -1,5 +1,4 @@
-use Rattle.std.proofs.Common.{◌≡◌, ◌<◌, ◌/◌, ℕ, length, slice_index}
-use Rattle.rd_store.specs.Codes.{units_in}
+use Rattle.rd_store.proofs.Common.{◌≡◌, ◌<◌, ◌/◌, ℕ, length, slice_index, units_in}
 use Rattle.rd_store.proofs.decode.spell_out.Given as goal
 
 -- the units up to a place are spelled out

@@ -1,14 +1,4 @@
-use Rattle.std.proofs.Common.{IsTrue, w32}
-use Rattle.std.proofs.lemmas.Int.{to_z-of_z}
-use Rattle.sqlite.specs.State.{ExecutesInside}
-use Rattle.sqlite.specs.Held.{state}
-use Rattle.rd_tables.specs.Schemas.{desk_schema}
-use Rattle.rd_tables.specs.Statements.{put_deed_text, put_deed}
-use Rattle.rd_tables.proofs.Statements.{deed_params}
-use Rattle.rd_tables.proofs.StatementTexts.{put_deed_writes}
-use Rattle.rd_holdings.specs.declared.rows.DeedRow.{DeedRow}
-use Rattle.rd_holdings.specs.State.{with_deed}
-use Rattle.rd_store.specs.Held.{IsOf, IsClean}
+use Rattle.rd_store.proofs.Common.{IsTrue, w32, to_z-of_z, ExecutesInside, state, desk_schema, put_deed_text, put_deed, deed_params, put_deed_writes, DeedRow, with_deed, IsOf, IsClean}
 use Rattle.rd_store.proofs.TransactionSteps.{moves}
 use Rattle.rd_store.proofs.DatabaseSteps.{makes_new_deed, of_schema}
 use Rattle.rd_store.proofs.deeds.insert_deed_in.Goals as goal

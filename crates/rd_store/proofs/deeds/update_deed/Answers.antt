@@ -1,17 +1,7 @@
-use Rattle.std.proofs.Common.{w32}
-use Rattle.std.proofs.lemmas.Int.{to_z-of_z}
-use Rattle.sqlite.specs.State.{Executes, Survives, CommitsBy}
-use Rattle.sqlite.specs.Held.{state}
-use Rattle.rd_tables.specs.Statements.{set_deed_text, set_deed}
-use Rattle.rd_tables.proofs.Statements.{deed_params}
-use Rattle.rd_tables.proofs.StatementTexts.{set_deed_writes}
-use Rattle.rd_holdings.specs.declared.rows.DeedRow.{DeedRow}
-use Rattle.rd_store.specs.Held.{IsClean, desk}
-use Rattle.rd_holdings.specs.State.{with_deed}
+use Rattle.rd_store.proofs.Common.{w32, to_z-of_z, Executes, Survives, CommitsBy, state, set_deed_text, set_deed, deed_params, set_deed_writes, DeedRow, IsClean, desk, with_deed, lawful_deed}
 use Rattle.rd_store.proofs.Laws.{Laws}
 use Rattle.rd_store.proofs.StatementCalls.{single}
 use Rattle.rd_store.proofs.DatabaseSteps.{makes_deed}
-use Rattle.rd_holdings.proofs.Lawful.{lawful_deed}
 use Rattle.rd_store.proofs.deeds.update_deed.Goals as goal
 
 pub returns : goal.returns

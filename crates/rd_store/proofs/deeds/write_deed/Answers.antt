@@ -1,4 +1,4 @@
-use Rattle.std.proofs.Common.{◌≡◌, ◌∙◌, Option, Some, None, false, is_some, refl, sym}
+use Rattle.rd_store.proofs.Common.{◌≡◌, ◌∙◌, Option, Some, None, false, is_some, refl, sym}
 use Rattle.rd_store.proofs.deeds.write_deed.Goals as goal
 
 -- what is not there

@@ -1,7 +1,4 @@
-use Rattle.std.proofs.Common.{◌≡◌, ◌∙◌, Option, None, Some, ap, map, slice_get}
-use Rattle.std.specs.Option.{option_to_list}
-use Rattle.rd_volume.specs.declared.found.Found.{Found}
-use Rattle.rd_store.specs.Spelled.{file_in, file_shown}
+use Rattle.rd_store.proofs.Common.{◌≡◌, ◌∙◌, Option, None, Some, ap, map, slice_get, option_to_list, Found, file_in, file_shown}
 use Rattle.rd_store.proofs.Orders.{file_back}
 use Rattle.rd_store.proofs.files.first_file.Goals as goal
 

@@ -1,5 +1,4 @@
-use Rattle.std.proofs.Common.{◌≡◌, get_or, sym}
-use Rattle.rd_volume.specs.declared.found.Found.{Found}
+use Rattle.rd_store.proofs.Common.{◌≡◌, get_or, sym, Found}
 use Rattle.rd_store.proofs.files.insert_file.Goals as goal
 
 pub returns-in-Ok-clause-moves : goal.returns-in-Ok-clause-moves

@@ -1,7 +1,4 @@
-use Rattle.std.proofs.Common.{◌≡◌, ◌+◌, ◌∙◌, ℕ, Ok, Err, length, subst, arith}
-use Rattle.sqlite.specs.declared.error.Error.{Error}
-use Rattle.rd_store.specs.Held.{IsDeskWith, Moves}
-use Rattle.rd_store.specs.Index.{IsFiledTo}
+use Rattle.rd_store.proofs.Common.{◌≡◌, ◌+◌, ◌∙◌, ℕ, Ok, Err, length, subst, arith, Error, IsDeskWith, Moves, IsFiledTo}
 use Rattle.rd_store.proofs.TransactionSteps.{and_then, stopped}
 use Rattle.rd_store.proofs.files.insert_files.Goals as goal
 

@@ -1,7 +1,4 @@
-use Rattle.std.proofs.Common.{◌≡◌, Ok}
-use Rattle.sqlite.specs.declared.error.Error.{Error}
-use Rattle.rd_store.specs.Held.{IsDeskWith, Moves}
-use Rattle.rd_store.specs.Index.{IsFiledTo}
+use Rattle.rd_store.proofs.Common.{◌≡◌, Ok, Error, IsDeskWith, Moves, IsFiledTo}
 use Rattle.rd_store.proofs.files.insert_files.Given as goal
 
 -- as many files are in the index as there were turns

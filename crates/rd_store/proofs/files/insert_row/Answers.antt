@@ -1,15 +1,5 @@
-use Rattle.std.proofs.Common.{◌≡◌, ◌+◌, ◌∷◌, Option, None, Some, ℕ, pos, option_map, refl, IsTrue}
+use Rattle.rd_store.proofs.Common.{◌≡◌, ◌+◌, ◌∷◌, Option, None, Some, ℕ, pos, option_map, refl, IsTrue, ExecutesInside, state, bound_value, or_null, Int, desk_schema, put_file_text, put_file, put_file_writes, IsDeskWith, IsClean, IsFiledTo, file_shown}
 use Rattle.sqlite.specs.contracts.types.U32ToSql.TheImpl as u32
-use Rattle.sqlite.specs.State.{ExecutesInside}
-use Rattle.sqlite.specs.Held.{state}
-use Rattle.sqlite.specs.Values.{bound_value, or_null}
-use Rattle.sqlite.specs.declared.types.Value.TheVariants.{Int}
-use Rattle.rd_tables.specs.Schemas.{desk_schema}
-use Rattle.rd_tables.specs.Statements.{put_file_text, put_file}
-use Rattle.rd_tables.proofs.StatementTexts.{put_file_writes}
-use Rattle.rd_store.specs.Held.{IsDeskWith, IsClean}
-use Rattle.rd_store.specs.Index.{IsFiledTo}
-use Rattle.rd_store.specs.Spelled.{file_shown}
 use Rattle.rd_store.proofs.TransactionSteps.{moves}
 use Rattle.rd_store.proofs.DatabaseSteps.{makes_file, with_schema}
 use Rattle.rd_store.proofs.files.insert_row.Goals as goal

@@ -1,5 +1,4 @@
-use Rattle.std.proofs.Common.{◌≡◌, map, take}
-use Rattle.rd_store.specs.Spelled.{file_in}
+use Rattle.rd_store.proofs.Common.{◌≡◌, map, take, file_in}
 use Rattle.rd_store.proofs.files.read_files.Given as goal
 
 abbrev pub invariant-loop-row : goal.invariant-loop-row

@@ -1,18 +1,4 @@
-use Rattle.std.proofs.Common.{◌∷◌, [], List, pos, sym, subst, subst₂}
-use Rattle.std.specs.Prelude.{MatchBool}
-use Rattle.sqlite.specs.declared.types.Value.TheVariants.{Int}
-use Rattle.sqlite.specs.Effect.{Database}
-use Rattle.sqlite.specs.Held.{state}
-use Rattle.sqlite.specs.Order.{Row}
-use Rattle.rd_volume.specs.Volumes.{AreFounds}
-use Rattle.rd_volume.specs.declared.found.Found.{Found}
-use Rattle.rd_tables.specs.Asked.{IsPicked}
-use Rattle.rd_tables.specs.Queries.{files_query}
-use Rattle.rd_store.specs.RowColumns.{ShowFiles}
-use Rattle.rd_store.specs.Index.{AreFilesIn}
-use Rattle.rd_store.specs.Opened.{image_if}
-use Rattle.rd_store.specs.Walked.{HasDiskOnce, HasFilesOnce, IsLawfulAt, IsLawfulDisk}
-use Rattle.rd_holdings.specs.declared.rows.ImageRow.{ImageRow}
+use Rattle.rd_store.proofs.Common.{◌∷◌, [], List, pos, sym, subst, subst₂, MatchBool, Int, Database, state, Row, AreFounds, Found, IsPicked, files_query, ShowFiles, AreFilesIn, image_if, HasDiskOnce, HasFilesOnce, IsLawfulAt, IsLawfulDisk, ImageRow}
 use Rattle.rd_store.proofs.IndexTests.{has_files, shows_files}
 use Rattle.rd_store.proofs.Laws.{stays_common, stays_then}
 use Rattle.rd_store.proofs.ImageWalks.{part_refused}

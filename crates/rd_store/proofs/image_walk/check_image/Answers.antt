@@ -1,10 +1,4 @@
-use Rattle.std.proofs.Common.{◌≡◌, ◌∙◌, ℕ, ap, subst, subst₂, sym}
-use Rattle.sqlite.specs.Held.{state}
-use Rattle.sqlite.specs.Order.{column}
-use Rattle.rd_tables.specs.Spellings.{natural}
-use Rattle.rd_store.specs.declared.images.Heading.{Heading}
-use Rattle.rd_store.specs.Opened.{HoldsMarksIf}
-use Rattle.rd_store.specs.Walked.{HasFilesOnce, IsJudgedImage, IsLawfulAt, LawfulWalk, StandsOnce}
+use Rattle.rd_store.proofs.Common.{◌≡◌, ◌∙◌, ℕ, ap, subst, subst₂, sym, state, column, natural, Heading, HoldsMarksIf, HasFilesOnce, IsJudgedImage, IsLawfulAt, LawfulWalk, StandsOnce}
 use Rattle.rd_store.proofs.Laws.{stays_here}
 use Rattle.rd_store.proofs.ImageWalks.{among_read, lawful_at, lawful_read, part_ok, part_refused, read_once, sql_part}
 use Rattle.rd_store.proofs.image_walk.check_image.Goals as goal

@@ -1,8 +1,4 @@
-use Rattle.std.proofs.Common.{[]}
-use Rattle.std.proofs.lemmas.Result.{IfOk-weaker}
-use Rattle.sqlite.specs.Held.{state}
-use Rattle.rd_tables.proofs.QueryTexts.{first_images_asks}
-use Rattle.rd_tables.proofs.QueryEffects.{shown_starts, shown_was_open}
+use Rattle.rd_store.proofs.Common.{[], IfOk-weaker, state, first_images_asks, shown_starts, shown_was_open}
 use Rattle.rd_store.proofs.image_walk.first_rows.Goals as goal
 
 pub read_over-requires : goal.read_over-requires

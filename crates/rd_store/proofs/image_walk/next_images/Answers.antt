@@ -1,7 +1,4 @@
-use Rattle.std.proofs.Common.{rules, refl, subst, sym}
-use Rattle.sqlite.specs.Held.{state}
-use Rattle.rd_tables.specs.Asked.{AreRising}
-use Rattle.rd_store.specs.Walked.{AreBatchOf}
+use Rattle.rd_store.proofs.Common.{rules, refl, subst, sym, state, AreRising, AreBatchOf}
 use Rattle.rd_store.proofs.ImageWalks.{batch_of}
 use Rattle.rd_store.proofs.image_walk.next_images.Goals as goal
 

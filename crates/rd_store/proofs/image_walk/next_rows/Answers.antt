@@ -1,6 +1,4 @@
-use Rattle.std.proofs.Common.{ℕ, Option, IfOk, subst, sym}
-use Rattle.sqlite.specs.Held.{state}
-use Rattle.rd_store.specs.Walked.{AreNextOf}
+use Rattle.rd_store.proofs.Common.{ℕ, Option, IfOk, subst, sym, state, AreNextOf}
 use Rattle.rd_store.proofs.image_walk.next_rows.Goals as goal
 
 pub returns-in-Some : goal.returns-in-Some

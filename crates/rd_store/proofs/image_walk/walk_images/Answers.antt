@@ -1,11 +1,4 @@
-use Rattle.std.proofs.Common.{◌≡◌, ◌∙◌, List, Option, ℕ, ap, eqb-true, length, rules, subst, sym, vec_len}
-use Rattle.std.specs.Prelude.{⊤}
-use Rattle.sqlite.specs.Effect.{Database}
-use Rattle.sqlite.specs.Held.{state}
-use Rattle.rd_tables.proofs.ListLemmas.{empty_by_length}
-use Rattle.rd_store.specs.declared.images.Heading.{Heading}
-use Rattle.rd_store.specs.Opened.{LawfulImages}
-use Rattle.rd_store.specs.Walked.{AreBatchOf, AreReadNext, IsWalkTo, LawfulWalk, last_number}
+use Rattle.rd_store.proofs.Common.{◌≡◌, ◌∙◌, List, Option, ℕ, ap, eqb-true, length, rules, subst, sym, vec_len, ⊤, Database, state, empty_by_length, Heading, LawfulImages, AreBatchOf, AreReadNext, IsWalkTo, LawfulWalk, last_number}
 use Rattle.rd_store.proofs.Laws.{stays_common, stays_here, stays_marks, stays_then}
 use Rattle.rd_store.proofs.ImageWalks.{part_refused, sql_part, starts_to, then_part, walked_all, walked_lawful}
 use Rattle.rd_store.proofs.image_walk.walk_images.Goals as goal

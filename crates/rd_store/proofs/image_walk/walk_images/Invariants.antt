@@ -1,6 +1,4 @@
-use Rattle.sqlite.specs.Held.{state}
-use Rattle.rd_store.specs.Held.{IsClean, IsOpen, Stays}
-use Rattle.rd_store.specs.Walked.{IsWalkTo}
+use Rattle.rd_store.proofs.Common.{state, IsClean, IsOpen, Stays, IsWalkTo}
 use Rattle.rd_store.proofs.image_walk.walk_images.Given as goal
 
 -- the entries so far are those of the images up to the last of them, all of which were judged

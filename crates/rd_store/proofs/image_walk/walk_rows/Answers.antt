@@ -1,11 +1,4 @@
-use Rattle.std.proofs.Common.{◌≡◌, ◌∙◌, ◌∷◌, ◌+◌, List, ℕ, ap, arith, drop, subst, sym}
-use Rattle.std.specs.Prelude.{⊤}
-use Rattle.std.proofs.lemmas.List.{drop_more}
-use Rattle.sqlite.specs.Effect.{Database}
-use Rattle.sqlite.specs.Held.{state}
-use Rattle.sqlite.specs.Order.{Row}
-use Rattle.rd_store.specs.declared.images.Heading.{Heading}
-use Rattle.rd_store.specs.Walked.{AreReadNext, IsJudgedImage, IsReadOf, IsWalkTo, LawfulWalk, last_number}
+use Rattle.rd_store.proofs.Common.{◌≡◌, ◌∙◌, ◌∷◌, ◌+◌, List, ℕ, ap, arith, drop, subst, sym, ⊤, drop_more, Database, state, Row, Heading, AreReadNext, IsJudgedImage, IsReadOf, IsWalkTo, LawfulWalk, last_number}
 use Rattle.rd_store.proofs.Laws.{stays_common, stays_here, stays_marks, stays_then}
 use Rattle.rd_store.proofs.ImageWalks.{goes_on, next_entry, part_refused, read_of, rest_next, sql_part, then_part}
 use Rattle.rd_store.proofs.image_walk.walk_rows.Goals as goal

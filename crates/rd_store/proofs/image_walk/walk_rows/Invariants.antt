@@ -1,7 +1,4 @@
-use Rattle.std.proofs.Common.{drop}
-use Rattle.sqlite.specs.Held.{state}
-use Rattle.rd_store.specs.Held.{IsClean, IsOpen, Stays}
-use Rattle.rd_store.specs.Walked.{AreReadNext, IsWalkTo, last_number}
+use Rattle.rd_store.proofs.Common.{drop, state, IsClean, IsOpen, Stays, AreReadNext, IsWalkTo, last_number}
 use Rattle.rd_store.proofs.image_walk.walk_rows.Given as goal
 
 -- the entries so far are those of the images up to the row at this place, and the rows from there come next

@@ -1,6 +1,4 @@
-use Rattle.std.proofs.Common.{◌≡◌, ◌≢◌, ◌∙◌, rules, sym, true≢false}
-use Rattle.sqlite.specs.Held.{state}
-use Rattle.rd_geometry.specs.declared.kind.Kind.TheVariants.{D64}
+use Rattle.rd_store.proofs.Common.{◌≡◌, ◌≢◌, ◌∙◌, rules, sym, true≢false, state, D64}
 use Rattle.rd_store.proofs.IndexTests.{has_disk, marked_image, no_disk, unmarked_image}
 use Rattle.rd_store.proofs.Laws.{stays_here}
 use Rattle.rd_store.proofs.image_walk.whole_image.Goals as goal

@@ -1,6 +1,4 @@
-use Rattle.std.proofs.Common.{rules, ◌∙◌}
-use Rattle.std.proofs.lemmas.Result.{IfOk-weaker}
-use Rattle.sqlite.specs.Held.{state}
+use Rattle.rd_store.proofs.Common.{rules, ◌∙◌, IfOk-weaker, state}
 use Rattle.rd_store.proofs.QueryResults.{image_found, rows_back}
 use Rattle.rd_store.proofs.images.image_at.Goals as goal
 

@@ -1,9 +1,4 @@
-use Rattle.std.proofs.Common.{[], ◌∷◌, pos}
-use Rattle.std.proofs.lemmas.Result.{IfOk-weaker}
-use Rattle.sqlite.specs.declared.types.Value.TheVariants.{Int}
-use Rattle.sqlite.specs.Held.{state}
-use Rattle.rd_tables.proofs.QueryTexts.{image_asks}
-use Rattle.rd_tables.proofs.QueryEffects.{shown_was_open, shown_picks}
+use Rattle.rd_store.proofs.Common.{[], ◌∷◌, pos, IfOk-weaker, Int, state, image_asks, shown_was_open, shown_picks}
 use Rattle.rd_store.proofs.images.image_rows.Goals as goal
 
 pub read_over-requires : goal.read_over-requires

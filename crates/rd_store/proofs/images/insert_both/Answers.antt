@@ -1,15 +1,4 @@
-use Rattle.std.proofs.Common.{◌≡◌, ◌++◌, ◌∙◌, ℕ, Ok, Err, Some, ap, sym, subst}
-use Rattle.std.specs.FinMap.{insert}
-use Rattle.sqlite.specs.declared.error.Error.{Error}
-use Rattle.rd_geometry.specs.declared.kind.Kind.TheVariants.{D64}
-use Rattle.rd_tables.proofs.Entries.{get_inserted}
-use Rattle.rd_holdings.specs.declared.rows.ImageRow.{ImageRow}
-use Rattle.rd_store.specs.Codes.{kind_code, kind_in}
-use Rattle.rd_store.specs.Held.{IsDeskWith, LacksImage, Moves}
-use Rattle.rd_store.specs.Index.{IsFiledTo, with_new_image}
-use Rattle.rd_store.specs.Marks.{with_marks}
-use Rattle.rd_store.specs.Shown.{as_row, image_with}
-use Rattle.rd_holdings.specs.State.{Desk}
+use Rattle.rd_store.proofs.Common.{◌≡◌, ◌++◌, ◌∙◌, ℕ, Ok, Err, Some, ap, sym, subst, insert, Error, D64, get_inserted, ImageRow, kind_code, kind_in, IsDeskWith, LacksImage, Moves, IsFiledTo, with_new_image, with_marks, as_row, image_with, Desk}
 use Rattle.rd_store.proofs.TransactionSteps.{and_then, stopped}
 use Rattle.rd_store.proofs.MarkedImages.{image_again}
 use Rattle.rd_store.proofs.Orders.{number_order}

@@ -1,10 +1,4 @@
-use Rattle.std.proofs.Common.{◌≢◌, ℕ, rules, subst}
-use Rattle.sqlite.specs.declared.error.Error.{Error}
-use Rattle.rd_geometry.specs.declared.kind.Kind.TheVariants.{D64e}
-use Rattle.rd_holdings.specs.declared.rows.ImageRow.{ImageRow}
-use Rattle.rd_store.specs.Held.{IsDeskWith, LacksImage, Moves}
-use Rattle.rd_store.specs.Index.{IsFiledTo, with_new_image}
-use Rattle.rd_store.specs.Shown.{image_with}
+use Rattle.rd_store.proofs.Common.{◌≢◌, ℕ, rules, subst, Error, D64e, ImageRow, IsDeskWith, LacksImage, Moves, IsFiledTo, with_new_image, image_with}
 use Rattle.rd_store.proofs.MarkedImages.{plain_as_row}
 use Rattle.rd_store.proofs.images.insert_image.Goals as goal
 

@@ -1,14 +1,4 @@
-use Rattle.std.proofs.Common.{IsTrue}
-use Rattle.sqlite.specs.State.{ExecutesInside}
-use Rattle.sqlite.specs.Held.{state}
-use Rattle.rd_tables.specs.Schemas.{desk_schema}
-use Rattle.rd_tables.specs.Statements.{put_image_text, put_image}
-use Rattle.rd_tables.proofs.Statements.{image_params}
-use Rattle.rd_tables.proofs.StatementTexts.{put_image_writes}
-use Rattle.rd_store.specs.Codes.{kind_code}
-use Rattle.rd_store.specs.Held.{IsDeskWith, IsClean, LacksImage}
-use Rattle.rd_store.specs.Index.{IsFiledTo, with_new_image}
-use Rattle.rd_store.specs.Shown.{as_row, image_with}
+use Rattle.rd_store.proofs.Common.{IsTrue, ExecutesInside, state, desk_schema, put_image_text, put_image, image_params, put_image_writes, kind_code, IsDeskWith, IsClean, LacksImage, IsFiledTo, with_new_image, as_row, image_with}
 use Rattle.rd_store.proofs.TransactionSteps.{moves}
 use Rattle.rd_store.proofs.DatabaseSteps.{makes_image, lacks_schema}
 use Rattle.rd_store.proofs.images.insert_row.Goals as goal

@@ -1,6 +1,4 @@
-use Rattle.std.proofs.Common.{◌≡◌, map, take}
-use Rattle.sqlite.specs.Order.{column}
-use Rattle.rd_tables.specs.Spellings.{natural}
+use Rattle.rd_store.proofs.Common.{◌≡◌, map, take, column, natural}
 use Rattle.rd_store.proofs.images.read_numbers.Given as goal
 
 abbrev pub invariant-loop-row : goal.invariant-loop-row

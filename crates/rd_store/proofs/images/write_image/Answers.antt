@@ -1,10 +1,4 @@
-use Rattle.std.proofs.Common.{◌≡◌, length, subst, rules, Ok, Err, refl, ℕ}
-use Rattle.sqlite.specs.declared.error.Error.{Error}
-use Rattle.sqlite.specs.Held.{state}
-use Rattle.rd_store.specs.Held.{IsOf, IsDeskWith, HoldsDesk, LacksImage, Moves, Changes, desk}
-use Rattle.rd_store.specs.Index.{IsFiledTo, with_new_image}
-use Rattle.rd_store.specs.Shown.{image_with}
-use Rattle.rd_holdings.specs.State.{with_image}
+use Rattle.rd_store.proofs.Common.{◌≡◌, length, subst, rules, Ok, Err, refl, ℕ, Error, state, IsOf, IsDeskWith, HoldsDesk, LacksImage, Moves, Changes, desk, IsFiledTo, with_new_image, image_with, with_image}
 use Rattle.rd_store.proofs.Laws.{Laws, clean_at}
 use Rattle.rd_store.proofs.TransactionSteps.{begun, and_then, moves_to, stopped, undoes, commits}
 use Rattle.rd_store.proofs.DatabaseSteps.{filed_whole}

@@ -1,8 +1,4 @@
-use Rattle.std.proofs.Common.{rules, List, All, subst}
-use Rattle.std.specs.Prelude.{true, false}
-use Rattle.sqlite.specs.Held.{state}
-use Rattle.sqlite.specs.Order.{Row}
-use Rattle.rd_store.specs.RowColumns.{IsFiledRow}
+use Rattle.rd_store.proofs.Common.{rules, List, All, subst, true, false, state, Row, IsFiledRow}
 use Rattle.rd_store.proofs.IndexTests.{filed_told}
 use Rattle.rd_store.proofs.index_checks.check_filed.Goals as goal
 

@@ -1,8 +1,4 @@
-use Rattle.std.proofs.Common.{◌≡◌, ◌∙◌, inl, inr, ◌<◌, ap, arith, get_or, length, subst, subst₂, sym}
-use Rattle.std.specs.Prelude.{MatchBool}
-use Rattle.sqlite.specs.Order.{Row}
-use Rattle.rd_volume.specs.declared.found.Found.{Found}
-use Rattle.rd_store.specs.RowColumns.{IsFileRow}
+use Rattle.rd_store.proofs.Common.{◌≡◌, ◌∙◌, inl, inr, ◌<◌, ap, arith, get_or, length, subst, subst₂, sym, MatchBool, Row, Found, IsFileRow}
 use Rattle.rd_store.proofs.Listings.{any_default, below_or_at}
 use Rattle.rd_store.proofs.index_checks.show_files.Goals as goal
 

@@ -1,7 +1,4 @@
-use Rattle.std.proofs.Common.{◌<◌, ℕ, get_or, length}
-use Rattle.sqlite.specs.Order.{Row}
-use Rattle.rd_volume.specs.declared.found.Found.{Found}
-use Rattle.rd_store.specs.RowColumns.{IsFileRow}
+use Rattle.rd_store.proofs.Common.{◌<◌, ℕ, get_or, length, Row, Found, IsFileRow}
 use Rattle.rd_store.proofs.index_checks.show_files.Given as goal
 
 abbrev pub invariant-loop-at : goal.invariant-loop-at

@@ -1,12 +1,4 @@
-use Rattle.std.proofs.Common.{IsTrue}
-use Rattle.sqlite.specs.State.{ExecutesInside}
-use Rattle.sqlite.specs.Held.{state}
-use Rattle.rd_tables.specs.Schemas.{desk_schema}
-use Rattle.rd_tables.specs.Statements.{drop_key_text, drop_key}
-use Rattle.rd_tables.proofs.Statements.{digest_params}
-use Rattle.rd_tables.proofs.StatementTexts.{drop_key_writes}
-use Rattle.rd_store.specs.Held.{IsOf, IsClean}
-use Rattle.rd_holdings.specs.State.{without_key}
+use Rattle.rd_store.proofs.Common.{IsTrue, ExecutesInside, state, desk_schema, drop_key_text, drop_key, digest_params, drop_key_writes, IsOf, IsClean, without_key}
 use Rattle.rd_store.proofs.TransactionSteps.{moves}
 use Rattle.rd_store.proofs.DatabaseSteps.{makes_no_key, of_schema}
 use Rattle.rd_store.proofs.keys.delete_digest.Goals as goal

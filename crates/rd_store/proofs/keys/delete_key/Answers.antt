@@ -1,14 +1,7 @@
-use Rattle.sqlite.specs.State.{Executes, Survives, CommitsBy}
-use Rattle.sqlite.specs.Held.{state}
-use Rattle.rd_tables.specs.Statements.{drop_key_text, drop_key}
-use Rattle.rd_tables.proofs.Statements.{digest_params}
-use Rattle.rd_tables.proofs.StatementTexts.{drop_key_writes}
-use Rattle.rd_store.specs.Held.{IsClean, desk}
-use Rattle.rd_holdings.specs.State.{without_key}
+use Rattle.rd_store.proofs.Common.{Executes, Survives, CommitsBy, state, drop_key_text, drop_key, digest_params, drop_key_writes, IsClean, desk, without_key, lawful_no_key}
 use Rattle.rd_store.proofs.Laws.{Laws}
 use Rattle.rd_store.proofs.StatementCalls.{single}
 use Rattle.rd_store.proofs.DatabaseSteps.{makes_no_key}
-use Rattle.rd_holdings.proofs.Lawful.{lawful_no_key}
 use Rattle.rd_store.proofs.keys.delete_key.Goals as goal
 
 pub returns : goal.returns

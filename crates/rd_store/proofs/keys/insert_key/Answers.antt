@@ -1,13 +1,4 @@
-use Rattle.std.proofs.Common.{IsTrue}
-use Rattle.sqlite.specs.State.{ExecutesInside}
-use Rattle.sqlite.specs.Held.{state}
-use Rattle.rd_tables.specs.Schemas.{desk_schema}
-use Rattle.rd_tables.specs.Statements.{put_key_text, put_key}
-use Rattle.rd_tables.proofs.Statements.{key_params}
-use Rattle.rd_tables.proofs.StatementTexts.{put_key_writes}
-use Rattle.rd_store.specs.Codes.{audience_code}
-use Rattle.rd_store.specs.Held.{IsOf, IsClean}
-use Rattle.rd_holdings.specs.State.{with_key}
+use Rattle.rd_store.proofs.Common.{IsTrue, ExecutesInside, state, desk_schema, put_key_text, put_key, key_params, put_key_writes, audience_code, IsOf, IsClean, with_key}
 use Rattle.rd_store.proofs.TransactionSteps.{moves}
 use Rattle.rd_store.proofs.DatabaseSteps.{makes_key, of_schema}
 use Rattle.rd_store.proofs.keys.insert_key.Goals as goal

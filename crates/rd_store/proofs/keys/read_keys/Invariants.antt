@@ -1,5 +1,4 @@
-use Rattle.std.proofs.Common.{◌≡◌, map, take}
-use Rattle.rd_store.specs.Spelled.{key_spelling}
+use Rattle.rd_store.proofs.Common.{◌≡◌, map, take, key_spelling}
 use Rattle.rd_store.proofs.keys.read_keys.Given as goal
 
 abbrev pub invariant-loop-row : goal.invariant-loop-row

@@ -1,8 +1,4 @@
-use Rattle.std.proofs.Common.{◌∙◌, All, sym, subst, true≢false, arith}
-use Rattle.std.proofs.lemmas.List.{take_all}
-use Rattle.std.proofs.lemmas.List.Elements.{All-more}
-use Rattle.sqlite.specs.Order.{Row}
-use Rattle.rd_store.specs.Shown.{ShowsOther}
+use Rattle.rd_store.proofs.Common.{◌∙◌, All, sym, subst, true≢false, arith, take_all, All-more, Row, ShowsOther}
 use Rattle.rd_store.proofs.keys.show_other.Goals as goal
 
 pub loop-row-preserved : goal.loop-row-preserved

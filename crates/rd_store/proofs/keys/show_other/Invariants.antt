@@ -1,5 +1,4 @@
-use Rattle.std.proofs.Common.{All, take}
-use Rattle.rd_store.specs.Shown.{ShowsOther}
+use Rattle.rd_store.proofs.Common.{All, take, ShowsOther}
 use Rattle.rd_store.proofs.keys.show_other.Given as goal
 
 abbrev pub invariant-loop-row : goal.invariant-loop-row

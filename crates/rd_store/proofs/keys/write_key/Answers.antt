@@ -1,12 +1,6 @@
-use Rattle.std.proofs.Common.{◌≡◌, subst, rules, Ok, Err, refl, ℕ}
-use Rattle.sqlite.specs.declared.error.Error.{Error}
-use Rattle.sqlite.specs.Held.{state}
-use Rattle.rd_tables.proofs.Entries.{get_removed, insert_removed}
-use Rattle.rd_store.specs.Held.{IsOf, HoldsDesk, Moves, Changes, desk}
-use Rattle.rd_holdings.specs.State.{Desk, digest_cmp, with_key, without_key}
+use Rattle.rd_store.proofs.Common.{◌≡◌, subst, rules, Ok, Err, refl, ℕ, Error, state, get_removed, insert_removed, IsOf, HoldsDesk, Moves, Changes, desk, Desk, digest_cmp, with_key, without_key, lawful_key}
 use Rattle.rd_store.proofs.Laws.{Laws, clean_at}
 use Rattle.rd_store.proofs.Orders.{digest_order}
-use Rattle.rd_holdings.proofs.Lawful.{lawful_key}
 use Rattle.rd_store.proofs.TransactionSteps.{begun, and_then, stopped, undoes, commits}
 use Rattle.rd_store.proofs.Transactions.{starts, changes}
 use Rattle.rd_store.proofs.keys.write_key.Goals as goal

@@ -1,13 +1,4 @@
-use Rattle.std.proofs.Common.{IsTrue, Some}
-use Rattle.sqlite.specs.State.{ExecutesInside}
-use Rattle.sqlite.specs.Held.{state}
-use Rattle.rd_tables.specs.Schemas.{desk_schema}
-use Rattle.rd_tables.specs.Statements.{put_marks_text, put_marks}
-use Rattle.rd_tables.proofs.Statements.{marks_params}
-use Rattle.rd_tables.proofs.StatementTexts.{put_marks_writes}
-use Rattle.rd_store.specs.Held.{IsDeskWith, IsClean}
-use Rattle.rd_store.specs.Index.{IsFiledTo, with_new_image}
-use Rattle.rd_store.specs.Marks.{with_marks}
+use Rattle.rd_store.proofs.Common.{IsTrue, Some, ExecutesInside, state, desk_schema, put_marks_text, put_marks, marks_params, put_marks_writes, IsDeskWith, IsClean, IsFiledTo, with_new_image, with_marks}
 use Rattle.rd_store.proofs.TransactionSteps.{moves}
 use Rattle.rd_store.proofs.DatabaseSteps.{makes_marks, with_schema}
 use Rattle.rd_store.proofs.marks.insert_marks.Goals as goal

@@ -1,10 +1,4 @@
-use Rattle.std.proofs.Common.{◌≢◌, ◌∙◌, Some, ap, rules, sym}
-use Rattle.std.proofs.lemmas.Result.{IfOk-weaker}
-use Rattle.sqlite.specs.Held.{state}
-use Rattle.rd_geometry.specs.declared.kind.Kind.TheVariants.{D64}
-use Rattle.rd_tables.specs.Spellings.{map_of}
-use Rattle.rd_store.specs.Marks.{with_marks}
-use Rattle.rd_store.specs.Spelled.{image_spelling, marks_spelling}
+use Rattle.rd_store.proofs.Common.{◌≢◌, ◌∙◌, Some, ap, rules, sym, IfOk-weaker, state, D64, map_of, with_marks, image_spelling, marks_spelling}
 use Rattle.rd_store.proofs.MarkedImages.{joined_at, no_others}
 use Rattle.rd_store.proofs.Laws.{holds_tables, stays_still}
 use Rattle.rd_store.proofs.marks.marked_image.Goals as goal

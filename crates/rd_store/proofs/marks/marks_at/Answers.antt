@@ -1,6 +1,4 @@
-use Rattle.std.proofs.Common.{rules, ◌∙◌}
-use Rattle.std.proofs.lemmas.Result.{IfOk-weaker}
-use Rattle.sqlite.specs.Held.{state}
+use Rattle.rd_store.proofs.Common.{rules, ◌∙◌, IfOk-weaker, state}
 use Rattle.rd_store.proofs.QueryResults.{marks_found}
 use Rattle.rd_store.proofs.marks.marks_at.Goals as goal
 

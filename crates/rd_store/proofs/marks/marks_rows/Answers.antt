@@ -1,9 +1,4 @@
-use Rattle.std.proofs.Common.{[], ◌∷◌, pos}
-use Rattle.std.proofs.lemmas.Result.{IfOk-weaker}
-use Rattle.sqlite.specs.declared.types.Value.TheVariants.{Int}
-use Rattle.sqlite.specs.Held.{state}
-use Rattle.rd_tables.proofs.QueryTexts.{marks_asks}
-use Rattle.rd_tables.proofs.QueryEffects.{shown_was_open, shown_picks}
+use Rattle.rd_store.proofs.Common.{[], ◌∷◌, pos, IfOk-weaker, Int, state, marks_asks, shown_was_open, shown_picks}
 use Rattle.rd_store.proofs.marks.marks_rows.Goals as goal
 
 pub read_all-requires-clause-plain : goal.read_all-requires-clause-plain

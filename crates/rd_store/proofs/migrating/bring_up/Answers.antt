@@ -1,7 +1,5 @@
+use Rattle.rd_store.proofs.Common.{state, IsOf, IsFirst, first_desk}
 use Rattle.rd_store.specs.declared.faults.OpenFault.TheVariants.{Sql}
-use Rattle.sqlite.specs.Held.{state}
-use Rattle.rd_store.specs.Held.{IsOf}
-use Rattle.rd_store.specs.Migrated.{IsFirst, first_desk}
 use Rattle.rd_store.proofs.MigrationLemmas.{not_begun, turns_told, turns_failed}
 use Rattle.rd_store.proofs.migrating.bring_up.Goals as goal
 

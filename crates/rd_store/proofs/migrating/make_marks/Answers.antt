@@ -1,12 +1,4 @@
-use Rattle.std.proofs.Common.{[], IsTrue, arith}
-use Rattle.sqlite.specs.Command.TheVariants.{CreateTable}
-use Rattle.sqlite.specs.State.{ExecutesInside}
-use Rattle.sqlite.specs.Held.{state}
-use Rattle.rd_tables.specs.Schemas.{first_schema}
-use Rattle.rd_tables.specs.Statements.{marks_text}
-use Rattle.rd_tables.proofs.CreateTexts.{creates_writes}
-use Rattle.rd_store.specs.Held.{IsClean}
-use Rattle.rd_store.specs.Migrated.{IsFirst, IsHalfway}
+use Rattle.rd_store.proofs.Common.{[], IsTrue, arith, CreateTable, ExecutesInside, state, first_schema, marks_text, creates_writes, IsClean, IsFirst, IsHalfway}
 use Rattle.rd_store.proofs.MigrationLemmas.{makes_marks}
 use Rattle.rd_store.proofs.TransactionSteps.{moves}
 use Rattle.rd_store.proofs.migrating.make_marks.Goals as goal

@@ -1,10 +1,4 @@
-use Rattle.std.proofs.Common.{◌≡◌, inl, subst, sym}
-use Rattle.sqlite.specs.Effect.{Database}
-use Rattle.sqlite.specs.Held.{state}
-use Rattle.rd_store.specs.Held.{IsOpen}
-use Rattle.rd_store.specs.Migrated.{IsHeldIn, IsNotMigrated, IsRegisterIn, first_desk}
-use Rattle.rd_store.specs.Register.{listed, register_of}
-use Rattle.rd_store.specs.declared.version.Version.{Version}
+use Rattle.rd_store.proofs.Common.{◌≡◌, inl, subst, sym, Database, state, IsOpen, IsHeldIn, IsNotMigrated, IsRegisterIn, first_desk, listed, register_of, Version}
 use Rattle.rd_store.proofs.MigrationLemmas.{all_brought, all_migrated, first_at, none_brought, opened_second, rests_by, untouched_by}
 use Rattle.rd_store.proofs.DatabaseTests.{err_told}
 use Rattle.rd_store.proofs.Laws.{Laws}

@@ -1,9 +1,4 @@
-use Rattle.std.proofs.Common.{[]}
-use Rattle.rd_tables.specs.Schemas.{desk_schema}
-use Rattle.rd_tables.specs.Statements.{set_version_text, set_version}
-use Rattle.rd_tables.proofs.StatementTexts.{set_version_writes}
-use Rattle.rd_store.specs.Held.{IsOf}
-use Rattle.rd_store.specs.Migrated.{IsHalfway}
+use Rattle.rd_store.proofs.Common.{[], desk_schema, set_version_text, set_version, set_version_writes, IsOf, IsHalfway}
 use Rattle.rd_store.proofs.MigrationLemmas.{makes_second}
 use Rattle.rd_store.proofs.TransactionSteps.{moves}
 use Rattle.rd_store.proofs.migrating.set_version.Goals as goal

@@ -1,7 +1,4 @@
-use Rattle.std.proofs.Common.{Ok, Err, ℕ}
-use Rattle.sqlite.specs.declared.error.Error.{Error}
-use Rattle.rd_store.specs.Held.{IsOf, Moves}
-use Rattle.rd_store.specs.Migrated.{IsFirst, IsHalfway}
+use Rattle.rd_store.proofs.Common.{Ok, Err, ℕ, Error, IsOf, Moves, IsFirst, IsHalfway}
 use Rattle.rd_store.proofs.TransactionSteps.{and_then, stopped}
 use Rattle.rd_store.proofs.migrating.write_second_tables.Goals as goal
 

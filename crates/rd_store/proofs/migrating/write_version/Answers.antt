@@ -1,9 +1,4 @@
-use Rattle.std.proofs.Common.{◌≡◌, ℕ, subst, rules, Ok, Err}
-use Rattle.sqlite.specs.declared.error.Error.{Error}
-use Rattle.sqlite.specs.Held.{state}
-use Rattle.rd_store.specs.Created.{Turns}
-use Rattle.rd_store.specs.Held.{IsOf, Moves}
-use Rattle.rd_store.specs.Migrated.{IsFirst, first_desk}
+use Rattle.rd_store.proofs.Common.{◌≡◌, ℕ, subst, rules, Ok, Err, Error, state, Turns, IsOf, Moves, IsFirst, first_desk}
 use Rattle.rd_store.proofs.Laws.{Laws, clean_at}
 use Rattle.rd_store.proofs.TransactionSteps.{begun, undoes, commits}
 use Rattle.rd_store.proofs.migrating.write_version.Goals as goal

@@ -1,5 +1,4 @@
-use Rattle.std.proofs.Common.{refl, subst}
-use Rattle.std.specs.List.Sorted.{IsNonDecreasing}
+use Rattle.rd_store.proofs.Common.{refl, subst, IsNonDecreasing}
 use Rattle.rd_store.proofs.opening.accessions_in.Goals as goal
 
 pub returns-in-Ok-clause-ascending : goal.returns-in-Ok-clause-ascending

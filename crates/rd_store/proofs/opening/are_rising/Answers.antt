@@ -1,4 +1,4 @@
-use Rattle.std.proofs.Common.{◌≡◌, inl, inr, ◌+◌, ◌-◌, [], slice_index_or, refl, arith}
+use Rattle.rd_store.proofs.Common.{◌≡◌, inl, inr, ◌+◌, ◌-◌, [], slice_index_or, refl, arith}
 use Rattle.rd_store.proofs.Listings.{below_or_at, at_default}
 use Rattle.rd_store.proofs.opening.are_rising.Goals as goal
 

@@ -1,6 +1,4 @@
-use Rattle.std.proofs.Common.{◌≡◌, ℕ, ◌+◌, ◌-◌, ◌<◌, ◌≤◌, [], length, slice_index_or, int_lt, true}
-use Rattle.sqlite.specs.Order.{column}
-use Rattle.sqlite_rules.specs.Edit.{id_in}
+use Rattle.rd_store.proofs.Common.{◌≡◌, ℕ, ◌+◌, ◌-◌, ◌<◌, ◌≤◌, [], length, slice_index_or, int_lt, true, column, id_in}
 use Rattle.rd_store.proofs.opening.are_rising.Given as goal
 
 abbrev pub invariant-loop-at : goal.invariant-loop-at

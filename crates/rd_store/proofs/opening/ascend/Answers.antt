@@ -1,4 +1,4 @@
-use Rattle.std.proofs.lemmas.List.Sorted.{non_decreasing_from_is_sorted}
+use Rattle.rd_store.proofs.Common.{non_decreasing_from_is_sorted}
 use Rattle.rd_store.proofs.ImageWalks.{truth_of}
 use Rattle.rd_store.proofs.opening.ascend.Goals as goal
 

@@ -1,9 +1,4 @@
-use Rattle.std.proofs.Common.{◌≡◌, ◌∙◌, ap, map, subst, subst₂, sym}
-use Rattle.sqlite.specs.Effect.{Database}
-use Rattle.sqlite.specs.Held.{state}
-use Rattle.rd_store.specs.Opened.{AreNumbers, HaveOtherRowids, LawfulCommon, LawfulGiven, LawfulOthers}
-use Rattle.rd_store.specs.Register.{number_of}
-use Rattle.rd_store.specs.Walked.{IsWalk, LawfulCommonWalk, LawfulGivenWalk}
+use Rattle.rd_store.proofs.Common.{◌≡◌, ◌∙◌, ap, map, subst, subst₂, sym, Database, state, AreNumbers, HaveOtherRowids, LawfulCommon, LawfulGiven, LawfulOthers, number_of, IsWalk, LawfulCommonWalk, LawfulGivenWalk}
 use Rattle.rd_store.proofs.Laws.{stays_common}
 use Rattle.rd_store.proofs.TestSequences.{common, others_in}
 use Rattle.rd_store.proofs.ImageWalks.{part_ok, part_refused, sql_part, then_part}

@@ -1,13 +1,6 @@
-use Rattle.std.proofs.Common.{rules, ◌∙◌, All, map, ap, sym, subst}
-use Rattle.sqlite.specs.Order.{column}
-use Rattle.rd_tables.specs.Spellings.{map_of, natural}
-use Rattle.rd_store.specs.RowColumns.{IsDeedRow}
-use Rattle.rd_store.specs.Opened.{AreKeys}
-use Rattle.rd_store.specs.Spelled.{deed_spelling}
+use Rattle.rd_store.proofs.Common.{rules, ◌∙◌, All, map, ap, sym, subst, column, map_of, natural, IsDeedRow, AreKeys, deed_spelling, true, false, IsNonDecreasing}
 use Rattle.rd_store.proofs.RowTests.{deeds_told, deed_numbers}
 use Rattle.rd_store.proofs.opening.check_deeds.Goals as goal
-use Rattle.std.specs.Prelude.{true, false}
-use Rattle.std.specs.List.Sorted.{IsNonDecreasing}
 use Rattle.rd_store.proofs.BinarySearch.{numbers_ascend}
 
 pub returns-then-not-are_deeds-clause-tests : goal.returns-then-not-are_deeds-clause-tests

@@ -1,11 +1,4 @@
-use Rattle.std.proofs.Common.{map, subst, sym}
-use Rattle.sqlite.specs.Effect.{Database}
-use Rattle.sqlite.specs.Held.{state}
-use Rattle.rd_tables.specs.Spellings.{map_of}
-use Rattle.rd_store.specs.Opened.{AreKeys, LawfulDeeds, LawfulGiven, LawfulImages}
-use Rattle.rd_store.specs.Register.{number_of}
-use Rattle.rd_store.specs.Spelled.{deed_spelling, image_spelling}
-use Rattle.rd_store.specs.Walked.{IsWalk, LawfulGivenWalk, LawfulWalk}
+use Rattle.rd_store.proofs.Common.{map, subst, sym, Database, state, map_of, AreKeys, LawfulDeeds, LawfulGiven, LawfulImages, number_of, deed_spelling, image_spelling, IsWalk, LawfulGivenWalk, LawfulWalk}
 use Rattle.rd_store.proofs.Laws.{stays_common, stays_marks}
 use Rattle.rd_store.proofs.TestSequences.{given}
 use Rattle.rd_store.proofs.ImageWalks.{part_ok, part_refused, then_part, walk_in}

@@ -1,12 +1,4 @@
-use Rattle.std.proofs.Common.{[], refl, subst, sym}
-use Rattle.sqlite.specs.Effect.{Database}
-use Rattle.sqlite.specs.Held.{state}
-use Rattle.sqlite.specs.Tree.{Trees}
-use Rattle.rd_tables.proofs.TestedRows.{have_rowids}
-use Rattle.rd_store.specs.Opened.{AreFiledUnder, AreListed, IsConsistentAs, LawfulCommon}
-use Rattle.rd_store.specs.Spelled.{unmarked}
-use Rattle.rd_store.specs.Register.{listed}
-use Rattle.rd_store.specs.Walked.{IsWalk, LawfulCommonWalk}
+use Rattle.rd_store.proofs.Common.{[], refl, subst, sym, Database, state, Trees, have_rowids, AreFiledUnder, AreListed, IsConsistentAs, LawfulCommon, unmarked, listed, IsWalk, LawfulCommonWalk}
 use Rattle.rd_store.proofs.IndexTests.{filed_in}
 use Rattle.rd_store.proofs.Laws.{stays_common, stays_then}
 use Rattle.rd_store.proofs.TestSequences.{common_in_first, files_in_first}

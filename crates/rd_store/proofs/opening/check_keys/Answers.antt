@@ -1,10 +1,4 @@
-use Rattle.std.proofs.Common.{rules, List, All, subst}
-use Rattle.std.specs.Prelude.{true, false}
-use Rattle.std.specs.List.{Any}
-use Rattle.sqlite.specs.Held.{state}
-use Rattle.sqlite.specs.Order.{Row}
-use Rattle.rd_tables.proofs.TestedRows.{have_rowids}
-use Rattle.rd_store.specs.RowColumns.{IsKeyRow, IsStaffRow}
+use Rattle.rd_store.proofs.Common.{rules, List, All, subst, true, false, Any, state, Row, have_rowids, IsKeyRow, IsStaffRow}
 use Rattle.rd_store.proofs.RowTests.{staff_told}
 use Rattle.rd_store.proofs.opening.check_keys.Goals as goal
 

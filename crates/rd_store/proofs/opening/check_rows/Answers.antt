@@ -1,14 +1,4 @@
-use Rattle.std.specs.Prelude.{⊤}
-use Rattle.std.proofs.Common.{◌∙◌, All, false, refl, subst, subst₂, sym}
-use Rattle.sqlite.specs.Effect.{Database}
-use Rattle.sqlite.specs.Held.{state}
-use Rattle.rd_tables.specs.Asked.{IsListed}
-use Rattle.rd_tables.specs.Queries.{all_marks_query}
-use Rattle.rd_tables.proofs.TestedRows.{have_rowids}
-use Rattle.rd_store.specs.RowColumns.{IsMarksRow}
-use Rattle.rd_store.specs.Opened.{AreFiledUnder, AreListed, HaveOtherRowids, IsConsistent, LawfulCommon}
-use Rattle.rd_store.specs.Register.{listed}
-use Rattle.rd_store.specs.Walked.{AreFiledOf, IsWalk, LawfulCommonWalk}
+use Rattle.rd_store.proofs.Common.{⊤, ◌∙◌, All, false, refl, subst, subst₂, sym, Database, state, IsListed, all_marks_query, have_rowids, IsMarksRow, AreFiledUnder, AreListed, HaveOtherRowids, IsConsistent, LawfulCommon, listed, AreFiledOf, IsWalk, LawfulCommonWalk}
 use Rattle.rd_store.proofs.IndexTests.{filed_in}
 use Rattle.rd_store.proofs.Laws.{common_tables, stays_common, stays_tables, stays_then}
 use Rattle.rd_store.proofs.TestSequences.{common_in, files_in, marks_in}

@@ -1,9 +1,4 @@
-use Rattle.std.proofs.Common.{rules, List, All, subst}
-use Rattle.std.specs.Prelude.{true, false}
-use Rattle.sqlite.specs.Held.{state}
-use Rattle.sqlite.specs.Order.{Row}
-use Rattle.rd_tables.proofs.TestedRows.{have_rowids}
-use Rattle.rd_store.specs.RowColumns.{IsRuleRow}
+use Rattle.rd_store.proofs.Common.{rules, List, All, subst, true, false, state, Row, have_rowids, IsRuleRow}
 use Rattle.rd_store.proofs.RowTests.{rules_told}
 use Rattle.rd_store.proofs.opening.check_rules.Goals as goal
 

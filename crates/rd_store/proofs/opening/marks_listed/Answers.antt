@@ -1,8 +1,4 @@
-use Rattle.std.specs.Prelude.{⊤}
-use Rattle.std.proofs.Common.{All, subst}
-use Rattle.sqlite.specs.Held.{state}
-use Rattle.rd_store.specs.RowColumns.{HasErrorBytes}
-use Rattle.rd_store.specs.Opened.{IsConsistent}
+use Rattle.rd_store.proofs.Common.{⊤, All, subst, state, HasErrorBytes, IsConsistent}
 use Rattle.rd_store.proofs.ImageWalks.{each_has_error_bytes, sql_part}
 use Rattle.rd_store.proofs.opening.marks_listed.Goals as goal
 

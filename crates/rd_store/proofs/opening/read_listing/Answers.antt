@@ -1,10 +1,4 @@
-use Rattle.std.proofs.Common.{rules, [], refl, sym, subst}
-use Rattle.sqlite.specs.Held.{state}
-use Rattle.sqlite.specs.State.{Shown}
-use Rattle.rd_tables.specs.Asked.{AreRising}
-use Rattle.rd_tables.proofs.QueryEffects.{shown_was_open}
-use Rattle.rd_store.specs.Held.{IsReadable}
-use Rattle.rd_store.specs.Opened.{listing_text}
+use Rattle.rd_store.proofs.Common.{rules, [], refl, sym, subst, state, Shown, AreRising, shown_was_open, IsReadable, listing_text}
 use Rattle.rd_store.proofs.Listings.{listing_reads, listing_picks}
 use Rattle.rd_store.proofs.opening.read_listing.Goals as goal
 

@@ -1,9 +1,4 @@
-use Rattle.std.specs.Prelude.{⊤}
-use Rattle.std.proofs.Common.{◌∙◌, ap, map, refl, subst, sym}
-use Rattle.std.specs.List.Sorted.{IsNonDecreasing}
-use Rattle.sqlite.specs.Order.{column}
-use Rattle.rd_tables.specs.Spellings.{natural}
-use Rattle.rd_store.specs.Opened.{IsConsistent}
+use Rattle.rd_store.proofs.Common.{⊤, ◌∙◌, ap, map, refl, subst, sym, IsNonDecreasing, column, natural, IsConsistent}
 use Rattle.rd_store.proofs.BinarySearch.{numbers_ascend}
 use Rattle.rd_store.proofs.ImageWalks.{part_refused}
 use Rattle.rd_store.proofs.opening.read_marks.Goals as goal

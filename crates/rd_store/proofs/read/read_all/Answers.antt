@@ -1,4 +1,4 @@
-use Rattle.rd_tables.specs.Schemas.{desk_schema}
+use Rattle.rd_store.proofs.Common.{desk_schema}
 use Rattle.rd_store.proofs.read.read_all.Goals as goal
 
 pub read_over-requires : goal.read_over-requires

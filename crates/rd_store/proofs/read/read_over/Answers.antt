@@ -1,6 +1,4 @@
-use Rattle.std.proofs.Common.{rules}
-use Rattle.sqlite.specs.Held.{state}
-use Rattle.rd_tables.proofs.QueryEffects.{shown_is_open}
+use Rattle.rd_store.proofs.Common.{rules, state, shown_is_open}
 use Rattle.rd_store.proofs.Laws.{Laws, clean_at}
 use Rattle.rd_store.proofs.QueryEffects.{shown_stays, failed_stays}
 use Rattle.rd_store.proofs.read.read_over.Goals as goal

@@ -1,5 +1,4 @@
-use Rattle.std.proofs.Common.{◌≡◌, map, take}
-use Rattle.rd_store.specs.Register.{numbered_accession}
+use Rattle.rd_store.proofs.Common.{◌≡◌, map, take, numbered_accession}
 use Rattle.rd_store.proofs.register.numbered_in.Given as goal
 
 abbrev pub invariant-loop-entry : goal.invariant-loop-entry

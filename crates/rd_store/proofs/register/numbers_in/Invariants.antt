@@ -1,5 +1,4 @@
-use Rattle.std.proofs.Common.{◌≡◌, map, take}
-use Rattle.rd_store.specs.Register.{number_of}
+use Rattle.rd_store.proofs.Common.{◌≡◌, map, take, number_of}
 use Rattle.rd_store.proofs.register.numbers_in.Given as goal
 
 abbrev pub invariant-loop-entry : goal.invariant-loop-entry

@@ -1,7 +1,4 @@
-use Rattle.std.proofs.Common.{ℕ, length, nat_cmp, rules, subst}
-use Rattle.std.specs.List.Sorted.{IsBinarySearchResult, IsSearchInRange}
-use Rattle.std.proofs.lemmas.List.Sorted.{answers_always}
-use Rattle.rd_store.specs.declared.images.Heading.{Heading}
+use Rattle.rd_store.proofs.Common.{ℕ, length, nat_cmp, rules, subst, IsBinarySearchResult, IsSearchInRange, answers_always, Heading}
 use Rattle.rd_store.proofs.Registers.{placed}
 use Rattle.rd_store.proofs.register.place.Goals as goal
 

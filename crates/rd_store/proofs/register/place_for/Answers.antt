@@ -1,7 +1,5 @@
-use Rattle.std.proofs.Common.{◌∙◌, ap}
+use Rattle.rd_store.proofs.Common.{◌∙◌, ap, entry_for, heading_of}
 use Rattle.std.specs.List.{insert as insert_at}
-use Rattle.rd_store.specs.Register.{entry_for}
-use Rattle.rd_store.specs.Shown.{heading_of}
 use Rattle.rd_store.proofs.Registers.{nowhere}
 use Rattle.rd_store.proofs.register.place_for.Goals as goal
 

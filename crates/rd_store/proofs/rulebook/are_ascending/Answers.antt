@@ -1,5 +1,4 @@
-use Rattle.std.proofs.Common.{◌≡◌, ◌∙◌, ◌+◌, ◌-◌, inl, inr, ap, arith, slice_index_or, sym}
-use Rattle.std.proofs.lemmas.List.{get_or_default}
+use Rattle.rd_store.proofs.Common.{◌≡◌, ◌∙◌, ◌+◌, ◌-◌, inl, inr, ap, arith, slice_index_or, sym, get_or_default}
 use Rattle.rd_store.proofs.Listings.{below_or_at}
 use Rattle.rd_store.proofs.Rulebooks.{are_all}
 use Rattle.rd_store.proofs.rulebook.are_ascending.Goals as goal

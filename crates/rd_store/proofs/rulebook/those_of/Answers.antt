@@ -1,11 +1,5 @@
-use Rattle.std.proofs.Common.{◌≡◌, ◌∙◌, ◌-◌, ◌≤◌, ap, drop, length, of_calls, rules, subst, sym, take}
-use Rattle.std.specs.FinMap.{entries, entries_sorted}
-use Rattle.std.specs.List.Sorted.{IsPartitionedBy}
-use Rattle.std.proofs.lemmas.Fn.{always_returns_same}
-use Rattle.std.proofs.lemmas.List.{take_rest}
+use Rattle.rd_store.proofs.Common.{◌≡◌, ◌∙◌, ◌-◌, ◌≤◌, ap, drop, length, of_calls, rules, subst, sym, take, entries, entries_sorted, IsPartitionedBy, always_returns_same, take_rest, is_below, is_up_to, all_rules}
 use Rattle.rd_tables.proofs.TestPlaces.{Turns}
-use Rattle.rd_store.specs.Ruled.{is_below, is_up_to}
-use Rattle.rd_holdings.specs.State.{all_rules}
 use Rattle.rd_store.proofs.Rulebooks.{parted_below, parted_up_to, picked}
 use Rattle.rd_store.proofs.rulebook.those_of.Goals as goal
 

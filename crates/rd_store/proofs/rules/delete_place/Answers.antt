@@ -1,12 +1,4 @@
-use Rattle.std.proofs.Common.{IsTrue}
-use Rattle.sqlite.specs.State.{ExecutesInside}
-use Rattle.sqlite.specs.Held.{state}
-use Rattle.rd_tables.specs.Schemas.{desk_schema}
-use Rattle.rd_tables.specs.Statements.{drop_rule_text, drop_rule}
-use Rattle.rd_tables.proofs.Statements.{place_params}
-use Rattle.rd_tables.proofs.StatementTexts.{drop_rule_writes}
-use Rattle.rd_store.specs.Held.{IsOf, IsClean}
-use Rattle.rd_holdings.specs.State.{place_of, without_rule, band_code}
+use Rattle.rd_store.proofs.Common.{IsTrue, ExecutesInside, state, desk_schema, drop_rule_text, drop_rule, place_params, drop_rule_writes, IsOf, IsClean, place_of, without_rule, band_code}
 use Rattle.rd_store.proofs.TransactionSteps.{moves}
 use Rattle.rd_store.proofs.DatabaseSteps.{makes_no_rule, of_schema}
 use Rattle.rd_store.proofs.rules.delete_place.Goals as goal

@@ -1,14 +1,7 @@
-use Rattle.sqlite.specs.State.{Executes, Survives, CommitsBy}
-use Rattle.sqlite.specs.Held.{state}
-use Rattle.rd_tables.specs.Statements.{drop_rule_text, drop_rule}
-use Rattle.rd_tables.proofs.Statements.{place_params}
-use Rattle.rd_tables.proofs.StatementTexts.{drop_rule_writes}
-use Rattle.rd_store.specs.Held.{IsClean, desk}
-use Rattle.rd_holdings.specs.State.{Place, without_rule, band_code}
+use Rattle.rd_store.proofs.Common.{Executes, Survives, CommitsBy, state, drop_rule_text, drop_rule, place_params, drop_rule_writes, IsClean, desk, Place, without_rule, band_code, lawful_no_rule}
 use Rattle.rd_store.proofs.Laws.{Laws}
 use Rattle.rd_store.proofs.StatementCalls.{single}
 use Rattle.rd_store.proofs.DatabaseSteps.{makes_no_rule}
-use Rattle.rd_holdings.proofs.Lawful.{lawful_no_rule}
 use Rattle.rd_store.proofs.rules.delete_rule.Goals as goal
 
 pub returns : goal.returns

@@ -1,15 +1,5 @@
-use Rattle.std.proofs.Common.{◌≡◌, Option, None, Some, ℤ, refl, IsTrue}
+use Rattle.rd_store.proofs.Common.{◌≡◌, Option, None, Some, ℤ, refl, IsTrue, ExecutesInside, state, bound_value, or_null, Int, desk_schema, put_rule_text, put_rule, put_rule_writes, IsOf, IsClean, rule_spelling, place_of, terms_of, with_rule}
 use Rattle.sqlite.specs.contracts.types.I32ToSql.TheImpl as i32
-use Rattle.sqlite.specs.State.{ExecutesInside}
-use Rattle.sqlite.specs.Held.{state}
-use Rattle.sqlite.specs.Values.{bound_value, or_null}
-use Rattle.sqlite.specs.declared.types.Value.TheVariants.{Int}
-use Rattle.rd_tables.specs.Schemas.{desk_schema}
-use Rattle.rd_tables.specs.Statements.{put_rule_text, put_rule}
-use Rattle.rd_tables.proofs.StatementTexts.{put_rule_writes}
-use Rattle.rd_store.specs.Held.{IsOf, IsClean}
-use Rattle.rd_store.specs.Spelled.{rule_spelling}
-use Rattle.rd_holdings.specs.State.{place_of, terms_of, with_rule}
 use Rattle.rd_store.proofs.TransactionSteps.{moves}
 use Rattle.rd_store.proofs.DatabaseSteps.{makes_rule, of_schema}
 use Rattle.rd_store.proofs.rules.insert_rule.Goals as goal

@@ -1,12 +1,6 @@
-use Rattle.std.proofs.Common.{◌≡◌, subst, rules, Ok, Err, refl, ℕ}
-use Rattle.sqlite.specs.declared.error.Error.{Error}
-use Rattle.sqlite.specs.Held.{state}
-use Rattle.rd_tables.proofs.Entries.{get_removed, insert_removed}
-use Rattle.rd_store.specs.Held.{IsOf, HoldsDesk, Moves, Changes, desk}
-use Rattle.rd_holdings.specs.State.{Desk, place_cmp, place_of, terms_of, with_rule, without_rule}
+use Rattle.rd_store.proofs.Common.{◌≡◌, subst, rules, Ok, Err, refl, ℕ, Error, state, get_removed, insert_removed, IsOf, HoldsDesk, Moves, Changes, desk, Desk, place_cmp, place_of, terms_of, with_rule, without_rule, lawful_rule}
 use Rattle.rd_store.proofs.Laws.{Laws, clean_at}
 use Rattle.rd_store.proofs.Orders.{place_order}
-use Rattle.rd_holdings.proofs.Lawful.{lawful_rule}
 use Rattle.rd_store.proofs.TransactionSteps.{begun, and_then, stopped, undoes, commits}
 use Rattle.rd_store.proofs.Transactions.{starts, changes}
 use Rattle.rd_store.proofs.rules.write_rule.Goals as goal

@@ -1,4 +1,4 @@
-use Rattle.sqlite.proofs.Callers.{memory_is_clean}
+use Rattle.rd_store.proofs.Common.{memory_is_clean}
 use Rattle.rd_store.proofs.store.memory_stays_open.Goals as goal
 
 pub returns-clause-clean : goal.returns-clause-clean

@@ -1,11 +1,4 @@
-use Rattle.std.proofs.Common.{◌≡◌}
-use Rattle.sqlite.specs.Held.{state}
-use Rattle.rd_store.specs.Held.{IsDeskAt, IsOpen, desk}
-use Rattle.rd_store.specs.Migrated.{IsRegisterIn}
-use Rattle.rd_store.specs.Opened.{IsHeld, Refuses}
-use Rattle.rd_store.specs.Register.{listed, register_of}
-use Rattle.rd_store.specs.declared.register.Register.{Register}
-use Rattle.rd_store.specs.declared.version.Version.TheVariants.{Second}
+use Rattle.rd_store.proofs.Common.{◌≡◌, state, IsDeskAt, IsOpen, desk, IsRegisterIn, IsHeld, Refuses, listed, register_of, Register, Second}
 use Rattle.rd_store.proofs.MigrationLemmas.{rests_by}
 use Rattle.rd_store.proofs.DatabaseTests.{desk_names, hold_ok, names_told, no_desk_names, no_desk_tests, told_err}
 use Rattle.rd_store.proofs.Registers.{each_ok, register_stays}

@@ -1,8 +1,4 @@
-use Rattle.std.proofs.Common.{Some, IfOk, subst, sym}
-use Rattle.sqlite.specs.Held.{state}
-use Rattle.rd_store.specs.Migrated.{IsHeldIn, IsRegisterIn, RefusesEach}
-use Rattle.rd_store.specs.Opened.{IsSaid, Says, TestsDatabase}
-use Rattle.rd_store.specs.declared.version.Version.{Version}
+use Rattle.rd_store.proofs.Common.{Some, IfOk, subst, sym, state, IsHeldIn, IsRegisterIn, RefusesEach, IsSaid, Says, TestsDatabase, Version}
 use Rattle.rd_store.proofs.DatabaseTests.{each_database}
 use Rattle.rd_store.proofs.validation.judge_as.Goals as goal
 

@@ -1,6 +1,4 @@
-use Rattle.rd_store.specs.declared.register.Register.{Register}
-use Rattle.rd_store.specs.declared.version.Version.{Version}
-use Rattle.rd_store.specs.Migrated.{IsHeldIn, RefusesEach}
+use Rattle.rd_store.proofs.Common.{Register, Version, IsHeldIn, RefusesEach}
 use Rattle.rd_store.proofs.DatabaseTests.{desk_names, names_told, no_desk_names, no_desk_tests, told_err}
 use Rattle.rd_store.proofs.validation.judge_each.Goals as goal
 

@@ -1,11 +1,4 @@
-use Rattle.std.proofs.Common.{◌≡◌, Ok, Err, Some, true, subst, sym}
-use Rattle.sqlite.specs.Effect.{Database, IsDatabase}
-use Rattle.sqlite.specs.Held.{state}
-use Rattle.rd_tables.specs.Schemas.{has_desk_columns}
-use Rattle.rd_store.specs.Migrated.{IsHeldIn, IsRegisterIn, RefusesEach}
-use Rattle.rd_store.specs.Opened.{IsSaid, Says}
-use Rattle.rd_store.specs.declared.register.Register.{Register}
-use Rattle.rd_store.specs.declared.version.Version.{Version}
+use Rattle.rd_store.proofs.Common.{◌≡◌, Ok, Err, Some, true, subst, sym, Database, IsDatabase, state, has_desk_columns, IsHeldIn, IsRegisterIn, RefusesEach, IsSaid, Says, Register, Version}
 use Rattle.rd_store.proofs.DatabaseTests.{still, still_resting, then_database, told_err, told_ok}
 use Rattle.rd_store.proofs.validation.judge_each_tables.Goals as goal
 

@@ -1,6 +1,4 @@
-use Rattle.std.proofs.Common.{◌≡◌, [], ◌∷◌, refl, sym, ◌∙◌, rules}
-use Rattle.sqlite.specs.Held.{state}
-use Rattle.rd_tables.specs.Schemas.{desk_schema, marks_table}
+use Rattle.rd_store.proofs.Common.{◌≡◌, [], ◌∷◌, refl, sym, ◌∙◌, rules, state, desk_schema, marks_table}
 use Rattle.rd_store.proofs.DatabaseTests.{judged_second, said_here}
 use Rattle.rd_store.proofs.Laws.{stays_here}
 use Rattle.rd_store.proofs.validation.judge_second.Goals as goal

@@ -1,10 +1,4 @@
-use Rattle.std.proofs.Common.{◌≡◌, ◌∙◌, IfOk, Some, ap, true, subst, sym}
-use Rattle.sqlite.specs.Effect.{Database, IsDatabase}
-use Rattle.sqlite.specs.Held.{state}
-use Rattle.rd_tables.specs.Schemas.{has_desk_columns}
-use Rattle.rd_store.specs.Opened.{IsHeld, IsSaid, Refuses, Says}
-use Rattle.rd_store.specs.Migrated.{IsRegisterIn}
-use Rattle.rd_store.specs.declared.version.Version.TheVariants.{Second}
+use Rattle.rd_store.proofs.Common.{◌≡◌, ◌∙◌, IfOk, Some, ap, true, subst, sym, Database, IsDatabase, state, has_desk_columns, IsHeld, IsSaid, Refuses, Says, IsRegisterIn, Second}
 use Rattle.rd_store.proofs.DatabaseTests.{other_version, still, still_resting, then_database}
 use Rattle.rd_store.proofs.validation.judge_tables.Goals as goal
 

@@ -1,5 +1,4 @@
-use Rattle.std.proofs.Common.{subst}
-use Rattle.rd_tables.specs.Schemas.{TellsVersion}
+use Rattle.rd_store.proofs.Common.{subst, TellsVersion}
 use Rattle.rd_store.proofs.DatabaseTests.{says_asked}
 use Rattle.rd_store.proofs.version.known_version.Goals as goal
 

@@ -1,6 +1,4 @@
-use Rattle.std.proofs.Common.{rules, ◌≡◌, pos, [], ◌∷◌, map, true, false, subst}
-use Rattle.sqlite.specs.declared.types.Value.TheVariants.{Int}
-use Rattle.sqlite.specs.Order.{column}
+use Rattle.rd_store.proofs.Common.{rules, ◌≡◌, pos, [], ◌∷◌, map, true, false, subst, Int, column}
 use Rattle.rd_store.proofs.RowTests.{version_told}
 use Rattle.rd_store.proofs.version.said_version.Goals as goal
 

@@ -1,7 +1,4 @@
-use Rattle.std.proofs.Common.{[], refl, rules}
-use Rattle.sqlite.specs.Held.{state}
-use Rattle.rd_tables.proofs.VersionText.{version_asks}
-use Rattle.rd_tables.proofs.QueryEffects.{shown_is_open, shown_picks}
+use Rattle.rd_store.proofs.Common.{[], refl, rules, state, version_asks, shown_is_open, shown_picks}
 use Rattle.rd_store.proofs.Laws.{Laws, clean_at}
 use Rattle.rd_store.proofs.QueryEffects.{shown_stays, failed_stays}
 use Rattle.rd_store.proofs.version.version_rows.Goals as goal

@@ -1,8 +1,6 @@
-use Rattle.std.proofs.Common.{◌≡◌, ◌∙◌, List, ℕ, Some, true, false, refl, codes, slice_get, subst, sym, take}
-use Rattle.std.specs.List.{list_any}
+use Rattle.rd_tables.proofs.Common.{◌≡◌, ◌∙◌, List, ℕ, Some, true, false, refl, codes, slice_get, subst, sym, take, list_any, is_named_desk, tells_version}
 use Rattle.sqlite_schema.specs.Names.{same_name}
 use Rattle.sqlite_schema.specs.declared.schema.Table.{Table}
-use Rattle.rd_tables.specs.Schemas.{is_named_desk, tells_version}
 use Rattle.rd_tables.proofs.VersionText.{all_taken, item_at, none_named, none_told}
 use Rattle.rd_tables.proofs.desk.desk_tree.Goals as goal
 

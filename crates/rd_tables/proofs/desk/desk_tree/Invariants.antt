@@ -1,6 +1,4 @@
-use Rattle.std.proofs.Common.{◌≡◌, false, take}
-use Rattle.std.specs.List.{list_any}
-use Rattle.rd_tables.specs.Schemas.{is_named_desk}
+use Rattle.rd_tables.proofs.Common.{◌≡◌, false, take, list_any, is_named_desk}
 use Rattle.rd_tables.proofs.desk.desk_tree.Given as goal
 
 -- none of the tables so far

@@ -1,5 +1,4 @@
-use Rattle.std.proofs.Common.{◌≡◌, false, take}
-use Rattle.rd_tables.specs.Schemas.{has_tree}
+use Rattle.rd_tables.proofs.Common.{◌≡◌, false, take, has_tree}
 use Rattle.rd_tables.proofs.desk.has_tree.Given as goal
 
 -- none of the tables so far

@@ -1,4 +1,4 @@
-use Rattle.std.proofs.Common.{◌≡◌, length, take}
+use Rattle.rd_tables.proofs.Common.{◌≡◌, length, take}
 use Rattle.rd_tables.proofs.same.all_same.Given as goal
 
 -- the items so far are the same

@@ -1,4 +1,4 @@
-use Rattle.std.proofs.Common.{◌≡◌, length, take}
+use Rattle.rd_tables.proofs.Common.{◌≡◌, length, take}
 use Rattle.rd_tables.proofs.same.same_uniques.Given as goal
 
 -- the keys so far are the same

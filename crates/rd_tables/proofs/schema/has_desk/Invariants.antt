@@ -1,5 +1,4 @@
-use Rattle.std.proofs.Common.{◌≡◌, false, take, codes}
-use Rattle.std.specs.List.{list_any}
+use Rattle.rd_tables.proofs.Common.{◌≡◌, false, take, codes, list_any}
 use Rattle.sqlite_schema.specs.Names.{same_name}
 use Rattle.rd_tables.proofs.schema.has_desk.Given as goal
 

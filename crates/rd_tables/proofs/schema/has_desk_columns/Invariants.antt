@@ -1,7 +1,5 @@
-use Rattle.std.proofs.Common.{◌≡◌, ◌&&◌, false, take, codes}
-use Rattle.std.specs.List.{list_any}
+use Rattle.rd_tables.proofs.Common.{◌≡◌, ◌&&◌, false, take, codes, list_any, are_desk_columns}
 use Rattle.sqlite_schema.specs.Names.{same_name}
-use Rattle.rd_tables.specs.Schemas.{are_desk_columns}
 use Rattle.rd_tables.proofs.schema.has_desk_columns.Given as goal
 
 -- none of the tables so far

@@ -1,5 +1,4 @@
-use Rattle.std.proofs.Common.{◌≡◌, IfOk, map, subst}
-use Rattle.rd_store.specs.Register.{number_of}
+use Rattle.rd_store.proofs.Common.{◌≡◌, IfOk, map, subst, number_of}
 use Rattle.rd_store.proofs.register.Register.accessions.Goals as goal
 
 pub returns-clause-numbers : goal.returns-clause-numbers

@@ -1,6 +1,4 @@
-use Rattle.std.proofs.Common.{ℕ, ◌∙◌, Some, ap, option_map, slice_index_or, sym}
-use Rattle.rd_store.specs.declared.images.Heading.{Heading}
-use Rattle.rd_store.specs.Shown.{heading_of}
+use Rattle.rd_store.proofs.Common.{ℕ, ◌∙◌, Some, ap, option_map, slice_index_or, sym, Heading, heading_of}
 use Rattle.rd_store.proofs.register.Register.find.Goals as goal
 
 pub returns-in-Ok : goal.returns-in-Ok

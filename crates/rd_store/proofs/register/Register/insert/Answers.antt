@@ -1,6 +1,5 @@
-use Rattle.std.proofs.Common.{◌≡◌, ◌∙◌, ◌<◌, ap, is_ok, subst, sym, true, vec_capacity, vec_len}
+use Rattle.rd_store.proofs.Common.{◌≡◌, ◌∙◌, ◌<◌, ap, is_ok, subst, sym, true, vec_capacity, vec_len, HasRoomIn, entry_for, listed_in}
 use Rattle.std.specs.List.{insert as insert_at}
-use Rattle.rd_store.specs.Register.{HasRoomIn, entry_for, listed_in}
 use Rattle.rd_store.proofs.register.Register.insert.Goals as goal
 
 pub returns-in_default : goal.returns-in_default

@@ -1,5 +1,4 @@
-use Rattle.std.proofs.Common.{◌≡◌, IfOk, map, subst}
-use Rattle.rd_store.specs.Register.{numbered_accession}
+use Rattle.rd_store.proofs.Common.{◌≡◌, IfOk, map, subst, numbered_accession}
 use Rattle.rd_store.proofs.register.Register.numbered.Goals as goal
 
 pub returns-clause-numbered : goal.returns-clause-numbered

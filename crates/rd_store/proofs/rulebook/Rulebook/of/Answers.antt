@@ -1,5 +1,4 @@
-use Rattle.std.proofs.Common.{refl, subst}
-use Rattle.rd_store.specs.Ruled.{AreAllRules}
+use Rattle.rd_store.proofs.Common.{refl, subst, AreAllRules}
 use Rattle.rd_store.proofs.rulebook.Rulebook.of.Goals as goal
 
 pub invariant_of-result : goal.invariant_of-result

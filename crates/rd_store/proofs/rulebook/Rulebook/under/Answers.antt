@@ -1,7 +1,4 @@
-use Rattle.std.proofs.Common.{◌++◌, ◌∙◌, ap₂, subst, sym}
-use Rattle.rd_policy.specs.Verdicts.{AreInOrder}
-use Rattle.rd_policy.specs.declared.rule.Band.TheVariants.{Takedown, Deed}
-use Rattle.rd_holdings.proofs.RulesFor.{both_in_order}
+use Rattle.rd_store.proofs.Common.{◌++◌, ◌∙◌, ap₂, subst, sym, AreInOrder, Takedown, Deed, both_in_order}
 use Rattle.rd_store.proofs.rulebook.Rulebook.under.Goals as goal
 
 pub those_of-takedowns-requires : goal.those_of-takedowns-requires

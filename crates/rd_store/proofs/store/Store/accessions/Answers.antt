@@ -1,7 +1,4 @@
-use Rattle.std.proofs.Common.{◌≡◌, ◌∙◌, IfOk, ap, map, rules, subst}
-use Rattle.rd_store.specs.Held.{desk}
-use Rattle.rd_store.specs.Register.{IsRegisterOf, number_of, register_of}
-use Rattle.rd_holdings.specs.State.{Desk}
+use Rattle.rd_store.proofs.Common.{◌≡◌, ◌∙◌, IfOk, ap, map, rules, subst, desk, IsRegisterOf, number_of, register_of, Desk}
 use Rattle.rd_store.proofs.Registers.{numbers_told}
 use Rattle.rd_store.proofs.store.Store.accessions.Goals as goal
 

@@ -1,7 +1,4 @@
-use Rattle.std.proofs.Common.{◌≡◌, ◌∙◌, None, refl, subst, sym}
-use Rattle.std.specs.FinMap.{get}
-use Rattle.rd_store.specs.Held.{IsOpen, desk}
-use Rattle.rd_store.specs.Shown.{image_with}
+use Rattle.rd_store.proofs.Common.{◌≡◌, ◌∙◌, None, refl, subst, sym, get, IsOpen, desk, image_with}
 use Rattle.rd_store.proofs.KeptImages.{last_put}
 use Rattle.rd_store.proofs.Registers.{listed_put}
 use Rattle.rd_store.proofs.store.Store.add_image.Goals as goal

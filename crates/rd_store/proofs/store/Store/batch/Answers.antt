@@ -1,12 +1,4 @@
-use Rattle.std.proofs.Common.{◌∙◌, ap, drop, rules, subst, take}
-use Rattle.std.specs.FinMap.{entries}
-use Rattle.std.specs.List.{AllZip}
-use Rattle.std.proofs.lemmas.Result.{IfOk-weaker}
-use Rattle.sqlite.specs.Held.{state}
-use Rattle.rd_store.specs.declared.faults.StoreFault.TheVariants.{Sql}
-use Rattle.rd_store.specs.Batched.{IsIndexed}
-use Rattle.rd_store.specs.Held.{Asks, Reads, desk}
-use Rattle.rd_store.specs.Spelled.{index_of}
+use Rattle.rd_store.proofs.Common.{◌∙◌, ap, drop, rules, subst, take, entries, AllZip, IfOk-weaker, state, Sql, IsIndexed, Asks, Reads, desk, index_of}
 use Rattle.rd_store.proofs.ReadLemmas.{reads_of}
 use Rattle.rd_store.proofs.BatchQueries.{batch_told}
 use Rattle.rd_store.proofs.Laws.{Laws}

@@ -1,5 +1,4 @@
-use Rattle.std.proofs.Common.{subst}
-use Rattle.rd_store.specs.Held.{IsAtRest}
+use Rattle.rd_store.proofs.Common.{subst, IsAtRest}
 use Rattle.rd_store.proofs.Laws.{Laws, holds_between_calls}
 use Rattle.rd_store.proofs.store.Store.between_calls.Goals as goal
 

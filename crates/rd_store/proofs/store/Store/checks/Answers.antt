@@ -1,7 +1,4 @@
-use Rattle.std.proofs.Common.{rules, ◌∙◌, ap, map}
-use Rattle.std.proofs.lemmas.Result.{IfOk-weaker}
-use Rattle.rd_store.specs.Copied.{numbered_check}
-use Rattle.rd_store.specs.Spelled.{check_spelling}
+use Rattle.rd_store.proofs.Common.{rules, ◌∙◌, ap, map, IfOk-weaker, numbered_check, check_spelling}
 use Rattle.rd_store.proofs.CheckListQuery.{checks_back}
 use Rattle.rd_store.proofs.store.Store.checks.Goals as goal
 

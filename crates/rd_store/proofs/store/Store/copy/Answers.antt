@@ -1,6 +1,4 @@
-use Rattle.std.proofs.Common.{◌≡◌, false, rules}
-use Rattle.std.proofs.lemmas.Result.{IfErr-weaker}
-use Rattle.rd_tables.specs.Schemas.{IsBlank, has_desk}
+use Rattle.rd_store.proofs.Common.{◌≡◌, false, rules, IfErr-weaker, IsBlank, has_desk}
 use Rattle.rd_store.proofs.CopyLemmas.{copied_if, keeps_still, not_copied_whole, not_written}
 use Rattle.rd_store.proofs.store.Store.copy.Goals as goal
 

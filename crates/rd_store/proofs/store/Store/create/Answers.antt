@@ -1,9 +1,4 @@
-use Rattle.std.proofs.Common.{◌≡◌, ◌∙◌, ap, length, refl, rules, sym}
-use Rattle.rd_tables.specs.Schemas.{IsBlank}
-use Rattle.rd_store.specs.Held.{HoldsDesk}
-use Rattle.sqlite.specs.Held.{state}
-use Rattle.rd_store.specs.Register.{register_of}
-use Rattle.rd_holdings.specs.State.{Desk}
+use Rattle.rd_store.proofs.Common.{◌≡◌, ◌∙◌, ap, length, refl, rules, sym, IsBlank, HoldsDesk, state, register_of, Desk}
 use Rattle.rd_store.proofs.Laws.{Laws, same_commit}
 use Rattle.rd_store.proofs.Registers.{register_empty}
 use Rattle.rd_store.proofs.CreationLemmas.{rests_new, made_or_old, only_new}

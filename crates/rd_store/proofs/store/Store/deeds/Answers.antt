@@ -1,6 +1,4 @@
-use Rattle.std.proofs.Common.{rules, ◌∙◌, ap, map}
-use Rattle.std.proofs.lemmas.Result.{IfOk-weaker}
-use Rattle.rd_store.specs.Spelled.{deed_spelling}
+use Rattle.rd_store.proofs.Common.{rules, ◌∙◌, ap, map, IfOk-weaker, deed_spelling}
 use Rattle.rd_store.proofs.QueryResults.{deeds_back}
 use Rattle.rd_store.proofs.store.Store.deeds.Goals as goal
 

@@ -1,8 +1,4 @@
-use Rattle.std.proofs.Common.{Ok, Err, refl, rules, subst, sym}
-use Rattle.rd_holdings.specs.State.{HasOtherStaff, IsLastStaff, without_key}
-use Rattle.rd_store.specs.declared.faults.StoreFault.TheVariants.{Sql}
-use Rattle.std.specs.Prelude.{⊤}
-use Rattle.rd_store.specs.Held.{Changes, Judges, desk}
+use Rattle.rd_store.proofs.Common.{Ok, Err, refl, rules, subst, sym, HasOtherStaff, IsLastStaff, without_key, Sql, ⊤, Changes, Judges, desk}
 use Rattle.rd_store.proofs.ChangeLemmas.{done_as, failed_as, images_left, read_then}
 use Rattle.rd_store.proofs.store.Store.drop_key.Goals as goal
 use Rattle.rd_store.proofs.store.Store.drop_key.Goals.{in-Ok, in-Err}

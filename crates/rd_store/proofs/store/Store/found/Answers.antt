@@ -1,10 +1,4 @@
-use Rattle.std.proofs.Common.{rules, ◌∙◌, ap, map, subst, sym}
-use Rattle.std.specs.FinMap.{get}
-use Rattle.std.proofs.lemmas.Result.{IfOk-weaker}
-use Rattle.rd_store.specs.declared.faults.StoreFault.TheVariants.{Sql}
-use Rattle.rd_store.specs.Held.{Asks, Reads, desk}
-use Rattle.rd_store.specs.Index.{AreFilesIn}
-use Rattle.rd_store.specs.Spelled.{file_in}
+use Rattle.rd_store.proofs.Common.{rules, ◌∙◌, ap, map, subst, sym, get, IfOk-weaker, Sql, Asks, Reads, desk, AreFilesIn, file_in}
 use Rattle.rd_store.proofs.ReadLemmas.{reads_of}
 use Rattle.rd_store.proofs.IndexQueries.{files_found}
 use Rattle.rd_store.proofs.Laws.{Laws}

@@ -1,7 +1,4 @@
-use Rattle.std.proofs.Common.{◌≡◌, ℤ, length, map, rules, subst, vec_len, w32}
-use Rattle.std.proofs.lemmas.Int.{to_z-of_z}
-use Rattle.rd_store.specs.Held.{desk}
-use Rattle.rd_store.specs.Latest.{checks_after, checkup_shown}
+use Rattle.rd_store.proofs.Common.{◌≡◌, ℤ, length, map, rules, subst, vec_len, w32, to_z-of_z, desk, checks_after, checkup_shown}
 use Rattle.rd_store.proofs.LaterCheckQuery.{later_told}
 use Rattle.rd_store.proofs.store.Store.has_check_after.Goals as goal
 

@@ -1,6 +1,4 @@
-use Rattle.std.proofs.Common.{rules, ◌∙◌}
-use Rattle.std.proofs.lemmas.Result.{IfOk-weaker}
-use Rattle.rd_store.specs.Held.{desk}
+use Rattle.rd_store.proofs.Common.{rules, ◌∙◌, IfOk-weaker, desk}
 use Rattle.rd_store.proofs.QueryResults.{other_told}
 use Rattle.rd_store.proofs.store.Store.has_other_staff.Goals as goal
 

@@ -1,12 +1,4 @@
-use Rattle.std.proofs.Common.{◌≡◌, Option, Some, None, Ok, ◌∙◌, rules, subst, sym}
-use Rattle.std.specs.FinMap.{get}
-use Rattle.sqlite.specs.Effect.{Database}
-use Rattle.sqlite.specs.Held.{state}
-use Rattle.rd_tables.specs.Spellings.{map_of}
-use Rattle.rd_holdings.specs.declared.rows.ImageRow.{ImageRow}
-use Rattle.rd_store.specs.declared.faults.StoreFault.TheVariants.{Sql}
-use Rattle.rd_store.specs.Held.{Asks, Reads, desk}
-use Rattle.rd_store.specs.Spelled.{desk_of, image_spelling, marks_spelling}
+use Rattle.rd_store.proofs.Common.{◌≡◌, Option, Some, None, Ok, ◌∙◌, rules, subst, sym, get, Database, state, map_of, ImageRow, Sql, Asks, Reads, desk, desk_of, image_spelling, marks_spelling}
 use Rattle.rd_store.proofs.ReadLemmas.{reads_of}
 use Rattle.rd_store.proofs.MarkedImages.{joined_nowhere}
 use Rattle.rd_store.proofs.Laws.{Laws, stays_then}

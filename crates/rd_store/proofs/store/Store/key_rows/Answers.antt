@@ -1,7 +1,4 @@
-use Rattle.std.proofs.Common.{[]}
-use Rattle.sqlite.specs.Held.{state}
-use Rattle.rd_tables.proofs.QueryTexts.{keys_asks}
-use Rattle.rd_tables.proofs.QueryEffects.{shown_was_open, shown_picks}
+use Rattle.rd_store.proofs.Common.{[], state, keys_asks, shown_was_open, shown_picks}
 use Rattle.rd_store.proofs.ReadLemmas.{reads_as}
 use Rattle.rd_store.proofs.QueryResults.{keys_found}
 use Rattle.rd_store.proofs.store.Store.key_rows.Goals as goal

@@ -1,8 +1,4 @@
-use Rattle.std.proofs.Common.{[], ◌∷◌, w32}
-use Rattle.std.proofs.lemmas.Int.{to_z-of_z}
-use Rattle.sqlite.specs.declared.types.Value.TheVariants.{Int}
-use Rattle.sqlite.specs.Held.{state}
-use Rattle.rd_tables.proofs.QueryEffects.{shown_was_open, shown_picks}
+use Rattle.rd_store.proofs.Common.{[], ◌∷◌, w32, to_z-of_z, Int, state, shown_was_open, shown_picks}
 use Rattle.rd_store.proofs.LaterCheckQuery.{later_asks, later_found}
 use Rattle.rd_store.proofs.ReadLemmas.{reads_as}
 use Rattle.rd_store.proofs.store.Store.later_rows.Goals as goal

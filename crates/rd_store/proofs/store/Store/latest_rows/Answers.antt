@@ -1,7 +1,4 @@
-use Rattle.std.proofs.Common.{[], ◌∷◌, pos}
-use Rattle.sqlite.specs.declared.types.Value.TheVariants.{Int}
-use Rattle.sqlite.specs.Held.{state}
-use Rattle.rd_tables.proofs.QueryEffects.{shown_was_open, shown_starts}
+use Rattle.rd_store.proofs.Common.{[], ◌∷◌, pos, Int, state, shown_was_open, shown_starts}
 use Rattle.rd_store.proofs.LatestCheckQuery.{latest_asks, latest_found}
 use Rattle.rd_store.proofs.ReadLemmas.{reads_as}
 use Rattle.rd_store.proofs.store.Store.latest_rows.Goals as goal

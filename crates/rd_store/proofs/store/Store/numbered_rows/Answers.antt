@@ -1,8 +1,4 @@
-use Rattle.std.proofs.Common.{[], ◌∷◌}
-use Rattle.sqlite.specs.Held.{state}
-use Rattle.rd_tables.proofs.QueryTexts.{all_deeds_asks}
-use Rattle.rd_tables.specs.Schemas.{marks_table}
-use Rattle.rd_tables.proofs.QueryEffects.{shown_was_open, shown_picks}
+use Rattle.rd_store.proofs.Common.{[], ◌∷◌, state, all_deeds_asks, marks_table, shown_was_open, shown_picks}
 use Rattle.rd_store.proofs.QueryResults.{deeds_listed}
 use Rattle.rd_store.proofs.ReadLemmas.{reads_as}
 use Rattle.rd_store.proofs.store.Store.numbered_rows.Goals as goal

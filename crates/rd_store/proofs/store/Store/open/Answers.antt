@@ -1,7 +1,4 @@
-use Rattle.std.proofs.Common.{ap, subst, rules}
-use Rattle.sqlite.specs.Effect.{Database}
-use Rattle.rd_store.specs.Held.{LeavesOnly}
-use Rattle.rd_store.specs.Spelled.{desk_of}
+use Rattle.rd_store.proofs.Common.{ap, subst, rules, Database, LeavesOnly, desk_of}
 use Rattle.rd_store.proofs.Laws.{Laws, leaves_only}
 use Rattle.rd_store.proofs.store.Store.open.Goals as goal
 

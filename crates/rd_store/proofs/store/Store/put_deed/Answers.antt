@@ -1,8 +1,4 @@
-use Rattle.std.proofs.Common.{◌≡◌, Ok, Err, refl, to_z, of_z, w32}
-use Rattle.std.proofs.lemmas.Int.{to_z-of_z}
-use Rattle.rd_holdings.specs.State.{with_deed}
-use Rattle.rd_store.specs.declared.faults.StoreFault.TheVariants.{Sql}
-use Rattle.rd_store.specs.Held.{desk}
+use Rattle.rd_store.proofs.Common.{◌≡◌, Ok, Err, refl, to_z, of_z, w32, to_z-of_z, with_deed, Sql, desk}
 use Rattle.rd_store.proofs.ChangeLemmas.{done_as, failed_as, images_left, read_then}
 use Rattle.rd_store.proofs.store.Store.put_deed.Goals as goal
 

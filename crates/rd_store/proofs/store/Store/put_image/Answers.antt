@@ -1,11 +1,4 @@
-use Rattle.std.proofs.Common.{◌∙◌, Option, IsSome, ap, rules, subst, sym}
-use Rattle.std.specs.Prelude.{MatchBool}
-use Rattle.rd_holdings.specs.declared.rows.DeedRow.{DeedRow}
-use Rattle.rd_holdings.specs.declared.rows.ImageRow.{ImageRow}
-use Rattle.rd_holdings.specs.State.{Desk}
-use Rattle.rd_store.specs.Held.{IsOpen, desk}
-use Rattle.rd_store.specs.Register.{IsRegisterOf, IsSameHeading, register_of}
-use Rattle.rd_store.specs.Shown.{heading_of}
+use Rattle.rd_store.proofs.Common.{◌∙◌, Option, IsSome, ap, rules, subst, sym, MatchBool, DeedRow, ImageRow, Desk, IsOpen, desk, IsRegisterOf, IsSameHeading, register_of, heading_of}
 use Rattle.rd_store.proofs.Registers.{another}
 use Rattle.rd_store.proofs.store.Store.put_image.Goals as goal
 

@@ -1,9 +1,4 @@
-use Rattle.std.proofs.Common.{◌≡◌, ◌≢◌, ◌∙◌, Ok, Err, refl, rules, subst, sym}
-use Rattle.std.specs.Prelude.{⊤}
-use Rattle.rd_policy.specs.declared.audience.Audience.TheVariants.{Staff}
-use Rattle.rd_holdings.specs.State.{HasOtherStaff, IsLastStaff, with_key}
-use Rattle.rd_store.specs.declared.faults.StoreFault.TheVariants.{Sql}
-use Rattle.rd_store.specs.Held.{Changes, Judges, desk}
+use Rattle.rd_store.proofs.Common.{◌≡◌, ◌≢◌, ◌∙◌, Ok, Err, refl, rules, subst, sym, ⊤, Staff, HasOtherStaff, IsLastStaff, with_key, Sql, Changes, Judges, desk}
 use Rattle.rd_store.proofs.ChangeLemmas.{done_as, failed_as, images_left, read_then}
 use Rattle.rd_store.proofs.store.Store.put_key.Goals as goal
 use Rattle.rd_store.proofs.store.Store.put_key.Goals.{in-Ok, in-Err, else-ne-via-else-ne, else-ne-via-then-ne+in_ok-has_other_staff+else-not-branch}

@@ -1,7 +1,4 @@
-use Rattle.std.proofs.Common.{Ok, Err, refl, subst, sym}
-use Rattle.rd_holdings.specs.State.{place_of, terms_of, with_rule}
-use Rattle.rd_store.specs.declared.faults.StoreFault.TheVariants.{Sql}
-use Rattle.rd_store.specs.Held.{Changes, desk}
+use Rattle.rd_store.proofs.Common.{Ok, Err, refl, subst, sym, place_of, terms_of, with_rule, Sql, Changes, desk}
 use Rattle.rd_store.proofs.ChangeLemmas.{done_as, failed_as, images_left, read_then}
 use Rattle.rd_store.proofs.store.Store.put_rule.Goals as goal
 use Rattle.rd_store.proofs.store.Store.put_rule.Goals.{in-Ok, in-Err}

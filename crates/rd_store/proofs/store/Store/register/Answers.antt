@@ -1,7 +1,4 @@
-use Rattle.std.proofs.Common.{◌≡◌, ◌∙◌, IfOk, ap, map, rules, subst}
-use Rattle.rd_store.specs.Held.{desk}
-use Rattle.rd_store.specs.Register.{IsRegisterOf, numbered_accession, register_of}
-use Rattle.rd_holdings.specs.State.{Desk}
+use Rattle.rd_store.proofs.Common.{◌≡◌, ◌∙◌, IfOk, ap, map, rules, subst, desk, IsRegisterOf, numbered_accession, register_of, Desk}
 use Rattle.rd_store.proofs.Registers.{givens_told}
 use Rattle.rd_store.proofs.store.Store.register.Goals as goal
 

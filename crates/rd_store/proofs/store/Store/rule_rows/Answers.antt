@@ -1,10 +1,5 @@
-use Rattle.std.proofs.Common.{[], ◌∷◌, pos}
-use Rattle.sqlite.specs.declared.types.Value.TheVariants.{Int}
-use Rattle.sqlite.specs.Held.{state}
-use Rattle.rd_tables.proofs.QueryTexts.{rules_asks}
-use Rattle.rd_tables.proofs.QueryEffects.{shown_was_open, shown_picks}
+use Rattle.rd_store.proofs.Common.{[], ◌∷◌, pos, Int, state, rules_asks, shown_was_open, shown_picks, band_code}
 use Rattle.rd_store.proofs.QueryResults.{rules_found}
-use Rattle.rd_holdings.specs.State.{band_code}
 use Rattle.rd_store.proofs.ReadLemmas.{reads_as}
 use Rattle.rd_store.proofs.store.Store.rule_rows.Goals as goal
 

@@ -1,6 +1,4 @@
-use Rattle.std.proofs.Common.{rules, ◌≡◌, ◌∙◌, ap, map, subst, IfOk}
-use Rattle.rd_store.specs.Spelled.{rule_spelling}
-use Rattle.rd_holdings.specs.State.{rule_of}
+use Rattle.rd_store.proofs.Common.{rules, ◌≡◌, ◌∙◌, ap, map, subst, IfOk, rule_spelling, rule_of}
 use Rattle.rd_store.proofs.QueryResults.{rules_back}
 use Rattle.rd_store.proofs.store.Store.rules_at.Goals as goal
 

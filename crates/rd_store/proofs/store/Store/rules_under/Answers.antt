@@ -1,10 +1,4 @@
-use Rattle.std.proofs.Common.{◌∙◌, ◌++◌, ap, sym, subst}
-use Rattle.std.proofs.lemmas.Result.{IfOk-weaker}
-use Rattle.rd_policy.specs.Verdicts.{AreInOrder}
-use Rattle.rd_policy.specs.declared.rule.Band.TheVariants.{Takedown, Deed}
-use Rattle.rd_store.specs.Held.{desk}
-use Rattle.rd_holdings.proofs.RulesFor.{both_in_order}
-use Rattle.rd_holdings.specs.State.{Desk, rules_at}
+use Rattle.rd_store.proofs.Common.{◌∙◌, ◌++◌, ap, sym, subst, IfOk-weaker, AreInOrder, Takedown, Deed, desk, both_in_order, Desk, rules_at}
 use Rattle.rd_store.proofs.store.Store.rules_under.Goals as goal
 
 pub returns-clause-order : goal.returns-clause-order
