@@ -1,7 +1,9 @@
 -- A transaction that turns one desk into another.
-use Rattle.rd_store.proofs.Common.{◌≡◌, inl, inr, Result, Ok, Err, OnOk, OnErr, ap, Ghosts, Database, Held, state, Desk, IsLawful, desk_of, IsOf, IsDeskAt, HoldsDesk, Changes, IsOpen, desk, RestsIn, Turns}
-use Rattle.rd_store.proofs.Laws.{Laws, leaves_only, left_is}
+use Rattle.rd_store.proofs.Common.{◌≡◌, inl, inr, Result, Ok, Err, OnOk, OnErr, ap, Ghosts, Database, Held, state, Desk, IsLawful, desk_of, IsOf, IsDeskAt, HoldsDesk, Changes, IsOpen, desk, RestsIn, Turns, [], refl, subst, IfErr, IsErr, IsTrue, false, Error, IsRolledBack, Survives, Shows, KeepsCounts, Moves, IsClean}
+use Rattle.sqlite.specs.Steps.{FailsToCommit}
+use Rattle.rd_store.proofs.Laws.{Laws, clean_at, leaves_only, left_is}
 use Rattle.rd_store.proofs.StatementCalls.{rests_on, rests_as}
+use Rattle.rd_store.proofs.TransactionSteps.{and_then, begun, commits, stopped, undoes}
 
 module _ {S : Type 0} (g : Ghosts S) (old new : Held S) (holds : HoldsDesk (state g old)) where
   -- where a transaction begins
@@ -45,3 +47,48 @@ module _ {S : Type 0} (g : Ghosts S) (old new : Held S) (holds : HoldsDesk (stat
         err : (q : Result T X) → Ended q → OnErr q (desk g new ≡ desk g old)
         err (Ok value) h = tt
         err (Err e) h = h
+
+-- ---- a step in a transaction, from where it begins to where the connection is handed back
+
+module _ {S : Type 0} (g : Ghosts S) (laws : Laws g) (old begin : Held S) (begins : begin ≡ begun old) (Before After : Database → Type 0) (start : IsOpen g old → RestsIn Before (state g old)) (mid last end : Held S) (same : last ≡ end) where
+  -- it failed, and all is undone
+  pub step_failed : {U Y V Z : Type 0} (q : Result U Y) → Moves g begin mid Before After q → (IsClean g last → IsRolledBack (state g mid) (state g last)) → Survives (state g mid) (state g last) (λ _. ⊥) → (r : Result V Z) → IsErr r → Turns g old end After r
+  step_failed q moves undone ended r failed =
+      subst (λ (h : Held S). Turns g old h After r) same (undoes g (clean_at g laws) old mid last Before After start q (subst (λ (h : Held S). Moves g h mid Before After q) begins moves) undone ended r failed)
+
+  -- it was done, and is committed
+  pub step_done : {V X : Type 0} (x : V) → Moves {X = X} g begin mid Before After (Ok x) → Survives (state g mid) (state g last) (λ trees. trees ≡ (state g mid).now.trees) → (r : Result (Unit {0}) Error)
+      → (IsClean g last → OnOk r (IsTrue mid.in_transaction × Shows (state g mid) (state g last) (state g mid).now (state g mid).now false × KeepsCounts (state g mid) (state g last) × ((state g last).marks ≡ [])))
+      → (IsClean g last → IfErr r (FailsToCommit (state g mid) (state g last))) → Turns g old end After r
+  step_done {V} {X} x moves all r done failed =
+      subst (λ (h : Held S). Turns g old h After r) same (commits g (clean_at g laws) old mid last Before After start x (subst (λ (h : Held S). Moves {X = X} g h mid Before After (Ok x)) begins moves) all r done failed)
+
+-- ---- what stands at a key is taken away, and another is put there
+
+module _ {S : Type 0} (g : Ghosts S) (laws : Laws g) (old begin first : Held S) (begins : begin ≡ begun old) (holds : HoldsDesk (state g old)) (less next after : Desk) (again : next ≡ after) (lawful : IsOpen g old → IsLawful (desk g old) → IsLawful after) where
+  -- nothing was taken away
+  pub not_dropped : {T X : Type 0} {e : X} {V Z : Type 0} (last end : Held S) → last ≡ end → Moves {T = T} g begin first (IsOf (desk g old)) (IsOf less) (Err e)
+      → (IsClean g last → IsRolledBack (state g first) (state g last)) → Survives (state g first) (state g last) (λ _. ⊥) → (r : Result V Z) → IsErr r → HoldsDesk (state g end) × Changes g old end after r
+  not_dropped {T} {X} {e} last end same drop undone ended r failed =
+      let q : Result T X = Err e in
+      let inside = stopped g begin first (IsOf (desk g old)) (IsOf less) (IsOf after) e q refl drop in
+      changes g old end holds laws after lawful r (step_failed g laws old begin begins (IsOf (desk g old)) (IsOf after) (starts g old end holds) first last end same q inside undone ended r failed)
+
+  module _ {T : Type 0} {n : T} (mid last end : Held S) (same : last ≡ end) where
+    -- nothing was put
+    pub not_put : {U X : Type 0} {e : X} {V Z : Type 0} → Moves {X = X} g begin first (IsOf (desk g old)) (IsOf less) (Ok n) → Moves {T = U} g first mid (IsOf less) (IsOf next) (Err e)
+        → (IsClean g last → IsRolledBack (state g mid) (state g last)) → Survives (state g mid) (state g last) (λ _. ⊥) → (r : Result V Z) → IsErr r → HoldsDesk (state g end) × Changes g old end after r
+    not_put {U} {X} {e} drop put undone ended r failed =
+        let q : Result U X = Err e in
+        let inside = and_then g begin first mid (IsOf (desk g old)) (IsOf less) (IsOf after) n drop q (subst (λ (d : Desk). Moves g first mid (IsOf less) (IsOf d) q) again put) in
+        changes g old end holds laws after lawful r (step_failed g laws old begin begins (IsOf (desk g old)) (IsOf after) (starts g old end holds) mid last end same q inside undone ended r failed)
+
+    -- both are done, and committed
+    pub replaced : {U X : Type 0} {m : U} → Moves {X = X} g begin first (IsOf (desk g old)) (IsOf less) (Ok n) → Moves {X = X} g first mid (IsOf less) (IsOf next) (Ok m)
+        → Survives (state g mid) (state g last) (λ trees. trees ≡ (state g mid).now.trees) → (r : Result (Unit {0}) Error)
+        → (IsClean g last → OnOk r (IsTrue mid.in_transaction × Shows (state g mid) (state g last) (state g mid).now (state g mid).now false × KeepsCounts (state g mid) (state g last) × ((state g last).marks ≡ [])))
+        → (IsClean g last → IfErr r (FailsToCommit (state g mid) (state g last))) → HoldsDesk (state g end) × Changes g old end after r
+    replaced {U} {X} {m} drop put all r done failed =
+        let q : Result U X = Ok m in
+        let inside = and_then g begin first mid (IsOf (desk g old)) (IsOf less) (IsOf after) n drop q (subst (λ (d : Desk). Moves g first mid (IsOf less) (IsOf d) q) again put) in
+        changes g old end holds laws after lawful r (step_done g laws old begin begins (IsOf (desk g old)) (IsOf after) (starts g old end holds) mid last end same m inside all r done failed)

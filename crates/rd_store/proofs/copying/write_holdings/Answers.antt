@@ -1,37 +1,19 @@
-use Rattle.rd_store.proofs.Common.{◌≡◌, subst, rules, Ok, Err, Error, AndClean, HasFirstTables, Turns, IsOf, Moves, desk}
+use Rattle.rd_store.proofs.Common.{◌≡◌, rules, Ok, Err, HasFirstTables, IsOf, desk}
+use Rattle.rd_store.proofs.Laws.{Laws}
+use Rattle.rd_store.proofs.Transactions.{step_done, step_failed}
 use Rattle.rd_store.proofs.CopyLemmas.{of_clean}
-use Rattle.rd_store.proofs.Laws.{Laws, clean_at}
-use Rattle.rd_store.proofs.TransactionSteps.{begun, undoes, commits}
 use Rattle.rd_store.proofs.copying.write_holdings.Goals as goal
 
 pub returns-in_err-fill-clause-turns : goal.returns-in_err-fill-clause-turns
 returns-in_err-fill-clause-turns g c was are =
     let laws : Laws g.S.Store = record { settles = g.met.S.Store.settled; shuts = g.met.S.Store.shut_if_dirty } in
-    let read = c.fill.new.from in
     let after = IsOf (desk g.S.Store c.args.from.now) in
-    let old = c.args.conn.now in
-    let mid = c.fill.new.tx.conn.now in
-    let last = c.drop-tx.new.self.0 in
-    let same : last ≡ c.conn-1.given.0 = search rules in
-    let e = c.in_err-fill.field-0.0 in
-    let inside : Moves {T = Unit {0}} {X = Error} g.S.Store (begun old) mid (HasFirstTables 0) after (Err e) =
-    of_clean g.S.Store (begun old) mid (HasFirstTables 0) after (Err e) read was
-    (subst (λ h. Moves {T = Unit {0}} {X = Error} g.S.Store h mid (AndClean g.S.Store read (HasFirstTables 0)) after (Err e)) c.transaction-tx.ensures.begun (c.in_err-fill.ensures.moves are)) in
-    let turns = undoes g.S.Store (clean_at g.S.Store laws) old mid last (HasFirstTables 0) after c.requires.start (Err e) inside c.drop-tx.ensures.undone c.drop-tx.ensures.survives c.from_residual.result c.from_residual.ensures.0 in
-    subst (λ h. Turns g.S.Store old h after c.from_residual.result) same turns
+    let same : c.drop-tx.new.self.0 ≡ c.conn-1.given.0 = search rules in
+    step_failed g.S.Store laws c.args.conn.now _ c.transaction-tx.ensures.begun (HasFirstTables 0) after c.requires.start _ _ _ same (Err c.in_err-fill.field-0.0) (of_clean g.S.Store _ _ (HasFirstTables 0) after (Err c.in_err-fill.field-0.0) c.fill.new.from was (c.in_err-fill.ensures.moves are)) c.drop-tx.ensures.undone c.drop-tx.ensures.survives c.from_residual.result c.from_residual.ensures.0
 
 pub returns-clause-turns : goal.returns-clause-turns
 returns-clause-turns g c was are =
     let laws : Laws g.S.Store = record { settles = g.met.S.Store.settled; shuts = g.met.S.Store.shut_if_dirty } in
-    let read = c.fill.new.from in
     let after = IsOf (desk g.S.Store c.args.from.now) in
-    let old = c.args.conn.now in
-    let mid = c.fill.new.tx.conn.now in
-    let last = c.commit.new.self.0 in
-    let same : last ≡ c.conn-2-1.given.0 = search rules in
-    let u = c.in_ok-fill.field-0 in
-    let inside : Moves {T = Unit {0}} {X = Error} g.S.Store (begun old) mid (HasFirstTables 0) after (Ok u) =
-    of_clean g.S.Store (begun old) mid (HasFirstTables 0) after (Ok u) read was
-    (subst (λ h. Moves {T = Unit {0}} {X = Error} g.S.Store h mid (AndClean g.S.Store read (HasFirstTables 0)) after (Ok u)) c.transaction-tx.ensures.begun (c.in_ok-fill.ensures.moves are)) in
-    let turns = commits g.S.Store (clean_at g.S.Store laws) old mid last (HasFirstTables 0) after c.requires.start u inside c.commit.ensures.survives c.commit.result c.commit.ensures.ok c.commit.ensures.err in
-    subst (λ h. Turns g.S.Store old h after c.commit.result) same turns
+    let same : c.commit.new.self.0 ≡ c.conn-2-1.given.0 = search rules in
+    step_done g.S.Store laws c.args.conn.now _ c.transaction-tx.ensures.begun (HasFirstTables 0) after c.requires.start _ _ _ same c.in_ok-fill.field-0 (of_clean g.S.Store _ _ (HasFirstTables 0) after (Ok c.in_ok-fill.field-0) c.fill.new.from was (c.in_ok-fill.ensures.moves are)) c.commit.ensures.survives c.commit.result c.commit.ensures.ok c.commit.ensures.err

@@ -1,32 +1,16 @@
-use Rattle.rd_store.proofs.Common.{◌≡◌, subst, rules, Ok, Err, Error, HasFirstTables, Turns, Moves}
-use Rattle.rd_store.proofs.Laws.{Laws, clean_at}
-use Rattle.rd_store.proofs.TransactionSteps.{begun, undoes, commits}
+use Rattle.rd_store.proofs.Common.{◌≡◌, rules, Err, HasFirstTables}
+use Rattle.rd_store.proofs.Laws.{Laws}
+use Rattle.rd_store.proofs.Transactions.{step_done, step_failed}
 use Rattle.rd_store.proofs.create.make_first_tables.Goals as goal
 
 pub returns-in_err-make_tables : goal.returns-in_err-make_tables
 returns-in_err-make_tables g c =
     let laws : Laws g.S.Store = record { settles = g.met.S.Store.settled; shuts = g.met.S.Store.shut_if_dirty } in
-    let after = HasFirstTables 7 in
-    let old = c.args.conn.now in
-    let mid = c.make_tables.new.tx.conn.now in
-    let last = c.drop-tx.new.self.0 in
-    let same : last ≡ c.conn-1.given.0 = search rules in
-    let e = c.in_err-make_tables.field-0.0 in
-    let inside : Moves {T = Unit {0}} {X = Error} g.S.Store (begun old) mid (HasFirstTables 0) after (Err e) =
-    subst (λ h. Moves {T = Unit {0}} {X = Error} g.S.Store h mid (HasFirstTables 0) after (Err e)) c.transaction-tx.ensures.begun c.in_err-make_tables.ensures.moves in
-    let turns = undoes g.S.Store (clean_at g.S.Store laws) old mid last (HasFirstTables 0) after c.requires.start (Err e) inside c.drop-tx.ensures.undone c.drop-tx.ensures.survives c.from_residual.result c.from_residual.ensures.0 in
-    record { turns = subst (λ h. Turns g.S.Store old h after c.from_residual.result) same turns }
+    let same : c.drop-tx.new.self.0 ≡ c.conn-1.given.0 = search rules in
+    record { turns = step_failed g.S.Store laws c.args.conn.now _ c.transaction-tx.ensures.begun (HasFirstTables 0) (HasFirstTables 7) c.requires.start _ _ _ same (Err c.in_err-make_tables.field-0.0) c.in_err-make_tables.ensures.moves c.drop-tx.ensures.undone c.drop-tx.ensures.survives c.from_residual.result c.from_residual.ensures.0 }
 
 pub returns : goal.returns
 returns g c =
     let laws : Laws g.S.Store = record { settles = g.met.S.Store.settled; shuts = g.met.S.Store.shut_if_dirty } in
-    let after = HasFirstTables 7 in
-    let old = c.args.conn.now in
-    let mid = c.make_tables.new.tx.conn.now in
-    let last = c.commit.new.self.0 in
-    let same : last ≡ c.conn-2-1.given.0 = search rules in
-    let u = c.in_ok-make_tables.field-0 in
-    let inside : Moves {T = Unit {0}} {X = Error} g.S.Store (begun old) mid (HasFirstTables 0) after (Ok u) =
-    subst (λ h. Moves {T = Unit {0}} {X = Error} g.S.Store h mid (HasFirstTables 0) after (Ok u)) c.transaction-tx.ensures.begun c.in_ok-make_tables.ensures.moves in
-    let turns = commits g.S.Store (clean_at g.S.Store laws) old mid last (HasFirstTables 0) after c.requires.start u inside c.commit.ensures.survives c.commit.result c.commit.ensures.ok c.commit.ensures.err in
-    record { turns = subst (λ h. Turns g.S.Store old h after c.commit.result) same turns }
+    let same : c.commit.new.self.0 ≡ c.conn-2-1.given.0 = search rules in
+    record { turns = step_done g.S.Store laws c.args.conn.now _ c.transaction-tx.ensures.begun (HasFirstTables 0) (HasFirstTables 7) c.requires.start _ _ _ same c.in_ok-make_tables.field-0 c.in_ok-make_tables.ensures.moves c.commit.ensures.survives c.commit.result c.commit.ensures.ok c.commit.ensures.err }

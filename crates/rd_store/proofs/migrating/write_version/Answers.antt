@@ -1,36 +1,18 @@
-use Rattle.rd_store.proofs.Common.{◌≡◌, ℕ, subst, rules, Ok, Err, Error, state, Turns, IsOf, Moves, IsFirst, first_desk}
-use Rattle.rd_store.proofs.Laws.{Laws, clean_at}
-use Rattle.rd_store.proofs.TransactionSteps.{begun, undoes, commits}
+use Rattle.rd_store.proofs.Common.{◌≡◌, rules, Err, state, IsFirst, IsOf, first_desk}
+use Rattle.rd_store.proofs.Laws.{Laws}
+use Rattle.rd_store.proofs.Transactions.{step_done, step_failed}
 use Rattle.rd_store.proofs.migrating.write_version.Goals as goal
 
 pub returns-in_err-write_second_tables : goal.returns-in_err-write_second_tables
 returns-in_err-write_second_tables g c =
     let laws : Laws g.S.Store = record { settles = g.met.S.Store.settled; shuts = g.met.S.Store.shut_if_dirty } in
-    let old = c.args.conn.now in
-    let desk = first_desk (state g.S.Store old).now.trees in
-    let before = IsFirst desk in
-    let after = IsOf desk in
-    let mid = c.write_second_tables.new.tx.conn.now in
-    let last = c.drop-tx.new.self.0 in
-    let same : last ≡ c.conn-1.given.0 = search rules in
-    let e = c.in_err-write_second_tables.field-0.0 in
-    let inside : Moves {T = ℕ} {X = Error} g.S.Store (begun old) mid before after (Err e) =
-    subst (λ h. Moves {T = ℕ} {X = Error} g.S.Store h mid before after (Err e)) c.transaction-tx.ensures.begun (c.in_err-write_second_tables.ensures.moves desk) in
-    let turns = undoes g.S.Store (clean_at g.S.Store laws) old mid last before after c.requires.start (Err e) inside c.drop-tx.ensures.undone c.drop-tx.ensures.survives c.from_residual.result c.from_residual.ensures.0 in
-    record { turns = subst (λ h. Turns g.S.Store old h after c.from_residual.result) same turns }
+    let desk = first_desk (state g.S.Store c.args.conn.now).now.trees in
+    let same : c.drop-tx.new.self.0 ≡ c.conn-1.given.0 = search rules in
+    record { turns = step_failed g.S.Store laws c.args.conn.now _ c.transaction-tx.ensures.begun (IsFirst desk) (IsOf desk) c.requires.start _ _ _ same (Err c.in_err-write_second_tables.field-0.0) (c.in_err-write_second_tables.ensures.moves desk) c.drop-tx.ensures.undone c.drop-tx.ensures.survives c.from_residual.result c.from_residual.ensures.0 }
 
 pub returns : goal.returns
 returns g c =
     let laws : Laws g.S.Store = record { settles = g.met.S.Store.settled; shuts = g.met.S.Store.shut_if_dirty } in
-    let old = c.args.conn.now in
-    let desk = first_desk (state g.S.Store old).now.trees in
-    let before = IsFirst desk in
-    let after = IsOf desk in
-    let mid = c.write_second_tables.new.tx.conn.now in
-    let last = c.commit.new.self.0 in
-    let same : last ≡ c.conn-2-1.given.0 = search rules in
-    let u = c.in_ok-write_second_tables.field-0 in
-    let inside : Moves {T = ℕ} {X = Error} g.S.Store (begun old) mid before after (Ok u) =
-    subst (λ h. Moves {T = ℕ} {X = Error} g.S.Store h mid before after (Ok u)) c.transaction-tx.ensures.begun (c.in_ok-write_second_tables.ensures.moves desk) in
-    let turns = commits g.S.Store (clean_at g.S.Store laws) old mid last before after c.requires.start u inside c.commit.ensures.survives c.commit.result c.commit.ensures.ok c.commit.ensures.err in
-    record { turns = subst (λ h. Turns g.S.Store old h after c.commit.result) same turns }
+    let desk = first_desk (state g.S.Store c.args.conn.now).now.trees in
+    let same : c.commit.new.self.0 ≡ c.conn-2-1.given.0 = search rules in
+    record { turns = step_done g.S.Store laws c.args.conn.now _ c.transaction-tx.ensures.begun (IsFirst desk) (IsOf desk) c.requires.start _ _ _ same c.in_ok-write_second_tables.field-0 (c.in_ok-write_second_tables.ensures.moves desk) c.commit.ensures.survives c.commit.result c.commit.ensures.ok c.commit.ensures.err }
