@@ -1,5 +1,5 @@
 -- Calls that change the desk, after a call that reads.
-use Rattle.rd_store.proofs.Common.{◌≡◌, ◌⊎◌, ◌∙◌, Result, Ok, Err, OnOk, OnErr, ap, inl, subst, sym, Ghosts, Held, state, KeptImage, Desk, Changes, HoldsDesk, IsLeft, IsOpen, Keeps, Reads, desk, IsAmong, IsLastOf, Register, IsRegisterOf, listed, register_of}
+use Rattle.rd_store.proofs.Common.{◌≡◌, ◌⊎◌, ◌∙◌, Result, Ok, Err, OnOk, OnErr, ap, inl, subst, sym, Ghosts, Held, state, KeptImage, Desk, Changes, HoldsDesk, IsLeft, Keeps, Reads, desk, IsAmong, IsLastOf, Register, IsRegisterOf, register_of}
 use Rattle.rd_store.proofs.KeptImages.{last_changes}
 use Rattle.rd_store.proofs.Laws.{lasts_then}
 

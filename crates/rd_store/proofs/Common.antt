@@ -52,7 +52,7 @@ pub use Rattle.rd_tables.proofs.Entries.{IsKeyOrder, below_has, entries_retained
 pub use Rattle.rd_tables.proofs.ListLemmas.{and_true, both, empty_by_length, filter_filter, filter_same, from_map, in_map, map_map, same_truth}
 pub use Rattle.rd_tables.proofs.QueryEffects.{query_fails, read_survives, shown_is_open, shown_picks, shown_starts, shown_unchanged, shown_was_open}
 pub use Rattle.rd_tables.proofs.QueryMaps.{in_order, looked_up}
-pub use Rattle.rd_tables.proofs.QueryTexts.{AsksBy, AsksStart, all_checks_asks, all_deeds_asks, all_files_asks, all_keys_asks, all_marks_asks, all_rules_asks, audience_asks, batch_asks, deed_asks, file_asks, files_asks, first_images_asks, image_asks, keys_asks, marks_asks, next_images_asks, placed_rules_asks, rules_asks}
+pub use Rattle.rd_tables.proofs.QueryTexts.{AsksBy, AsksOver, AsksStart, all_checks_asks, all_deeds_asks, all_files_asks, all_keys_asks, all_marks_asks, all_rules_asks, audience_asks, batch_asks, deed_asks, file_asks, files_asks, first_images_asks, image_asks, keys_asks, marks_asks, next_images_asks, placed_rules_asks, rules_asks}
 pub use Rattle.rd_tables.proofs.StatementRuns.{IsWrite, Makes, committed, done_was_open, inside_keeps, plain_mode, ran, was_open, write_fails}
 pub use Rattle.rd_tables.proofs.StatementTexts.{drop_check_writes, drop_key_writes, drop_rule_writes, put_check_writes, put_deed_writes, put_file_writes, put_image_writes, put_key_writes, put_marks_writes, put_rule_writes, put_version_writes, set_deed_writes, set_version_writes}
 pub use Rattle.rd_tables.proofs.Statements.{check_params, check_row, checkup_params, deed_params, deed_row, digest_params, drops_check, drops_key, drops_rule, file_row, has_checkup, has_digest, has_number, has_place, image_params, image_row, key_params, key_row, marks_params, marks_row, place_params, puts_check, puts_deed, puts_file, puts_image, puts_key, puts_marks, puts_rule, puts_version, rule_row, sets_deed, sets_version, version_row}
@@ -80,6 +80,7 @@ pub use Rattle.sqlite.specs.Order.{Row, column, value_cmp}
 pub use Rattle.sqlite.specs.Query.{Output, Query, key_cmp, output}
 pub use Rattle.sqlite.specs.Schema.{Schema}
 pub use Rattle.sqlite.specs.State.{CommitsBy, CommitsShowing, Executes, ExecutesInside, IsNotRun, IsRolledBack, IsUnchanged, KeepsCommit, KeepsCounts, Shown, Shows, State, Survives}
+pub use Rattle.sqlite.specs.Steps.{FailsToCommit}
 pub use Rattle.sqlite.specs.Store.{Ghosts}
 pub use Rattle.sqlite.specs.Table.{Table}
 pub use Rattle.sqlite.specs.Term.{col}
@@ -99,7 +100,8 @@ pub use Rattle.sqlite_sql.specs.declared.ops.UnaryOp.TheVariants.{Length, TypeOf
 pub use Rattle.sqlite_trees.proofs.ListLemmas.{filter-map}
 pub use Rattle.sqlite_value.proofs.OrderLemmas.{then-Equal, value_cmp-Blob, value_cmp-Int, value_cmp_total}
 pub use Rattle.sqlite_value.specs.Order.{bytes}
-pub use Rattle.std.proofs.Common.{All, AllPairs, Bool, Equal, Err, Greater, IfErr, IfOk, IsErr, IsSome, IsTrue, Less, List, MatchBool, None, Ok, OnErr, OnOk, Option, Ordering, Result, Some, T, [], add-one, ap, ap₂, arith, below_more, codes, cond, drop, eqb-true, false, filter, get_or, inl, inr, int_cmp, int_le, int_lt, is_eq, is_gt, is_le, is_lt, is_ok, is_some, length, length-append, map, nat_cmp, negsuc, not, of_calls, of_z, option_map, option_to_list, pos, refl, rules, slice_get, slice_index, slice_index_or, slice_set, subst, subst₂, suc, sym, take, to_z, true, true≢false, vec_capacity, vec_len, w32, w64, zero, ℕ, ℤ, ◌%◌, ◌&&◌, ◌*◌, ◌++◌, ◌+◌, ◌-◌, ◌/◌, ◌<◌, ◌==◌, ◌||◌, ◌∙◌, ◌∷◌, ◌≡◌, ◌≢◌, ◌≤◌, ◌⊎◌}
+pub use Rattle.sqlite_value.specs.declared.keys.Key.{Key}
+pub use Rattle.std.proofs.Common.{All, AllPairs, Bool, Equal, Err, Global, Greater, IfErr, IfOk, IsErr, IsSome, IsTrue, Less, List, MatchBool, None, Ok, OnErr, OnOk, Option, Ordering, Result, Some, T, Vec, [], add-one, ap, ap₂, arith, below_more, codes, cond, drop, eqb-true, false, filter, get_or, inl, inr, int_cmp, int_le, int_lt, is_eq, is_gt, is_le, is_lt, is_ok, is_some, length, length-append, map, nat_cmp, negsuc, not, of_calls, of_z, option_map, option_to_list, pos, refl, rules, slice_get, slice_index, slice_index_or, slice_set, subst, subst₂, suc, sym, take, to_z, true, true≢false, vec_capacity, vec_len, w32, w64, zero, ℕ, ℤ, ◌%◌, ◌&&◌, ◌*◌, ◌++◌, ◌+◌, ◌-◌, ◌/◌, ◌<◌, ◌==◌, ◌||◌, ◌∙◌, ◌∷◌, ◌≡◌, ◌≢◌, ◌≤◌, ◌⊎◌}
 pub use Rattle.std.proofs.lemmas.Bool.{cases_Bool, cases_eq, cases_order}
 pub use Rattle.std.proofs.lemmas.Bool.Decides.{nat_tests}
 pub use Rattle.std.proofs.lemmas.Cmp.{eq_by_cmp_equiv, int_cmp_total, nat_cmp_total, nat_list_cmp_total, on_total, then_total}

@@ -1,5 +1,5 @@
 -- Two desks whose tables show the same.
-use Rattle.rd_store.proofs.Common.{◌≡◌, ◌∙◌, inl, inr, ℕ, zero, suc, ◌+◌, ◌<◌, List, [], ◌∷◌, length, get_or, map, Bool, true, false, Some, Result, Ok, Err, ap, arith, refl, subst, sym, IsErr, IsTrue, true≢false, FinMap, entries, get, keys, same_entries_map, nat_cmp, IfOk-weaker, ext_get_or, get_or-map, length-map, Row, Ghosts, Held, Has, Spelling, entry_got, Desk, DeedRow, Compares, TellsSame, TellsSameBoth, IsClean, IsOpen, Keeps, Reads, desk, deed_spelling}
+use Rattle.rd_store.proofs.Common.{◌≡◌, ◌∙◌, inl, inr, ℕ, zero, suc, ◌+◌, ◌<◌, List, [], ◌∷◌, length, get_or, map, Bool, true, false, Some, Result, Ok, Err, ap, arith, refl, subst, sym, IsErr, IsTrue, true≢false, nat_cmp, FinMap, entries, get, keys, same_entries_map, IfOk-weaker, ext_get_or, get_or-map, length-map, Row, Ghosts, Held, Has, Spelling, entry_got, Desk, DeedRow, Compares, TellsSame, TellsSameBoth, IsClean, IsOpen, Keeps, Reads, desk, deed_spelling}
 use Rattle.rd_store.proofs.CopyLemmas.{keeps_then, some_same}
 use Rattle.rd_store.proofs.Listings.{below_or_at}
 use Rattle.rd_store.proofs.Orders.{number_order}

@@ -1,5 +1,5 @@
 -- What the tests of the index say of it.
-use Rattle.rd_store.proofs.Common.{◌≡◌, ◌≢◌, inl, inr, ℕ, suc, pos, List, [], ◌∷◌, filter, map, All, length, get_or, Bool, true, false, Option, Some, None, IsSome, option_map, refl, sym, ap, subst, ◌∙◌, arith, nat_cmp, unwrap_or, MatchBool, list_all, eq_by_cmp, get, nat_tests, get_or-map, length-map, IsPermutation-sym, recursion_from_All, Int, Row, column, value_cmp, Trees, rowid, Database, IsDatabase, Table, Output, output, holds, Has, all_has, has_contained, has_filtered, has_kept, AreFounds, IsFound, Found, picked, IsPicked, IsListed, files_query, all_files_query, desk_with, Spells, IsSpelled, entry_of, map_of, seen, and_true, in_map, from_map, equal_numbers, tie, to_permuted, all_in, each_shown, shown_each, rowids_apart, have_rowids, apart_by_rowids, row_got, got_row, same_int, agree_two, one_file, D64, ImageRow, is_one_of, IsFiledRow, IsFileRow, ShowFiles, FileAt, file_cmp, AreFilesIn, IsFileIn, AreFiledUnder, AreKeys, HasDiskIf, HasFiles, HaveAccessions, HasDisk, HaveFiles, IsFiledAt, IsIndexAt, LawfulFiles, image_among, image_if, is_among, with_marks, file_spelling, file_shown, image_spelling, index_of, later, marks_spelling}
+use Rattle.rd_store.proofs.Common.{◌≡◌, ◌≢◌, inl, inr, ℕ, suc, pos, List, [], ◌∷◌, filter, map, All, length, get_or, Bool, true, false, Option, Some, None, IsSome, option_map, refl, sym, ap, subst, ◌∙◌, arith, nat_cmp, MatchBool, unwrap_or, list_all, eq_by_cmp, get, nat_tests, get_or-map, length-map, IsPermutation-sym, recursion_from_All, Int, Row, column, value_cmp, Trees, rowid, Database, IsDatabase, Table, Output, output, holds, Has, all_has, has_contained, has_filtered, has_kept, AreFounds, IsFound, Found, picked, IsPicked, IsListed, files_query, all_files_query, desk_with, Spells, IsSpelled, entry_of, map_of, seen, and_true, in_map, from_map, equal_numbers, tie, to_permuted, all_in, each_shown, shown_each, rowids_apart, have_rowids, apart_by_rowids, row_got, got_row, same_int, agree_two, one_file, D64, ImageRow, is_one_of, IsFiledRow, IsFileRow, ShowFiles, FileAt, file_cmp, AreFilesIn, IsFileIn, AreFiledUnder, AreKeys, HasDiskIf, HasFiles, HaveAccessions, HasDisk, HaveFiles, IsFiledAt, IsIndexAt, LawfulFiles, image_among, image_if, is_among, with_marks, file_spelling, file_shown, image_spelling, index_of, later, marks_spelling}
 use Rattle.rd_volume.proofs.OneSurvey.{one_survey}
 use Rattle.rd_store.proofs.ColumnValues.{one_of_spelled, one_of_shown}
 use Rattle.rd_store.proofs.IndexQueries.{files_found}

@@ -1,5 +1,5 @@
 -- What the queries show of a desk.
-use Rattle.rd_store.proofs.Common.{◌≡◌, inl, inr, ℕ, zero, suc, ap₂, ◌<◌, slice_index_or, pos, List, [], ◌∷◌, map, Bool, true, false, Option, Some, None, option_map, refl, sym, ap, ◌∙◌, arith, nat_cmp, int_cmp, is_lt, is_eq, Less, Equal, Greater, Ordering, ◌&&◌, ◌==◌, All, subst, length, MatchBool, option_to_list, Any, nat_list_cmp_total, recursion_from_All, Has, all_has, value_cmp-Blob, Audience, Staff, eq_by_cmp, ordering_then, ordering_reverse, get, entries, retain_keys, nat_tests, Int, Blob, Row, column, key_cmp, Binary, is_true, Length, TypeOf, Compare, Eq, value_cmp-Int, then-Equal, IsPicked, rising, all_deeds_query, all_images_query, deed_query, image_query, marks_query, audience_query, rules_query, placed_rules_query, keys_query, Spells, entry_of, map_of, natural, seen, and_true, both, in_map, from_map, equal_numbers, equal_blobs, retain_all, entry_got, got_entry, looked_up, in_order, got_row, Band, image_columns, Desk, Place, Terms, digest_cmp, place_cmp, rule_of, HasOtherStaff, band_code, is_at, DeedRow, ImageRow, as_row, deed_shown, image_shown, marks_shown, audience_shown, ShowsOther, IsOtherKey, deed_spelling, image_spelling, key_spelling, marks_spelling, rule_spelling}
+use Rattle.rd_store.proofs.Common.{◌≡◌, inl, inr, ℕ, zero, suc, ap₂, ◌<◌, slice_index_or, pos, List, [], ◌∷◌, map, Bool, true, false, Option, Some, None, option_map, refl, sym, ap, ◌∙◌, arith, nat_cmp, int_cmp, is_lt, is_eq, Less, Equal, Greater, Ordering, ◌&&◌, ◌==◌, All, subst, length, MatchBool, option_to_list, Any, nat_list_cmp_total, recursion_from_All, Has, all_has, value_cmp-Blob, value_cmp-Int, then-Equal, Audience, Staff, eq_by_cmp, ordering_then, ordering_reverse, get, entries, retain_keys, nat_tests, Int, Blob, Row, column, key_cmp, Binary, is_true, Length, TypeOf, Compare, Eq, IsPicked, rising, all_deeds_query, all_images_query, deed_query, image_query, marks_query, audience_query, rules_query, placed_rules_query, keys_query, Spells, entry_of, map_of, natural, seen, and_true, both, in_map, from_map, equal_numbers, equal_blobs, retain_all, entry_got, got_entry, looked_up, in_order, got_row, Band, image_columns, Desk, Place, Terms, digest_cmp, place_cmp, rule_of, HasOtherStaff, band_code, is_at, DeedRow, ImageRow, as_row, deed_shown, image_shown, marks_shown, audience_shown, ShowsOther, IsOtherKey, deed_spelling, image_spelling, key_spelling, marks_spelling, rule_spelling}
 use Rattle.sqlite_sql.specs.Ops.{binary, unary}
 use Rattle.rd_store.proofs.Orders.{number_order, digest_order, place_order, kind_back, rule_back, key_back}
 

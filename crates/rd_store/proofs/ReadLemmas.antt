@@ -1,5 +1,5 @@
 -- Calls that read.
-use Rattle.rd_store.proofs.Common.{Result, IfOk-weaker, Ghosts, Held, state, Asks, HoldsDesk, IsOpen, Keeps, Reads}
+use Rattle.rd_store.proofs.Common.{Result, ◌≡◌, ℕ, List, IfOk-weaker, Ghosts, Held, state, Asks, HoldsDesk, IsOpen, Keeps, Reads, HoldsCommonTables, Table, Term, Row, Shown, desk_schema, desk_with, SpellDesk, IsPicked, IsStart, asks_of, shown_picks, shown_starts, shown_was_open, AsksStart, Key, Vec, Global, AsksOver}
 use Rattle.rd_store.proofs.Laws.{Laws, crash_same, desk_same, leaves_only, stays_desk}
 
 -- a query leaves the desk as it was
@@ -18,3 +18,35 @@ reads_of g laws old new held asks = record { keeps = keeps_of g laws old new hel
 -- what it answers, told in another way
 pub reads_as : {S T X : Type 0} (g : Ghosts S) (old new : Held S) {P Q : T → Type 0} {r : Result T X} → Reads g old new r P → (IsOpen g new → (value : T) → P value → Q value) → Reads g old new r Q
 reads_as g old new {P} {Q} {r} reads told_so = record { keeps = reads.keeps; answer = λ o. IfOk-weaker r P Q (told_so o) (reads.answer o); ends_open = reads.ends_open }
+
+-- the same of a query
+pub asks_as : {S T X : Type 0} (g : Ghosts S) (old new : Held S) {P Q : T → Type 0} {r : Result T X} {only : X} → Asks g old new r only P → (IsOpen g new → (value : T) → P value → Q value) → Asks g old new r only Q
+asks_as g old new {P} {Q} {r} asks told_so = record { stays = asks.stays; answer = λ o. IfOk-weaker r P Q (told_so o) (asks.answer o); ends_open = asks.ends_open; fault = asks.fault }
+
+module _ {S X : Type 0} (g : Ghosts S) (old new : Held S) {text : List ℕ} {tree : ℕ} {tests shown : List Term} {order : List (Term × Key)} (params : Row) {r : Result (Vec Row Global) X} where
+  -- what a query shows of a desk
+  module _ (holds : HoldsDesk (state g old)) {told : List Row} (reads : Reads g old new r (λ rows. Shown text params (state g old) (state g new) rows.items)) where
+    pub rows_told : AsksOver desk_schema text tree tests shown order → ((rows : List Row) → SpellDesk 2 (state g old).now.trees → IsPicked (asks_of tree tests shown order) params ((state g old).now.trees tree) rows → rows ≡ told)
+        → Reads g old new r (λ rows. rows.items ≡ told)
+    rows_told asks is = reads_as g old new reads (λ o rows h.
+        let at = holds (shown_was_open text params (state g old) (state g new) rows.items h) in
+        is rows.items at.holds.of.rows (shown_picks asks params (state g old) (state g new) at.tables.schema rows.items h))
+
+    -- and a query of the first rows
+    pub first_told : {most : ℕ} → AsksStart desk_schema text most tree tests shown order → ((rows : List Row) → SpellDesk 2 (state g old).now.trees → IsStart (asks_of tree tests shown order) most params ((state g old).now.trees tree) rows → rows ≡ told)
+        → Reads g old new r (λ rows. rows.items ≡ told)
+    first_told asks is = reads_as g old new reads (λ o rows h.
+        let at = holds (shown_was_open text params (state g old) (state g new) rows.items h) in
+        is rows.items at.holds.of.rows (shown_starts asks params (state g old) (state g new) at.tables.schema rows.items h))
+
+  -- what a query shows of the tables that each version has
+  module _ (held : HoldsCommonTables (state g old)) {only : X} (asks : Asks g old new r only (λ rows. Shown text params (state g old) (state g new) rows.items)) where
+    pub rows_picked : ((more : List Table) → AsksOver (desk_with more) text tree tests shown order) → Asks g old new r only (λ rows. IsPicked (asks_of tree tests shown order) params ((state g old).now.trees tree) rows.items)
+    rows_picked means = asks_as g old new asks (λ o rows h.
+        let at = held (shown_was_open text params (state g old) (state g new) rows.items h) in
+        shown_picks (means at.more) params (state g old) (state g new) at.rests.schema rows.items h)
+
+    pub rows_started : {most : ℕ} → ((more : List Table) → AsksStart (desk_with more) text most tree tests shown order) → Asks g old new r only (λ rows. IsStart (asks_of tree tests shown order) most params ((state g old).now.trees tree) rows.items)
+    rows_started means = asks_as g old new asks (λ o rows h.
+        let at = held (shown_was_open text params (state g old) (state g new) rows.items h) in
+        shown_starts (means at.more) params (state g old) (state g new) at.rests.schema rows.items h)

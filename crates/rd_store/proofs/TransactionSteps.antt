@@ -1,8 +1,7 @@
 -- A statement inside a transaction, one after another, and the whole transaction.
-use Rattle.rd_store.proofs.Common.{◌≡◌, inl, inr, ℕ, List, [], true, false, Result, Ok, Err, IsErr, IfErr, OnOk, OnErr, refl, sym, subst, ◌∙◌, IsTrue, true≢false, arith, cases_Bool, Row, Ghosts, Schema, Command, Database, Error, ExecutesInside, Survives, KeepsCommit, KeepsCounts, Shows, IsRolledBack, Held, state, survives_begin, survives_then, IsWrite, Makes, inside_keeps, ran, Moves, IsOpen, IsClean, RestsIn, Turns}
+use Rattle.rd_store.proofs.Common.{◌≡◌, inl, inr, ℕ, List, [], true, false, Result, Ok, Err, IsErr, IfErr, OnOk, OnErr, refl, sym, subst, ◌∙◌, IsTrue, true≢false, arith, cases_Bool, Row, Ghosts, Schema, Command, Database, Error, ExecutesInside, Survives, KeepsCommit, KeepsCounts, Shows, IsRolledBack, Held, state, survives_begin, survives_then, IsWrite, Makes, inside_keeps, ran, Moves, IsOpen, IsClean, RestsIn, Turns, FailsToCommit}
 use Rattle.sqlite.specs.declared.error.Error.TheVariants.{SqliteFailure}
 use Rattle.sqlite.specs.declared.error.ErrorCode.TheVariants.{TransactionState}
-use Rattle.sqlite.specs.Steps.{FailsToCommit}
 use Rattle.rd_store.proofs.Laws.{lasts_of}
 
 -- ---- one statement

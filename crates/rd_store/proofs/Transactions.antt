@@ -1,6 +1,5 @@
 -- A transaction that turns one desk into another.
-use Rattle.rd_store.proofs.Common.{◌≡◌, inl, inr, Result, Ok, Err, OnOk, OnErr, ap, Ghosts, Database, Held, state, Desk, IsLawful, desk_of, IsOf, IsDeskAt, HoldsDesk, Changes, IsOpen, desk, RestsIn, Turns, [], refl, subst, IfErr, IsErr, IsTrue, false, Error, IsRolledBack, Survives, Shows, KeepsCounts, Moves, IsClean}
-use Rattle.sqlite.specs.Steps.{FailsToCommit}
+use Rattle.rd_store.proofs.Common.{◌≡◌, inl, inr, Result, Ok, Err, OnOk, OnErr, ap, [], refl, subst, IfErr, IsErr, IsTrue, false, Ghosts, Database, Held, state, Desk, IsLawful, desk_of, IsOf, IsDeskAt, HoldsDesk, Changes, IsOpen, desk, Moves, IsClean, RestsIn, Turns, Error, IsRolledBack, Survives, Shows, KeepsCounts, FailsToCommit}
 use Rattle.rd_store.proofs.Laws.{Laws, clean_at, leaves_only, left_is}
 use Rattle.rd_store.proofs.StatementCalls.{rests_on, rests_as}
 use Rattle.rd_store.proofs.TransactionSteps.{and_then, begun, commits, stopped, undoes}

@@ -1,4 +1,4 @@
-use Rattle.rd_store.proofs.Common.{◌≡◌, ◌∙◌, ◌<◌, ℕ, Ok, Err, arith, get_or, length, subst, sym, FinMap, entries, nat_cmp, Error, with_deed, DeedRow, with_deeds, IsOf, Moves}
+use Rattle.rd_store.proofs.Common.{◌≡◌, ◌∙◌, ◌<◌, ℕ, Ok, Err, arith, get_or, length, subst, sym, nat_cmp, FinMap, entries, Error, with_deed, DeedRow, with_deeds, IsOf, Moves}
 use Rattle.rd_store.proofs.CopyLemmas.{first_all, first_of, goes_on, next_free, next_put}
 use Rattle.rd_store.proofs.Orders.{number_order}
 use Rattle.rd_store.proofs.TransactionSteps.{and_then, stopped}

@@ -1,4 +1,4 @@
-use Rattle.rd_store.proofs.Common.{◌≡◌, [], Ok, FinMap, entries, from_entries, nat_cmp, Error, Desk, DeedRow, with_deeds, IsOf, Moves}
+use Rattle.rd_store.proofs.Common.{◌≡◌, [], Ok, nat_cmp, FinMap, entries, from_entries, Error, Desk, DeedRow, with_deeds, IsOf, Moves}
 use Rattle.rd_store.proofs.CopyLemmas.{first_of}
 use Rattle.rd_store.proofs.copying.copy_deeds.Given as goal
 

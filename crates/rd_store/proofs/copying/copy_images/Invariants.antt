@@ -1,4 +1,4 @@
-use Rattle.rd_store.proofs.Common.{◌≡◌, [], Ok, from_entries, keys, nat_cmp, Error, Desk, AndClean, with_images, IsClean, IsOf, IsOpen, Keeps, Moves, desk}
+use Rattle.rd_store.proofs.Common.{◌≡◌, [], Ok, nat_cmp, from_entries, keys, Error, Desk, AndClean, with_images, IsClean, IsOf, IsOpen, Keeps, Moves, desk}
 use Rattle.rd_store.proofs.CopyLemmas.{first_of}
 use Rattle.rd_store.proofs.copying.copy_images.Given as goal
 

@@ -1,4 +1,4 @@
-use Rattle.rd_store.proofs.Common.{◌≡◌, rules, Err, HasFirstTables, IsOf, new_desk}
+use Rattle.rd_store.proofs.Common.{◌≡◌, rules, Err, HasFirstTables, new_desk, IsOf}
 use Rattle.rd_store.proofs.Laws.{Laws}
 use Rattle.rd_store.proofs.Transactions.{step_done, step_failed}
 use Rattle.rd_store.proofs.create.write_desk.Goals as goal

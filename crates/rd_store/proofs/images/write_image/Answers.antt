@@ -1,4 +1,4 @@
-use Rattle.rd_store.proofs.Common.{◌≡◌, length, rules, Ok, Err, Result, Error, refl, ℕ, IsOf, IsDeskWith, LacksImage, Moves, desk, IsFiledTo, with_new_image, image_with}
+use Rattle.rd_store.proofs.Common.{◌≡◌, length, rules, Ok, Err, Result, refl, ℕ, Error, IsOf, IsDeskWith, LacksImage, Moves, desk, IsFiledTo, with_new_image, image_with}
 use Rattle.rd_store.proofs.Laws.{Laws}
 use Rattle.rd_store.proofs.TransactionSteps.{and_then, moves_to, stopped}
 use Rattle.rd_store.proofs.Transactions.{step_done, step_failed}

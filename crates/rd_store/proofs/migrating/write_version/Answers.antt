@@ -1,4 +1,4 @@
-use Rattle.rd_store.proofs.Common.{◌≡◌, rules, Err, state, IsFirst, IsOf, first_desk}
+use Rattle.rd_store.proofs.Common.{◌≡◌, rules, Err, state, IsFirst, first_desk, IsOf}
 use Rattle.rd_store.proofs.Laws.{Laws}
 use Rattle.rd_store.proofs.Transactions.{step_done, step_failed}
 use Rattle.rd_store.proofs.migrating.write_version.Goals as goal

@@ -1,4 +1,4 @@
-use Rattle.rd_store.proofs.Common.{rules, ◌∙◌, All, map, ap, sym, subst, column, map_of, natural, IsDeedRow, AreKeys, deed_spelling, true, false, IsNonDecreasing}
+use Rattle.rd_store.proofs.Common.{rules, ◌∙◌, All, map, ap, sym, subst, true, false, column, map_of, natural, IsDeedRow, AreKeys, deed_spelling, IsNonDecreasing}
 use Rattle.rd_store.proofs.RowTests.{deeds_told, deed_numbers}
 use Rattle.rd_store.proofs.opening.check_deeds.Goals as goal
 use Rattle.rd_store.proofs.BinarySearch.{numbers_ascend}

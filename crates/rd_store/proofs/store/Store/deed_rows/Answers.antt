@@ -1,6 +1,6 @@
-use Rattle.rd_store.proofs.Common.{[], ◌∷◌, pos, Int, state, deed_asks, shown_was_open, shown_picks}
+use Rattle.rd_store.proofs.Common.{[], ◌∷◌, pos, Int, deed_asks}
 use Rattle.rd_store.proofs.QueryResults.{deed_found}
-use Rattle.rd_store.proofs.ReadLemmas.{reads_as}
+use Rattle.rd_store.proofs.ReadLemmas.{rows_told}
 use Rattle.rd_store.proofs.store.Store.deed_rows.Goals as goal
 
 pub query-requires : goal.query-requires
@@ -8,9 +8,4 @@ query-requires g c = record { plain = deed_asks.plain }
 
 pub returns-clause-reads : goal.returns-clause-reads
 returns-clause-reads g c =
-    let old = state g.S.Store c.args.self.now in
-    let new = state g.S.Store c.query.new.self in
-    let params = Int (pos c.args.num) ∷ [] in
-    reads_as g.S.Store c.args.self.now c.query.new.self (rw c.to_sql-key.ensures at c.query.ensures.reads) (λ is_open rows shown.
-    let at = c.query.ensures.holds (shown_was_open _ params old new rows.items shown) in
-    deed_found c.args.num _ rows.items at.holds.of.rows.deeds (shown_picks deed_asks params old new at.tables.schema rows.items shown))
+    rows_told g.S.Store c.args.self.now c.query.new.self (Int (pos c.args.num) ∷ []) c.query.ensures.holds (rw c.to_sql-key.ensures at c.query.ensures.reads) deed_asks (λ rows spelled picks. deed_found c.args.num _ rows spelled.deeds picks)

@@ -1,6 +1,6 @@
-use Rattle.rd_store.proofs.Common.{[], state, keys_asks, shown_was_open, shown_picks}
-use Rattle.rd_store.proofs.ReadLemmas.{reads_as}
+use Rattle.rd_store.proofs.Common.{[], keys_asks}
 use Rattle.rd_store.proofs.QueryResults.{keys_found}
+use Rattle.rd_store.proofs.ReadLemmas.{rows_told}
 use Rattle.rd_store.proofs.store.Store.key_rows.Goals as goal
 
 pub query-requires : goal.query-requires
@@ -8,8 +8,4 @@ query-requires g c = record { plain = keys_asks.plain }
 
 pub returns-clause-reads : goal.returns-clause-reads
 returns-clause-reads g c =
-    let old = state g.S.Store c.args.self.now in
-    let new = state g.S.Store c.query.new.self in
-    reads_as g.S.Store c.args.self.now c.query.new.self c.query.ensures.reads (λ is_open rows shown.
-    let at = c.query.ensures.holds (shown_was_open _ [] old new rows.items shown) in
-    keys_found _ rows.items at.holds.of.rows.keys (shown_picks keys_asks [] old new at.tables.schema rows.items shown))
+    rows_told g.S.Store c.args.self.now c.query.new.self ([]) c.query.ensures.holds c.query.ensures.reads keys_asks (λ rows spelled picks. keys_found _ rows spelled.keys picks)
