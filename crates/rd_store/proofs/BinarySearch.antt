@@ -1,7 +1,6 @@
 -- What a binary search of ascending numbers finds.
-use Rattle.rd_store.proofs.Common.{◌≡◌, ◌⊎◌, inl, inr, ℕ, ℤ, ◌+◌, ◌<◌, ◌≤◌, pos, negsuc, List, map, length, get_or, true, false, int_lt, int_cmp, Result, Ok, Err, is_ok, Less, Equal, Greater, [], refl, sym, arith, ordering_index, IsBinarySearchResult, IsNonDecreasing, IsSearchInRange, cases_order, nat_tests, length-map, get_or-map, IsNonDecreasingBy-from_all_adjacent, Value, Null, Int, Real, Text, Blob, Row, column, id_in, AreRising, natural, natural_of, is_number, is_one_of}
+use Rattle.rd_store.proofs.Common.{◌≡◌, ◌⊎◌, inl, inr, ℕ, ℤ, ◌+◌, ◌<◌, ◌≤◌, pos, negsuc, List, map, length, get_or, true, false, int_lt, int_cmp, Result, Ok, Err, is_ok, Less, Equal, Greater, [], refl, sym, arith, ordering_index, IsBinarySearchResult, IsNonDecreasing, IsSearchInRange, cases_order, nat_tests, length-map, get_or-map, IsNonDecreasingBy-from_all_adjacent, Value, Null, Int, Real, Text, Blob, Row, column, id_in, AreRising, natural, natural_of, is_number, is_one_of, is_int}
 use Rattle.std.proofs.lemmas.List.Folds.{list_any_at, list_any_none}
-use Rattle.sqlite_trees.specs.View.{is_int}
 
 -- ---- the first columns of rising rows ascend
 

@@ -34,7 +34,7 @@ pub use Rattle.rd_store.specs.Marks.{AreMarksIn, joined, kind_with, with_marks}
 pub use Rattle.rd_store.specs.Migrated.{IsFirst, IsFirstConsistent, IsHalfway, IsHeldFirst, IsHeldIn, IsMigrated, IsNotMigrated, IsRegisterIn, IsSecondConsistent, LeavesOldOrMigrated, RefusesEach, first_desk}
 pub use Rattle.rd_store.specs.Opened.{AreFiledUnder, AreKeys, AreListed, AreMarksOf, AreNumbers, Denied, HasDisk, HasDiskIf, HasFiles, HaveAccessions, HaveFiles, HaveOtherRowids, HoldsListed, HoldsMarksIf, IsCheckOf, IsConsistent, IsConsistentAs, IsFiledAt, IsHeld, IsImageOf, IsIndexAt, IsNamed, IsNoDesk, IsNotOpened, IsOpened, IsResting, IsRuleOf, IsSaid, IsSettledAt, Judged, JudgedPart, LawfulCommon, LawfulDeeds, LawfulFiles, LawfulGiven, LawfulImages, LawfulMarks, LawfulOthers, NamesDesk, Refuses, Says, StandsAmong, StandsIn, Tests, TestsDatabase, TestsPart, image_among, image_if, is_among, listing_query, listing_text, listing_tree, marks_if}
 pub use Rattle.rd_store.specs.Register.{HasRoomIn, IsPlaceIn, IsRegisterOf, IsSameHeading, entry_for, entry_in, listed, listed_in, number_of, numbered_accession, register_of}
-pub use Rattle.rd_store.specs.RowColumns.{HasErrorBytes, HasParts, IsCheckRow, IsDeedRow, IsDonorAt, IsFileRow, IsFiledRow, IsImageRow, IsKeyRow, IsMarksRow, IsRuleRow, IsSelectAt, IsStaffRow, IsWordAt, ShowFiles, blob_name, is_band, is_day, is_digest, is_number, is_one_of, is_size_of, is_some_day}
+pub use Rattle.rd_store.specs.RowColumns.{HasErrorBytes, HasParts, IsCheckRow, IsDeedRow, IsDonorAt, IsFileRow, IsFiledRow, IsImageRow, IsKeyRow, IsMarksRow, IsRuleRow, IsSelectAt, IsStaffRow, IsWordAt, ShowFiles, blob_name, comes_before, is_band, is_day, is_digest, is_number, is_one_of, is_size_of, is_some_day}
 pub use Rattle.rd_store.specs.Ruled.{AreAllRules, is_below, is_up_to, side_of}
 pub use Rattle.rd_store.specs.Shown.{IsOtherKey, ShowsOther, as_row, audience_shown, deed_shown, heading_of, image_shown, image_with, marks_shown}
 pub use Rattle.rd_store.specs.Spelled.{HasVersion, HaveOwnRowids, SpellDesk, check_spelling, deed_spelling, desk_of, file_in, file_shown, file_spelling, image_spelling, images_of, index_of, key_spelling, later, marks_spelling, rule_spelling, unmarked}
@@ -98,6 +98,7 @@ pub use Rattle.sqlite_sql.specs.declared.ops.BinaryOp.TheVariants.{Compare}
 pub use Rattle.sqlite_sql.specs.declared.ops.CompareOp.TheVariants.{Eq, Ge, Gt, Le}
 pub use Rattle.sqlite_sql.specs.declared.ops.UnaryOp.TheVariants.{Length, TypeOf}
 pub use Rattle.sqlite_trees.proofs.ListLemmas.{filter-map}
+pub use Rattle.sqlite_trees.specs.View.{is_int}
 pub use Rattle.sqlite_value.proofs.OrderLemmas.{then-Equal, value_cmp-Blob, value_cmp-Int, value_cmp_total}
 pub use Rattle.sqlite_value.specs.Order.{bytes}
 pub use Rattle.sqlite_value.specs.declared.keys.Key.{Key}

@@ -1,7 +1,7 @@
 -- Two desks whose tables show the same.
-use Rattle.rd_store.proofs.Common.{◌≡◌, ◌∙◌, inl, inr, ℕ, zero, suc, ◌+◌, ◌<◌, List, [], ◌∷◌, length, get_or, map, Bool, true, false, Some, Result, Ok, Err, ap, arith, refl, subst, sym, IsErr, IsTrue, true≢false, nat_cmp, FinMap, entries, get, keys, same_entries_map, IfOk-weaker, ext_get_or, get_or-map, length-map, Row, Ghosts, Held, Has, Spelling, entry_got, Desk, DeedRow, Compares, TellsSame, TellsSameBoth, IsClean, IsOpen, Keeps, Reads, desk, deed_spelling}
+use Rattle.rd_store.proofs.Common.{◌≡◌, ◌∙◌, inl, inr, ℕ, ◌+◌, ◌<◌, List, [], ◌∷◌, length, get_or, map, Bool, true, false, Some, Result, Ok, Err, ap, arith, refl, subst, sym, IsErr, IsTrue, true≢false, nat_cmp, FinMap, entries, get, keys, same_entries_map, IfOk-weaker, ext_get_or, get_or-map, length-map, Row, Ghosts, Held, Spelling, entry_got, Desk, DeedRow, Compares, TellsSame, TellsSameBoth, IsClean, IsOpen, Keeps, Reads, desk, deed_spelling}
 use Rattle.rd_store.proofs.CopyLemmas.{keeps_then, some_same}
-use Rattle.rd_store.proofs.Listings.{below_or_at}
+use Rattle.rd_store.proofs.Listings.{any_default, below_or_at, has_at}
 use Rattle.rd_store.proofs.Orders.{number_order}
 
 -- ---- rows that are the same
@@ -20,16 +20,6 @@ pub deed_back : (e : ℕ × DeedRow) → deed_spelling.entry (deed_spelling.colu
 deed_back e = refl
 
 -- ---- images that are the same
-
-pub has_at : {A : Type 0} (xs : List A) (k : ℕ) (x : A) → k < length xs → get_or xs k x ≡ x → Has xs x
-has_at [] k x low is = absurd (omega (arith, low))
-has_at (y ∷ xs) zero x low is = inl (sym is)
-has_at (y ∷ xs) (suc k) x low is = inr (has_at xs k x (omega (arith, low)) is)
-
-pub any_default : {A : Type 0} (xs : List A) (k : ℕ) (d e : A) → k < length xs → get_or xs k d ≡ get_or xs k e
-any_default [] k d e low = absurd (omega (arith, low))
-any_default (x ∷ xs) zero d e low = refl
-any_default (x ∷ xs) (suc k) d e low = any_default xs k d e (omega (arith, low))
 
 module _ {X : Type 0} (m n : FinMap nat_cmp X) (same_keys : keys m ≡ keys n) (same_at : (k : ℕ) → k < length (keys m) → get m (get_or (keys m) k 0) ≡ get n (get_or (keys m) k 0)) where
   -- the value at a place is what is got

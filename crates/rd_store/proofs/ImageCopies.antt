@@ -1,6 +1,6 @@
 -- Images that are copied one by one, inside one transaction, from the desk of another connection.
 use Rattle.rd_store.proofs.Common.{◌≡◌, ◌∙◌, ℕ, ◌+◌, ◌<◌, List, [], length, get_or, Some, None, Result, Ok, Err, ap, subst, sym, IsErr, nat_cmp, FinMap, entries, from_entries, get, insert, keys, get_or-map, length-map, Ghosts, Database, Held, Error, D64, entry_got, Desk, ImageRow, AndClean, TakesImage, with_images, IsClean, IsOf, Moves, desk, with_new_image}
-use Rattle.rd_store.proofs.CompareLemmas.{any_default, has_at}
+use Rattle.rd_store.proofs.Listings.{any_default, has_at}
 use Rattle.rd_store.proofs.CopyLemmas.{earlier_both, first_all, first_of, goes_on, moves_none, next_free, next_put}
 use Rattle.rd_store.proofs.Orders.{number_order}
 use Rattle.rd_store.proofs.TransactionSteps.{and_then, moves_to, stopped}

@@ -1,5 +1,5 @@
 -- What the texts that ask for all rows of a table show.
-use Rattle.rd_store.proofs.Common.{◌≡◌, ◌⊎◌, inl, inr, ℕ, zero, suc, ◌+◌, ◌<◌, List, [], ◌∷◌, length, slice_index_or, refl, sym, ap, ◌∙◌, IsTrue, arith, Row, State, Shown, IsPicked, desk_schema, all_deeds_asks, all_rules_asks, all_keys_asks, all_checks_asks, all_files_asks, all_marks_asks, shown_picks, IsReadable, HoldsListed, listing_text, listing_query, listing_tree}
+use Rattle.rd_store.proofs.Common.{Has, id_in, is_int, column, all_has, recursion_from_All, AreRising, comes_before, IsNonDecreasing, ◌≤◌, All, Bool, true, false, MatchBool, ap₂, int_lt, true≢false, ◌≡◌, ◌⊎◌, inl, inr, ℕ, zero, suc, ◌+◌, ◌<◌, List, [], ◌∷◌, length, slice_index_or, refl, sym, ap, ◌∙◌, IsTrue, arith, Row, State, Shown, IsPicked, desk_schema, all_deeds_asks, all_rules_asks, all_keys_asks, all_checks_asks, all_files_asks, all_marks_asks, shown_picks, IsReadable, HoldsListed, listing_text, listing_query, listing_tree}
 use Rattle.rd_store.specs.declared.opening.TableListing.{TableListing}
 use Rattle.rd_store.specs.declared.opening.TableListing.TheVariants.{Deeds, Rules, Keys, Checks, Files, Marks}
 
@@ -38,3 +38,37 @@ any_default (x ∷ xs) (suc k) d e low = any_default xs k d e (omega (arith, low
 
 pub at_default : (rows : List Row) (k at : ℕ) → k ≡ at → (row : Row) → k < length rows → row ≡ slice_index_or rows at row → slice_index_or rows k [] ≡ row
 at_default rows k at same row low is = any_default rows k [] row low ∙ ap (λ n. slice_index_or rows n row) same ∙ sym is
+
+pub has_at : {A : Type 0} (xs : List A) (k : ℕ) (x : A) → k < length xs → slice_index_or xs k x ≡ x → Has xs x
+has_at [] k x low is = absurd (omega (arith, low))
+has_at (y ∷ xs) zero x low is = inl (sym is)
+has_at (y ∷ xs) (suc k) x low is = inr (has_at xs k x (omega (arith, low)) is)
+
+-- ---- rows whose first columns rise
+
+module _ (rows : List Row) where
+  -- of two rows the first does not come before the next
+  pub not_rising : (k : ℕ) (row next : Row) → k + 1 < length rows → slice_index_or rows k [] ≡ row → slice_index_or rows (k + 1) [] ≡ next → comes_before row next ≡ false → ¬ AreRising rows
+  not_rising k row next low here there falls rising = true≢false (sym both_before ∙ ap₂ comes_before here there ∙ falls)
+    where
+      number : (n : ℕ) → n < length rows → is_int (column (slice_index_or rows n []) 0) ≡ true
+      number n within =
+          let r = slice_index_or rows n [] in
+          all_has (λ (r : Row). is_int (column r 0) ≡ true) rows r (recursion_from_All (λ (r : Row). is_int (column r 0) ≡ true) rows rising.numbers) (has_at rows n r within (any_default rows n r [] within))
+
+      both_before : comes_before (slice_index_or rows k []) (slice_index_or rows (k + 1) []) ≡ true
+      both_before = rw (number k (omega (arith, low)), number (k + 1) low) (rising.rise k low)
+
+  -- each comes before the next, and the first columns are numbers or not
+  pub rising_told : ((k : ℕ) → k + 1 < length rows → int_lt (id_in (column (slice_index_or rows k []) 0)) (id_in (column (slice_index_or rows (k + 1) []) 0)) ≡ true)
+      → (b : Bool) → MatchBool b (All (λ row. is_int (column row 0) ≡ true) rows) (¬ All (λ row. is_int (column row 0) ≡ true) rows) → MatchBool b (AreRising rows) (¬ AreRising rows)
+  rising_told rise true numbers = record { numbers = numbers; rise = rise }
+  rising_told rise false none = λ rising. none rising.numbers
+
+-- numbers ascend, or one falls
+pub ascending_told : (xs : List ℕ) (b : Bool) → MatchBool b (IsNonDecreasing xs) ((k : ℕ) × (k + 1 < length xs) × ((d : ℕ) → slice_index_or xs (k + 1) d < slice_index_or xs k d)) → MatchBool b (IsNonDecreasing xs) (¬ IsNonDecreasing xs)
+ascending_told xs true up = up
+ascending_told xs false fall = λ up.
+    let below : slice_index_or xs fall.0 0 ≤ slice_index_or xs (fall.0 + 1) 0 = up fall.0 (fall.0 + 1) 0 (omega arith) fall.1 in
+    let above = fall.2 0 in
+    absurd (omega (arith, below, above))

@@ -1,5 +1,5 @@
 -- Calls that read.
-use Rattle.rd_store.proofs.Common.{Result, ◌≡◌, ℕ, List, IfOk-weaker, Ghosts, Held, state, Asks, HoldsDesk, IsOpen, Keeps, Reads, HoldsCommonTables, Table, Term, Row, Shown, desk_schema, desk_with, SpellDesk, IsPicked, IsStart, asks_of, shown_picks, shown_starts, shown_was_open, AsksStart, Key, Vec, Global, AsksOver}
+use Rattle.rd_store.proofs.Common.{Result, ◌≡◌, ℕ, List, Vec, Global, IfOk-weaker, Ghosts, Held, state, Asks, HoldsDesk, IsOpen, Keeps, Reads, HoldsCommonTables, Table, Term, Row, Shown, desk_schema, desk_with, SpellDesk, IsPicked, IsStart, asks_of, shown_picks, shown_starts, shown_was_open, AsksStart, AsksOver, Key}
 use Rattle.rd_store.proofs.Laws.{Laws, crash_same, desk_same, leaves_only, stays_desk}
 
 -- a query leaves the desk as it was

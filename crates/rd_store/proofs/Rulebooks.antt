@@ -1,5 +1,5 @@
 -- All rules in one list: that they ascend, and where those of one band and number are among them.
-use Rattle.rd_store.proofs.Common.{◌≡◌, ℕ, ◌+◌, ◌<◌, ◌≤◌, List, [], ◌∷◌, map, take, drop, length, Bool, true, not, T, ◌&&◌, ◌==◌, refl, sym, ap, subst, subst₂, ◌∙◌, arith, Ordering, nat_cmp, is_le, is_lt, Less, entries, entries-from_sorted, from_entries, from_sorted, is_sorted, AllAdjacentBelow, IsPartitionedBy, ordering_then, nat_tests, drop-map, get_or-map, length-map, filter-map, Band, Rule, entries_retained, is_rising, filter_same, map_map, between, parted, parted_map, sorted_after, AreAllRules, is_below, is_up_to, side_of, Desk, Place, Terms, all_rules, place_cmp, place_of, rule_of, rules_at, terms_of, band_code, is_at}
+use Rattle.rd_store.proofs.Common.{◌≡◌, ℕ, ◌+◌, ◌<◌, ◌≤◌, List, [], ◌∷◌, map, take, drop, length, Bool, true, not, T, ◌&&◌, ◌==◌, refl, sym, ap, subst, subst₂, ◌∙◌, arith, Ordering, nat_cmp, is_le, is_lt, Less, entries, entries-from_sorted, from_entries, from_sorted, is_sorted, AllAdjacentBelow, IsPartitionedBy, ordering_then, nat_tests, drop-map, get_or-map, length-map, filter-map, Band, Rule, entries_retained, is_rising, filter_same, map_map, between, parted, parted_map, sorted_after, AreAllRules, is_below, is_up_to, side_of, Desk, Place, Terms, all_rules, place_cmp, place_of, rule_of, rules_at, terms_of, band_code, is_at, get_or, entries_sorted, pairs_rise}
 use Rattle.std.specs.List.Sorted.{IsStrictlySortedBy}
 use Rattle.std.proofs.lemmas.Map.Keys.{sorted_from_all_adjacent}
 use Rattle.rd_tables.proofs.TestPlaces.{Turns}
@@ -41,6 +41,16 @@ are_all rules rise =
     let up : T (is_sorted place_cmp es) = is_rising place_cmp place_order es (subst (IsStrictlySortedBy place_cmp) (sym (map_map (λ (e : Place × Terms). e.0) entry_of_rule rules)) (places_ascend rules rise)) in
     let desk : Desk = record { deeds = from_entries []; images = from_entries []; rules = from_sorted es; keys = from_entries []; checks = from_entries [] } in
     (desk, sym (same_rules rules) ∙ ap (map rule_of) (sym (entries-from_sorted place_cmp es up)))
+
+-- all rules of a desk rise
+pub all_rise : (rules : List Rule) → AreAllRules rules → (k : ℕ) (d : Rule) → k + 1 < length rules → is_lt (place_cmp (place_of (get_or rules k d)) (place_of (get_or rules (k + 1) d))) ≡ true
+all_rise rules (desk, is) k d low =
+    let es = entries desk.rules in
+    let e = entry_of_rule d in
+    let within : k + 1 < length es = omega (arith, low, ap length is, length-map es rule_of) in
+    let first : get_or rules k d ≡ rule_of (get_or es k e) = ap (λ rs. get_or rs k d) is ∙ get_or-map rule_of es k e d (omega (arith, within)) in
+    let second : get_or rules (k + 1) d ≡ rule_of (get_or es (k + 1) e) = ap (λ rs. get_or rs (k + 1) d) is ∙ get_or-map rule_of es (k + 1) e d within in
+    subst₂ (λ x y. is_lt (place_cmp (place_of x) (place_of y)) ≡ true) (sym first) (sym second) (pairs_rise place_cmp es (entries_sorted desk.rules) k (k + 1) e (omega arith) within)
 
 -- ---- those of one band and number
 

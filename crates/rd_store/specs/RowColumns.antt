@@ -5,6 +5,8 @@ use Rattle.std.specs.List.{list_any}
 use Rattle.sqlite.specs.declared.types.Value.{Value}
 use Rattle.sqlite.specs.declared.types.Value.TheVariants.{Null, Int, Text, Blob}
 use Rattle.sqlite.specs.Order.{Row, column}
+use Rattle.sqlite_rules.specs.Edit.{id_in}
+use Rattle.sqlite_trees.specs.View.{is_int}
 use Rattle.rd_policy.specs.Rules.{IsPlainText}
 use Rattle.rd_policy.specs.declared.limits.TheConstants.{LAST_RANK, LAST_SCOPE, LAST_SLOT}
 use Rattle.sqlite.specs.Values.{or_null}
@@ -49,6 +51,10 @@ IsWordAt most (Text text) = IsPlainText most text
 IsWordAt most _ = ⊥
 
 -- ---- one row
+
+-- the first column is a number, and that of the next row is one above it
+abbrev pub comes_before : Row → Row → Bool
+comes_before row next = is_int (column row 0) && (is_int (column next 0) && int_lt (id_in (column row 0)) (id_in (column next 0)))
 
 -- The row shows a deed: its number, its donor, and the day on which it was signed.
 pub record IsDeedRow (row : Row) : Type 0 where

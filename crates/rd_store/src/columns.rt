@@ -31,7 +31,7 @@ pub(crate) fn is_among(number: i64, numbers: &[u32]) -> bool
 }
 
 /// The whole number in a column, `None` where it has none.
-fn int_at(row: &Row, at: usize) -> Option<i64>
+pub(crate) fn int_at(row: &Row, at: usize) -> Option<i64>
     ensures { MatchOption result (is_int (column row.now at) ≡ false) (λ number. column row.now at ≡ Int number) }
 {
     match row.get_ref(at) {

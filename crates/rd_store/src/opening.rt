@@ -1,17 +1,18 @@
-ghost use Rattle.std.specs.Prelude.{◌≡◌, IfOk, IfErr, IsTrue, MatchBool, int_lt, map, true, ⊤};
+ghost use Rattle.std.specs.Prelude.{◌≡◌, All, IfOk, IfErr, MatchBool, map, true, ⊤};
 ghost use Rattle.std.specs.List.Sorted.{IsNonDecreasing};
 ghost use Rattle.sqlite.specs.Held.{state};
 ghost use Rattle.sqlite.specs.Order.{column};
-ghost use Rattle.sqlite_rules.specs.Edit.{id_in};
 ghost use Rattle.sqlite_trees.specs.View.{is_int};
 ghost use Rattle.rd_tables.specs.Asked.{AreRising, IsListed};
 ghost use Rattle.rd_tables.specs.Spellings.{HaveRowids, map_of, natural};
 ghost use Rattle.rd_store.specs.Register.{listed, number_of, register_of};
+ghost use Rattle.rd_store.specs.RowColumns.{comes_before};
 ghost use Rattle.rd_store.specs.Spelled.{HasVersion, HaveOwnRowids, deed_spelling, desk_of, unmarked};
 ghost use Rattle.rd_store.specs.Held.{Asks, HoldsCommonTables, HoldsTables, IsOpen};
 ghost use Rattle.rd_store.specs.Opened.{AreKeys, AreNumbers, HoldsListed, HoldsMarksOf, IsConsistent, IsConsistentAs, IsSoundAt, LawfulChecks, LawfulCommon, LawfulDeeds, LawfulGiven, LawfulKeys, LawfulOthers, LawfulRules, HaveOtherRowids, Tests, TestsPart, listing_query, listing_text, listing_tree};
 ghost use Rattle.rd_store.specs.Walked.{IsWalk, LawfulCommonWalk, LawfulGivenWalk};
 
+use crate::columns::int_at;
 use crate::faults::OpenFault;
 use crate::image_walk::walk_images;
 use crate::images::{Heading, read_numbers};
@@ -57,19 +58,29 @@ fn has_id(row: &Row) -> bool
     matches!(row.get_ref(0), Ok(ValueRef::Int(_)))
 }
 
-/// Whether the first column of a row is a number below that of another.
+/// Whether the first column of a row is a number, and that of the next is one above it.
 fn is_before(row: &Row, next: &Row) -> bool
-    ensures { IsTrue result → int_lt (id_in (column row.now 0)) (id_in (column next.now 0)) ≡ true }
+    ensures { result ≡ comes_before row.now next.now }
 {
-    match (row.get_ref(0), next.get_ref(0)) {
-        (Ok(ValueRef::Int(id)), Ok(ValueRef::Int(next))) => id < next,
-        _ => false,
+    match int_at(row, 0) {
+        Some(id) => match int_at(next, 0) {
+            Some(next) => id < next,
+            None => false,
+        },
+        None => false,
     }
+}
+
+/// Whether the first column of each row is a number.
+fn have_ids(rows: &[Row]) -> bool
+    ensures { MatchBool result (All (λ row. is_int (column row 0) ≡ true) rows.now) (¬ All (λ row. is_int (column row 0) ≡ true) rows.now) }
+{
+    rows.iter().all(has_id)
 }
 
 /// Whether the first column of each row is a number above that of the row before.
 pub(crate) fn are_rising(rows: &[Row]) -> bool
-    ensures { IsTrue result → AreRising rows.now }
+    ensures { MatchBool result (AreRising rows.now) (¬ AreRising rows.now) }
 {
     let mut at = 1;
     while at < rows.len() {
@@ -78,7 +89,7 @@ pub(crate) fn are_rising(rows: &[Row]) -> bool
         }
         at += 1;
     }
-    rows.iter().all(has_id)
+    have_ids(rows)
 }
 
 /// All rows of a table.
@@ -206,7 +217,7 @@ fn check_others<S: Alter>(
 
 /// Whether numbers ascend.
 fn ascend(numbers: &[u32]) -> bool
-    ensures { IsTrue result → IsNonDecreasing numbers.now }
+    ensures { MatchBool result (IsNonDecreasing numbers.now) (¬ IsNonDecreasing numbers.now) }
 {
     numbers.is_sorted()
 }

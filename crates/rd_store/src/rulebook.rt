@@ -1,6 +1,6 @@
 //! All rules in one list, and those of one accession and one deed in it.
 
-ghost use Rattle.std.specs.Prelude.{◌≡◌, ◌++◌, IfSome, IsTrue};
+ghost use Rattle.std.specs.Prelude.{◌≡◌, ◌++◌, MatchBool, MatchOption};
 ghost use Rattle.std.specs.Ordering.{is_lt};
 ghost use Rattle.rd_policy.specs.Verdicts.{AreInOrder};
 ghost use Rattle.rd_policy.specs.declared.rule.Band.{Band as RuleBand};
@@ -42,7 +42,7 @@ fn is_before(one: &Rule, other: &Rule) -> bool
 
 /// Whether each rule comes before the next.
 fn are_ascending(rules: &[Rule]) -> bool
-    ensures { IsTrue result → AreAllRules rules.now }
+    ensures { MatchBool result (AreAllRules rules.now) (¬ AreAllRules rules.now) }
 {
     for i in 1..rules.len() {
         if !is_before(&rules[i - 1], &rules[i]) {
@@ -80,9 +80,9 @@ fn those_of(rules: &[Rule], code: u32, scope: u32) -> &[Rule]
 }
 
 impl Rulebook {
-    /// A book of these rules; `None` if they do not ascend by place.
+    /// A book of these rules; `None` exactly if they do not ascend by place.
     pub(crate) fn of(rules: Vec<Rule>) -> Option<Rulebook>
-        ensures { IfSome result (λ book. book ≡ rules.items) }
+        ensures { MatchOption result (¬ AreAllRules rules.items) (λ book. book ≡ rules.items) }
     {
         if !are_ascending(&rules) {
             return None;

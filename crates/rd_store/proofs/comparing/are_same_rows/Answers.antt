@@ -1,5 +1,5 @@
 use Rattle.rd_store.proofs.Common.{◌∙◌, ◌<◌, IsTrue, arith, length, rules, sym, take_all, take_more_same}
-use Rattle.rd_store.proofs.CompareLemmas.{any_default}
+use Rattle.rd_store.proofs.Listings.{any_default}
 use Rattle.rd_store.proofs.comparing.are_same_rows.Goals as goal
 
 pub loop-at-preserved : goal.loop-at-preserved

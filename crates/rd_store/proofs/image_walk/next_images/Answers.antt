@@ -1,4 +1,4 @@
-use Rattle.rd_store.proofs.Common.{rules, refl, subst, sym, state, AreRising, AreBatchOf}
+use Rattle.rd_store.proofs.Common.{rules, subst, sym, state, AreRising, AreBatchOf}
 use Rattle.rd_store.proofs.ImageWalks.{batch_of}
 use Rattle.rd_store.proofs.image_walk.next_images.Goals as goal
 
@@ -13,6 +13,6 @@ returns-in-Ok g c = record {
     fault = tt;
     answer = λ is_open.
         let trees = (state g.S.Store c.args.conn.now).now.trees in
-        subst (AreBatchOf c.args.after trees) (sym c.truncate.ensures.items) (batch_of c.args.after trees c.in-Ok.rows.items (c.in-Ok.ensures.asks.answer is_open) (subst AreRising c.deref.ensures.value (c.if-are_rising.ensures refl)));
+        subst (AreBatchOf c.args.after trees) (sym c.truncate.ensures.items) (batch_of c.args.after trees c.in-Ok.rows.items (c.in-Ok.ensures.asks.answer is_open) (subst AreRising c.deref.ensures.value c.if-are_rising.ensures));
   };
 }

@@ -1,6 +1,6 @@
 use Rattle.rd_store.proofs.Common.{non_decreasing_from_is_sorted}
-use Rattle.rd_store.proofs.ImageWalks.{truth_of}
+use Rattle.rd_store.proofs.Listings.{ascending_told}
 use Rattle.rd_store.proofs.opening.ascend.Goals as goal
 
 pub returns : goal.returns
-returns c = λ is. truth_of c.is_sorted.result _ _ (non_decreasing_from_is_sorted c.args.numbers.now c.is_sorted.result c.is_sorted.ensures.cases) is
+returns c = ascending_told c.args.numbers.now c.is_sorted.result (non_decreasing_from_is_sorted c.args.numbers.now c.is_sorted.result c.is_sorted.ensures.cases)

@@ -1,4 +1,4 @@
-use Rattle.rd_store.proofs.Common.{rules, [], refl, sym, subst, state, Shown, AreRising, shown_was_open, IsReadable, listing_text}
+use Rattle.rd_store.proofs.Common.{rules, [], sym, subst, state, Shown, AreRising, shown_was_open, IsReadable, listing_text}
 use Rattle.rd_store.proofs.Listings.{listing_reads, listing_picks}
 use Rattle.rd_store.proofs.opening.read_listing.Goals as goal
 
@@ -20,9 +20,9 @@ returns-in-Ok-clause-asks g c = record {
       let shown = subst (λ text. Shown text [] old new c.in-Ok.rows.items) c.listing_text.ensures (c.in-Ok.ensures.asks.answer is_open) in
       record {
         picks = listing_picks c.args.table old new c.requires.tables (shown_was_open (listing_text c.args.table) [] old new c.in-Ok.rows.items shown) c.in-Ok.rows.items shown;
-        rising = subst AreRising c.deref.ensures.value (c.if-are_rising.ensures refl);
+        rising = subst AreRising c.deref.ensures.value c.if-are_rising.ensures;
       };
 }
 
 pub returns-in-Ok-clause-rising : goal.returns-in-Ok-clause-rising
-returns-in-Ok-clause-rising g c = subst AreRising c.deref.ensures.value (c.if-are_rising.ensures refl)
+returns-in-Ok-clause-rising g c = subst AreRising c.deref.ensures.value c.if-are_rising.ensures
