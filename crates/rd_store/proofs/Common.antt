@@ -32,7 +32,7 @@ pub use Rattle.rd_store.specs.Index.{AreFilesIn, FileAt, IsFileIn, IsFiledTo, Is
 pub use Rattle.rd_store.specs.Latest.{check_shown, checks_after, checkup_shown, is_of}
 pub use Rattle.rd_store.specs.Marks.{AreMarksIn, joined, kind_with, with_marks}
 pub use Rattle.rd_store.specs.Migrated.{IsFirst, IsFirstConsistent, IsHalfway, IsHeldFirst, IsHeldIn, IsMigrated, IsNotMigrated, IsRegisterIn, IsSecondConsistent, LeavesOldOrMigrated, RefusesEach, first_desk}
-pub use Rattle.rd_store.specs.Opened.{AreFiledUnder, AreKeys, AreListed, AreMarksOf, AreNumbers, Denied, HasDisk, HasDiskIf, HasFiles, HaveAccessions, HaveFiles, HaveOtherRowids, HoldsListed, HoldsMarksIf, IsCheckOf, IsConsistent, IsConsistentAs, IsFiledAt, IsHeld, IsImageOf, IsIndexAt, IsNamed, IsNoDesk, IsNotOpened, IsOpened, IsResting, IsRuleOf, IsSaid, IsSettledAt, Judged, JudgedPart, LawfulCommon, LawfulDeeds, LawfulFiles, LawfulGiven, LawfulImages, LawfulMarks, LawfulOthers, NamesDesk, Refuses, Says, StandsAmong, StandsIn, Tests, TestsDatabase, TestsPart, image_among, image_if, is_among, listing_query, listing_text, listing_tree, marks_if}
+pub use Rattle.rd_store.specs.Opened.{AreFiledUnder, AreKeys, AreListed, AreMarksOf, AreNumbers, Denied, HasDisk, HasDiskIf, HasFiles, HaveAccessions, HaveFiles, HaveOtherRowids, HoldsListed, HoldsMarksIf, IsCheckOf, IsConsistent, IsConsistentAs, IsFiledAt, IsHeld, IsImageOf, IsIndexAt, IsNamed, IsNoDesk, IsNotOpened, IsOpened, IsResting, IsRuleOf, IsSaid, IsSettledAt, Judged, JudgedPart, LawfulChecks, LawfulCommon, LawfulDeeds, LawfulFiles, LawfulGiven, LawfulImages, LawfulKeys, LawfulMarks, LawfulOthers, LawfulRules, NamesDesk, Refuses, Says, StandsAmong, StandsIn, Tests, TestsDatabase, TestsPart, image_among, image_if, is_among, listing_query, listing_text, listing_tree, marks_if}
 pub use Rattle.rd_store.specs.Register.{HasRoomIn, IsPlaceIn, IsRegisterOf, IsSameHeading, entry_for, entry_in, listed, listed_in, number_of, numbered_accession, register_of}
 pub use Rattle.rd_store.specs.RowColumns.{HasErrorBytes, HasParts, IsCheckRow, IsDeedRow, IsDonorAt, IsFileRow, IsFiledRow, IsImageRow, IsKeyRow, IsMarksRow, IsRuleRow, IsSelectAt, IsStaffRow, IsWordAt, ShowFiles, blob_name, comes_before, is_band, is_day, is_digest, is_number, is_one_of, is_size_of, is_some_day}
 pub use Rattle.rd_store.specs.Ruled.{AreAllRules, is_below, is_up_to, side_of}

@@ -1,5 +1,5 @@
 -- What the texts that ask for all rows of a table show.
-use Rattle.rd_store.proofs.Common.{Has, id_in, is_int, column, all_has, recursion_from_All, AreRising, comes_before, IsNonDecreasing, ◌≤◌, All, Bool, true, false, MatchBool, ap₂, int_lt, true≢false, ◌≡◌, ◌⊎◌, inl, inr, ℕ, zero, suc, ◌+◌, ◌<◌, List, [], ◌∷◌, length, slice_index_or, refl, sym, ap, ◌∙◌, IsTrue, arith, Row, State, Shown, IsPicked, desk_schema, all_deeds_asks, all_rules_asks, all_keys_asks, all_checks_asks, all_files_asks, all_marks_asks, shown_picks, IsReadable, HoldsListed, listing_text, listing_query, listing_tree}
+use Rattle.rd_store.proofs.Common.{Ok, Err, ◌≤◌, All, Bool, true, false, MatchBool, ap₂, int_lt, true≢false, ◌≡◌, ◌⊎◌, inl, inr, ℕ, zero, suc, ◌+◌, ◌<◌, List, [], ◌∷◌, length, slice_index_or, refl, sym, ap, ◌∙◌, IsTrue, arith, Ghosts, Held, state, Trees, OpenFault, Inconsistent, Asks, IsOpen, IsReadable, TestsPart, HoldsListed, listing_text, listing_query, listing_tree, Has, id_in, is_int, column, Row, all_has, recursion_from_All, AreRising, IsPicked, comes_before, IsNonDecreasing, State, Shown, desk_schema, all_deeds_asks, all_rules_asks, all_keys_asks, all_checks_asks, all_files_asks, all_marks_asks, shown_picks}
 use Rattle.rd_store.specs.declared.opening.TableListing.{TableListing}
 use Rattle.rd_store.specs.declared.opening.TableListing.TheVariants.{Deeds, Rules, Keys, Checks, Files, Marks}
 
@@ -72,3 +72,20 @@ ascending_told xs false fall = λ up.
     let below : slice_index_or xs fall.0 0 ≤ slice_index_or xs (fall.0 + 1) 0 = up fall.0 (fall.0 + 1) 0 (omega arith) fall.1 in
     let above = fall.2 0 in
     absurd (omega (arith, below, above))
+
+-- ---- a listing that was read, and what its rows are told to be
+
+module _ {S L : Type 0} (g : Ghosts S) (old new : Held S) {rows : L} {only : OpenFault} {Listed : L → Type 0} (asks : Asks g old new (Ok rows) only Listed) (Part P : Trees → Type 0) where
+  -- they are those of a desk
+  pub listing_passes : {T : Type 0} (value : T) → (IsOpen g old → Listed rows → Part (state g old).now.trees) → TestsPart g old new (Ok value) Part P
+  listing_passes value told = record { stays = asks.stays; judges = λ o. told (asks.stays.lasts.was_open o) (asks.answer o); ends_open = asks.ends_open; refuses = tt; named = tt }
+
+  -- or they are not
+  pub listing_fails : {T : Type 0} → (IsOpen g old → Listed rows → ¬ P (state g old).now.trees) → TestsPart {T = T} g old new (Err Inconsistent) Part P
+  listing_fails told = record {
+    stays = asks.stays;
+    judges = λ o. told (asks.stays.lasts.was_open o) (asks.answer o);
+    ends_open = λ clean. tt;
+    refuses = λ not_desk not_sql clean. asks.ends_open clean;
+    named = λ is. absurd cc;
+  }

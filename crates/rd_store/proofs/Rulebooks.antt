@@ -1,5 +1,5 @@
 -- All rules in one list: that they ascend, and where those of one band and number are among them.
-use Rattle.rd_store.proofs.Common.{◌≡◌, ℕ, ◌+◌, ◌<◌, ◌≤◌, List, [], ◌∷◌, map, take, drop, length, Bool, true, not, T, ◌&&◌, ◌==◌, refl, sym, ap, subst, subst₂, ◌∙◌, arith, Ordering, nat_cmp, is_le, is_lt, Less, entries, entries-from_sorted, from_entries, from_sorted, is_sorted, AllAdjacentBelow, IsPartitionedBy, ordering_then, nat_tests, drop-map, get_or-map, length-map, filter-map, Band, Rule, entries_retained, is_rising, filter_same, map_map, between, parted, parted_map, sorted_after, AreAllRules, is_below, is_up_to, side_of, Desk, Place, Terms, all_rules, place_cmp, place_of, rule_of, rules_at, terms_of, band_code, is_at, get_or, entries_sorted, pairs_rise}
+use Rattle.rd_store.proofs.Common.{◌≡◌, ℕ, ◌+◌, ◌<◌, ◌≤◌, List, [], ◌∷◌, map, take, drop, length, Bool, true, not, T, ◌&&◌, ◌==◌, refl, sym, ap, subst, subst₂, ◌∙◌, arith, Ordering, nat_cmp, is_le, is_lt, Less, get_or, entries, entries-from_sorted, from_entries, from_sorted, entries_sorted, is_sorted, AllAdjacentBelow, IsPartitionedBy, ordering_then, nat_tests, drop-map, get_or-map, length-map, filter-map, Band, Rule, entries_retained, is_rising, filter_same, map_map, between, parted, parted_map, sorted_after, pairs_rise, AreAllRules, is_below, is_up_to, side_of, Desk, Place, Terms, all_rules, place_cmp, place_of, rule_of, rules_at, terms_of, band_code, is_at}
 use Rattle.std.specs.List.Sorted.{IsStrictlySortedBy}
 use Rattle.std.proofs.lemmas.Map.Keys.{sorted_from_all_adjacent}
 use Rattle.rd_tables.proofs.TestPlaces.{Turns}

@@ -1,27 +1,14 @@
-use Rattle.rd_store.proofs.Common.{rules, ◌∙◌, All, map, ap, sym, subst, true, false, column, map_of, natural, IsDeedRow, AreKeys, deed_spelling, IsNonDecreasing}
+use Rattle.rd_store.proofs.Common.{LawfulDeeds, AreKeys, ◌∙◌, All, map, ap, sym, subst, true, false, column, map_of, natural, IsDeedRow, deed_spelling, IsNonDecreasing}
+use Rattle.rd_store.proofs.Listings.{listing_fails, listing_passes}
 use Rattle.rd_store.proofs.RowTests.{deeds_told, deed_numbers}
 use Rattle.rd_store.proofs.opening.check_deeds.Goals as goal
 use Rattle.rd_store.proofs.BinarySearch.{numbers_ascend}
 
 pub returns-then-not-are_deeds-clause-tests : goal.returns-then-not-are_deeds-clause-tests
-returns-then-not-are_deeds-clause-tests g c = record {
-  stays = c.read_listing.ensures.asks.stays;
-  ends_open = search rules;
-  refuses = search rules;
-  named = search rules;
-  judges = λ is_open.
-      deeds_told _ _ (c.in_ok-rows.ensures.asks.answer is_open) false (subst (λ rows. ¬ All IsDeedRow rows) c.deref.ensures.value c.if-not-are_deeds.ensures);
-}
+returns-then-not-are_deeds-clause-tests g c = listing_fails g.S.Store _ _ c.in_ok-rows.ensures.asks LawfulDeeds LawfulDeeds (λ was listed. deeds_told _ _ listed false (subst (λ rows. ¬ All IsDeedRow rows) c.deref.ensures.value c.if-not-are_deeds.ensures))
 
 pub returns-in-Ok-clause-tests : goal.returns-in-Ok-clause-tests
-returns-in-Ok-clause-tests g c = record {
-  stays = c.read_listing.ensures.asks.stays;
-  ends_open = search rules;
-  refuses = search rules;
-  named = search rules;
-  judges = λ is_open.
-      deeds_told _ _ (c.in_ok-rows.ensures.asks.answer is_open) true (subst (All IsDeedRow) c.deref.ensures.value c.if-not-are_deeds.ensures);
-}
+returns-in-Ok-clause-tests g c = listing_passes g.S.Store _ _ c.in_ok-rows.ensures.asks LawfulDeeds LawfulDeeds _ (λ was listed. deeds_told _ _ listed true (subst (All IsDeedRow) c.deref.ensures.value c.if-not-are_deeds.ensures))
 
 pub returns-in-Ok-clause-numbers : goal.returns-in-Ok-clause-numbers
 returns-in-Ok-clause-numbers g c is_open =

@@ -1,4 +1,5 @@
 use Rattle.rd_store.proofs.Common.{⊤, All, subst, state, HasErrorBytes, IsConsistent}
+use Rattle.rd_store.proofs.Listings.{listing_fails, listing_passes}
 use Rattle.rd_store.proofs.ImageWalks.{each_has_error_bytes, sql_part}
 use Rattle.rd_store.proofs.opening.marks_listed.Goals as goal
 
@@ -10,18 +11,10 @@ returns-in_err-rows-clause-tests g c =
     sql_part g.S.Store c.args.conn.now c.read_listing.new.conn c.read_listing.ensures.asks.stays (λ trees. ⊤) IsConsistent c.in_err-rows.field-0.0 c.from_residual.result c.from_residual.ensures.1 c.in_err-rows.ensures.asks.fault
 
 pub returns-then-not-have_error_bytes-clause-tests : goal.returns-then-not-have_error_bytes-clause-tests
-returns-then-not-have_error_bytes-clause-tests g c = record {
-  stays = c.read_listing.ensures.asks.stays;
-  ends_open = λ clean. tt;
-  refuses = λ not_desk not_sql clean. c.in_ok-rows.ensures.asks.ends_open clean;
-  named = λ is. absurd cc;
-  judges = λ is_open all.
-      let some = subst (λ rows. ¬ All HasErrorBytes rows) c.deref.ensures.value c.if-not-have_error_bytes.ensures in
-      some (each_has_error_bytes (state g.S.Store c.args.conn.now).now.trees c.in_ok-rows.rows.items (c.in_ok-rows.ensures.asks.answer is_open) all);
-}
+returns-then-not-have_error_bytes-clause-tests g c = listing_fails g.S.Store _ _ c.in_ok-rows.ensures.asks (λ trees. ⊤) IsConsistent (λ was listed all. let some = subst (λ rows. ¬ All HasErrorBytes rows) c.deref.ensures.value c.if-not-have_error_bytes.ensures in some (each_has_error_bytes (state g.S.Store c.args.conn.now).now.trees c.in_ok-rows.rows.items listed all))
 
 pub returns-clause-tests : goal.returns-clause-tests
-returns-clause-tests g c = record { stays = c.read_listing.ensures.asks.stays; ends_open = λ clean. c.in_ok-rows.ensures.asks.ends_open clean; refuses = tt; named = tt; judges = λ is_open. tt }
+returns-clause-tests g c = listing_passes g.S.Store _ _ c.in_ok-rows.ensures.asks (λ trees. ⊤) IsConsistent _ (λ was listed. tt)
 
 pub returns-clause-listed : goal.returns-clause-listed
 returns-clause-listed g c is_open = c.in_ok-rows.ensures.asks.answer is_open

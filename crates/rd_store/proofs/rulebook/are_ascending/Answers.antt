@@ -1,4 +1,4 @@
-use Rattle.rd_store.proofs.Common.{◌≡◌, ◌∙◌, ◌+◌, ◌-◌, inl, inr, ap, arith, slice_index_or, sym, get_or_default, ◌<◌, length, true, true≢false, is_lt, subst₂, place_cmp, place_of}
+use Rattle.rd_store.proofs.Common.{◌≡◌, ◌∙◌, ◌+◌, ◌-◌, inl, inr, ap, arith, slice_index_or, sym, ◌<◌, length, true, true≢false, is_lt, subst₂, get_or_default, place_cmp, place_of}
 use Rattle.rd_store.proofs.Listings.{below_or_at}
 use Rattle.rd_store.proofs.Rulebooks.{all_rise, are_all}
 use Rattle.rd_store.proofs.rulebook.are_ascending.Goals as goal
