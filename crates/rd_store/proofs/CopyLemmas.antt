@@ -1,9 +1,9 @@
 -- A desk that is copied entry by entry, inside one transaction.
-use Rattle.rd_store.proofs.Common.{◌≡◌, ◌⊎◌, ◌∙◌, inl, inr, ℕ, zero, suc, ◌+◌, ◌<◌, ◌++◌, ◌&&◌, List, [], ◌∷◌, length, get_or, take, Bool, true, false, cond, T, Some, None, Result, Ok, Err, Ordering, Less, Equal, Greater, ap, arith, refl, subst, sym, is_eq, is_lt, IfOk, IsErr, IsTrue, MatchBool, OnOk, true≢false, FinMap, entries, entries_sorted, from_entries, from_entries_push, get, get-entries, get-from_entries, insert, same_map, below_all, find, is_sorted, eq_by_cmp, eq_by_cmp_equiv, take_all, take_more, Ghosts, Database, Held, state, Error, IsKeyOrder, Desk, IsBlank, has_desk, AndClean, IsCopied, IsNotCopied, KeepsOrStays, LeavesCopy, OpensCopy, LeavesOldOrNew, RestsIn, Turns, OpenFault, IsNotOpened, IsOpened, Holds, IsAtRest, IsClean, IsLeft, IsOpen, Keeps, Lasts, LeavesOpen, Moves, Reads, desk}
+use Rattle.rd_store.proofs.Common.{◌≡◌, ◌⊎◌, ◌∙◌, inl, inr, ℕ, zero, suc, ◌+◌, ◌<◌, ◌++◌, ◌&&◌, List, [], ◌∷◌, length, get_or, take, Bool, true, false, cond, T, Some, None, Result, Ok, Err, Ordering, Less, Equal, Greater, ap, arith, refl, subst, sym, is_eq, is_lt, IfOk, IsErr, IsTrue, MatchBool, OnOk, true≢false, FinMap, entries, entries_sorted, from_entries, from_entries_push, get, get-entries, get-from_entries, insert, same_map, below_all, find, is_sorted, eq_by_cmp, eq_by_cmp_equiv, take_all, take_more, Ghosts, Database, Held, state, Error, IsKeyOrder, Desk, IsBlank, has_desk, AndClean, IsCopied, IsNotCopied, KeepsOrStays, LeavesCopy, OpensCopy, LeavesOldOrNew, RestsIn, Turns, OpenFault, IsNotOpened, IsOpened, Holds, IsAtRest, IsClean, IsLeft, IsOpen, Keeps, Lasts, LeavesOpen, Moves, Reads, desk, map, get_or-map, length-map, IsOf}
 use Rattle.rd_store.specs.declared.faults.CreateFault.{CreateFault}
 use Rattle.rd_store.specs.declared.faults.CreateFault.TheVariants.{Exists, Sql}
 use Rattle.rd_store.proofs.Laws.{lasts_still, lasts_then, left_is}
-use Rattle.rd_store.proofs.TransactionSteps.{and_then}
+use Rattle.rd_store.proofs.TransactionSteps.{and_then, stopped}
 
 -- ---- the first entries of a finite map
 
@@ -74,6 +74,42 @@ unmoved g h P Q e = let none = moves_none g h P in record { quiet = none.quiet; 
 pub unmoved_then : {S U X : Type 0} (g : Ghosts S) (h : Held S) (P Q : Database → Type 0) (r : Result U X) → IsErr r → Moves g h h P Q r
 unmoved_then g h P Q (Err e) failed = unmoved g h P Q e
 unmoved_then g h P Q (Ok u) failed = absurd (true≢false (sym failed))
+
+-- ---- entries that are copied one by one
+
+-- an item of a list is the entry at its place
+pub at_same : {E : Type 0} (es items : List E) (at : ℕ) (item : E) → items ≡ es → at < length items → item ≡ get_or items at item → (at < length es) × (get_or es at item ≡ item)
+at_same {E} es items at item are low is = (subst (λ (l : List E). at < length l) are low, subst (λ (l : List E). get_or l at item ≡ item) are (sym is))
+
+-- or shows it
+pub at_shown : {E A : Type 0} (shown : E → A) (back : A → E) → ((e : E) → back (shown e) ≡ e) → (es : List E) (items : List A) (at : ℕ) (item : A) → items ≡ map shown es → at < length items → item ≡ get_or items at item
+    → (at < length es) × (get_or es at (back item) ≡ back item)
+at_shown {E} {A} shown back there es items at item are low is =
+    let within : at < length es = subst (λ n. at < n) (ap length are ∙ length-map es shown) low in (
+      within,
+      sym (there (get_or es at (back item))) ∙ ap back (sym (get_or-map shown es at (back item) item within) ∙ ap (λ (xs : List A). get_or xs at item) (sym are) ∙ sym is),
+    )
+
+module _ {S K X : Type 0} (g : Ghosts S) (cmp : K → K → Ordering) (order : IsKeyOrder cmp) (before : Desk) (all : FinMap cmp X) (with_all : FinMap cmp X → Desk → Desk) (old mid : Held S) (at : ℕ)
+    (come : Moves {T = Unit {0}} {X = Error} g old mid (IsOf before) (IsOf (with_all (first_of cmp at all) before)) (Ok tt)) where
+  module _ (new : Held S) (e : K × X) (low : at < length (entries all)) (is : get_or (entries all) at e ≡ e) where
+    abbrev Next : Database → Type 0
+    Next = IsOf (with_all (insert (first_of cmp at all) e.0 e.1) before)
+
+    -- one more is put
+    pub one_copied : {n : ℕ} → Moves {X = Error} g mid new (IsOf (with_all (first_of cmp at all) before)) Next (Ok n) → Moves {T = Unit {0}} {X = Error} g old new (IsOf before) (IsOf (with_all (first_of cmp (at + 1) all) before)) (Ok tt)
+    one_copied {n} put =
+        subst (λ (m : FinMap cmp X). Moves {T = Unit {0}} {X = Error} g old new (IsOf before) (IsOf (with_all m before)) (Ok tt)) (next_put cmp order all at e low is)
+        (goes_on g old mid new (IsOf before) (IsOf (with_all (first_of cmp at all) before)) Next come n put)
+
+    -- or it fails
+    pub none_copied : {x : Error} {U Y : Type 0} (q : Result U Y) → IsErr q → Moves {T = ℕ} g mid new (IsOf (with_all (first_of cmp at all) before)) Next (Err x) → Moves g old new (IsOf before) (IsOf (with_all all before)) q
+    none_copied {x} q failed put =
+        stopped g old new (IsOf before) Next (IsOf (with_all all before)) x q failed (and_then g old mid new (IsOf before) (IsOf (with_all (first_of cmp at all) before)) Next tt come (Err x) put)
+
+  -- all are put
+  pub all_copied : at ≡ length (entries all) → Moves {T = Unit {0}} {X = Error} g old mid (IsOf before) (IsOf (with_all all before)) (Ok tt)
+  all_copied end = subst (λ (m : FinMap cmp X). Moves {T = Unit {0}} {X = Error} g old mid (IsOf before) (IsOf (with_all m before)) (Ok tt)) (first_all cmp order all at end) come
 
 -- where the disk of another connection has returned what was written
 module _ {S U : Type 0} (g : Ghosts S) (a b : Held S) (P Q : Database → Type 0) (r : Result U Error) where
