@@ -1,5 +1,6 @@
 -- The text that asks for all checks, and what it shows.
-use Rattle.rd_store.proofs.Common.{◌≡◌, ◌∙◌, ℕ, ℤ, pos, List, [], ◌∷◌, false, true, Less, ap, ap₂, arith, codes, int_cmp, is_eq, is_lt, map, nat_cmp, refl, sym, entries, ordering_then, nat_tests, Int, Row, column, Query, key_cmp, col, value_cmp-Int, then-Equal, IsPicked, asks_of, rising, Spells, map_of, retain_all, in_order, AsksBy, Checkup, checkup_cmp, Outcome, numbered_check, check_spelling}
+use Rattle.rd_store.proofs.Common.{◌≡◌, ◌∙◌, ℕ, pos, List, [], ◌∷◌, true, ap, codes, is_lt, map, refl, sym, entries, Int, Row, column, Query, col, IsPicked, asks_of, rising, Spells, map_of, retain_all, in_order, AsksBy, Checkup, checkup_cmp, Outcome, numbered_check, check_spelling}
+use Rattle.rd_store.proofs.LaterCheckQuery.{checks_rise, two_keys}
 use Rattle.sqlite.specs.Listing.{understood}
 use Rattle.sqlite_tied.specs.Compute.{everything}
 use Rattle.rd_store.proofs.Orders.{checkup_order, outcome_back}
@@ -14,14 +15,6 @@ check_list_query = asks_of 7 [] (col 1 1 ∷ col 1 2 ∷ col 1 3 ∷ []) ((col 1
 pub check_list_asks : AsksBy check_list_text 7 check_list_query
 unfolding understood everything
 check_list_asks = record { names = codes "acc" ∷ codes "day" ∷ codes "outcome" ∷ []; means = refl; plain = (refl, refl); stored = refl; here = λ trees. refl }
-
--- ORDER BY the accession and the day, as checks rise
-two_keys : (a b : ℕ) (d e : ℤ) → key_cmp 0 (rising ∷ rising ∷ []) (Int (pos a) ∷ Int d ∷ []) (Int (pos b) ∷ Int e ∷ []) ≡ ordering_then (int_cmp (pos a) (pos b)) (int_cmp d e)
-two_keys a b d e = ap₂ ordering_then (value_cmp-Int (pos a) (pos b)) (then-Equal _ ∙ value_cmp-Int d e)
-
-checks_rise : (a b : ℕ) (d e : ℤ) → is_lt (ordering_then (int_cmp (pos b) (pos a)) (int_cmp e d)) ≡ false → is_eq (ordering_then (nat_cmp a b) (int_cmp d e)) ≡ false
-    → ordering_then (nat_cmp a b) (int_cmp d e) ≡ Less
-checks_rise a b d e up apart = grind (arith, nat_tests)
 
 pub checks_listed : (table rows : List Row) → Spells check_spelling table → IsPicked check_list_query [] table rows → rows ≡ map check_spelling.columns (entries (map_of check_spelling table))
 checks_listed table rows spells picks =

@@ -48,8 +48,8 @@ pub use Rattle.rd_store.specs.declared.register.Register.{Register}
 pub use Rattle.rd_store.specs.declared.version.Version.{Version}
 pub use Rattle.rd_store.specs.declared.version.Version.TheVariants.{Second}
 pub use Rattle.rd_tables.proofs.CreateTexts.{Creates, creates, creates_writes}
-pub use Rattle.rd_tables.proofs.Entries.{IsKeyOrder, below_has, entries_retained, entry_got, get_inserted, get_removed, got_entry, insert_removed, is_rising, retain_all, tie}
-pub use Rattle.rd_tables.proofs.ListLemmas.{and_true, both, empty_by_length, filter_filter, filter_same, from_map, in_map, map_map, same_truth}
+pub use Rattle.rd_tables.proofs.Entries.{IsKeyOrder, apart_if_less, below_has, entries_retained, entry_got, get_inserted, get_removed, got_entry, insert_removed, is_rising, retain_all, tie}
+pub use Rattle.rd_tables.proofs.ListLemmas.{and_true, both, empty_by_length, equals_itself, filter_filter, filter_same, from_map, halves, holds_true, in_map, map_map, or_true, same_truth, some_got}
 pub use Rattle.rd_tables.proofs.QueryEffects.{query_fails, read_survives, shown_is_open, shown_picks, shown_starts, shown_unchanged, shown_was_open}
 pub use Rattle.rd_tables.proofs.QueryMaps.{in_order, looked_up}
 pub use Rattle.rd_tables.proofs.QueryTexts.{AsksBy, AsksOver, AsksStart, all_checks_asks, all_deeds_asks, all_files_asks, all_keys_asks, all_marks_asks, all_rules_asks, audience_asks, batch_asks, deed_asks, file_asks, files_asks, first_images_asks, image_asks, keys_asks, marks_asks, next_images_asks, placed_rules_asks, rules_asks}

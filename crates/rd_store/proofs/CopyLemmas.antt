@@ -1,5 +1,5 @@
 -- A desk that is copied entry by entry, inside one transaction.
-use Rattle.rd_store.proofs.Common.{◌≡◌, ◌⊎◌, ◌∙◌, inl, inr, ℕ, zero, suc, ◌+◌, ◌<◌, ◌++◌, ◌&&◌, List, [], ◌∷◌, length, get_or, take, Bool, true, false, cond, T, Some, None, Result, Ok, Err, Ordering, Less, Equal, Greater, ap, arith, refl, subst, sym, is_eq, is_lt, IfOk, IsErr, IsTrue, MatchBool, OnOk, true≢false, FinMap, entries, entries_sorted, from_entries, from_entries_push, get, get-entries, get-from_entries, insert, same_map, below_all, find, is_sorted, eq_by_cmp, eq_by_cmp_equiv, take_all, take_more, Ghosts, Database, Held, state, Error, IsKeyOrder, Desk, IsBlank, has_desk, AndClean, IsCopied, IsNotCopied, KeepsOrStays, LeavesCopy, OpensCopy, LeavesOldOrNew, RestsIn, Turns, OpenFault, IsNotOpened, IsOpened, Holds, IsAtRest, IsClean, IsLeft, IsOpen, Keeps, Lasts, LeavesOpen, Moves, Reads, desk, map, get_or-map, length-map, IsOf}
+use Rattle.rd_store.proofs.Common.{apart_if_less, halves, ◌≡◌, ◌⊎◌, ◌∙◌, inl, inr, ℕ, zero, suc, ◌+◌, ◌<◌, ◌++◌, List, [], ◌∷◌, length, get_or, take, Bool, true, false, cond, T, Some, None, Result, Ok, Err, Ordering, ap, arith, refl, subst, sym, is_lt, IfOk, IsErr, IsTrue, MatchBool, OnOk, true≢false, map, FinMap, entries, entries_sorted, from_entries, from_entries_push, get, get-entries, get-from_entries, insert, same_map, below_all, find, is_sorted, eq_by_cmp, eq_by_cmp_equiv, take_all, take_more, get_or-map, length-map, Ghosts, Database, Held, state, Error, IsKeyOrder, Desk, IsBlank, has_desk, AndClean, IsCopied, IsNotCopied, KeepsOrStays, LeavesCopy, OpensCopy, LeavesOldOrNew, RestsIn, Turns, OpenFault, IsNotOpened, IsOpened, Holds, IsAtRest, IsClean, IsLeft, IsOpen, Keeps, Lasts, LeavesOpen, Moves, Reads, desk, IsOf}
 use Rattle.rd_store.specs.declared.faults.CreateFault.{CreateFault}
 use Rattle.rd_store.specs.declared.faults.CreateFault.TheVariants.{Exists, Sql}
 use Rattle.rd_store.proofs.Laws.{lasts_still, lasts_then, left_is}
@@ -7,20 +7,11 @@ use Rattle.rd_store.proofs.TransactionSteps.{and_then, stopped}
 
 -- ---- the first entries of a finite map
 
-parts : (a b : Bool) → T (a && b) → T a × T b
-parts true b h = (tt, h)
-parts false b h = absurd h
-
-apart_if_less : (o : Ordering) → T (is_lt o) → is_eq o ≡ false
-apart_if_less Less h = refl
-apart_if_less Equal h = absurd h
-apart_if_less Greater h = absurd h
-
 module _ {K X : Type 0} (cmp : K → K → Ordering) where
   below_at : (x : K) (es : List (K × X)) (k : ℕ) (e : K × X) → T (below_all cmp x es) → k < length es → get_or es k e ≡ e → T (is_lt (cmp x e.0))
   below_at x [] k e below low is = absurd (omega (arith, low))
-  below_at x (f ∷ es) zero e below low is = subst (λ (one : K × X). T (is_lt (cmp x one.0))) is (parts (is_lt (cmp x f.0)) (below_all cmp x es) below).0
-  below_at x (f ∷ es) (suc k) e below low is = below_at x es k e (parts (is_lt (cmp x f.0)) (below_all cmp x es) below).1 (omega (arith, low)) is
+  below_at x (f ∷ es) zero e below low is = subst (λ (one : K × X). T (is_lt (cmp x one.0))) is (halves (is_lt (cmp x f.0)) (below_all cmp x es) below).0
+  below_at x (f ∷ es) (suc k) e below low is = below_at x es k e (halves (is_lt (cmp x f.0)) (below_all cmp x es) below).1 (omega (arith, low)) is
 
   -- the first so many entries
   abbrev pub first_of : ℕ → FinMap cmp X → FinMap cmp X
@@ -31,9 +22,9 @@ module _ {K X : Type 0} (cmp : K → K → Ordering) where
     none_before [] k e sorted low is = absurd (omega (arith, low))
     none_before (f ∷ es) zero e sorted low is = refl
     none_before (f ∷ es) (suc k) e sorted low is =
-        let halves = parts (below_all cmp f.0 es) (is_sorted cmp es) sorted in
-        let apart : eq_by_cmp cmp e.0 f.0 ≡ false = (eq_by_cmp_equiv order.total).symm e.0 f.0 ∙ apart_if_less (cmp f.0 e.0) (below_at f.0 es k e halves.0 (omega (arith, low)) is) in
-        ap (λ (b : Bool). cond b (Some f.1) (find cmp e.0 (take k es))) apart ∙ none_before es k e halves.1 (omega (arith, low)) is
+        let sides = halves (below_all cmp f.0 es) (is_sorted cmp es) sorted in
+        let apart : eq_by_cmp cmp e.0 f.0 ≡ false = (eq_by_cmp_equiv order.total).symm e.0 f.0 ∙ apart_if_less (cmp f.0 e.0) (below_at f.0 es k e sides.0 (omega (arith, low)) is) in
+        ap (λ (b : Bool). cond b (Some f.1) (find cmp e.0 (take k es))) apart ∙ none_before es k e sides.1 (omega (arith, low)) is
 
     module _ (m : FinMap cmp X) (k : ℕ) (e : K × X) (low : k < length (entries m)) (is : get_or (entries m) k e ≡ e) where
       -- the next has a key of its own

@@ -1,5 +1,5 @@
 -- What the tests of a database say of it, from the tests of its rows.
-use Rattle.rd_store.proofs.Common.{◌≡◌, ◌≢◌, inl, inr, ◌||◌, ℕ, List, [], get_or, Bool, true, false, Option, Result, Ok, Err, IfOk, IfErr, refl, sym, ap, subst, ◌∙◌, true≢false, arith, IsErrAnd, Row, column, Ghosts, Database, IsDatabase, Held, state, Table, TellsVersion, desk_schema, desk_with, first_schema, has_desk_columns, has_foreign_desk, may_be_desk, natural, desk_first, one_tree, OpenFault, NotADesk, Inconsistent, Version, HasVersion, HaveOwnRowids, unmarked, Asks, IsClean, IsOpen, Stays, IsConsistent, IsConsistentAs, IsNamed, IsNoDesk, IsResting, IsSaid, IsSettledAt, Judged, IsHeld, NamesDesk, Refuses, Says, Tests, TestsDatabase, IsHeldFirst, RefusesEach}
+use Rattle.rd_store.proofs.Common.{or_true, ◌≡◌, ◌≢◌, inl, inr, ℕ, List, [], get_or, true, false, Option, Result, Ok, Err, IfOk, IfErr, refl, sym, ap, subst, ◌∙◌, true≢false, arith, IsErrAnd, Row, column, Ghosts, Database, IsDatabase, Held, state, Table, TellsVersion, desk_schema, desk_with, first_schema, has_desk_columns, has_foreign_desk, may_be_desk, natural, desk_first, one_tree, OpenFault, NotADesk, Inconsistent, Version, HasVersion, HaveOwnRowids, unmarked, Asks, IsClean, IsOpen, Stays, IsConsistent, IsConsistentAs, IsNamed, IsNoDesk, IsResting, IsSaid, IsSettledAt, Judged, IsHeld, NamesDesk, Refuses, Says, Tests, TestsDatabase, IsHeldFirst, RefusesEach}
 use Rattle.rd_store.specs.declared.faults.OpenFault.TheVariants.{Version as OtherVersion, Sql}
 use Rattle.rd_store.proofs.Laws.{stays_here, stays_then}
 
@@ -88,10 +88,6 @@ err_told (Ok value) fault is P held = absurd is
 err_told (Err other) fault is P held = subst P (sym is) held
 
 -- ---- the table `desk`
-
-or_true : (a b : Bool) → b ≡ true → (a || b) ≡ true
-or_true true b is = refl
-or_true false b is = is
 
 module _ {S T : Type 0} (g : Ghosts S) (h : Held S) (outside : IsOpen g h → (state g h).in_transaction ≡ false) (Good : T → Database → Type 0) (Bad : OpenFault → Database → Type 0)
     (none : may_be_desk (state g h).now.schema ≡ false → Bad NotADesk (state g h).now) (some : may_be_desk (state g h).now.schema ≡ true → Bad Sql (state g h).now) where

@@ -1,5 +1,5 @@
 -- What the queries show of the index.
-use Rattle.rd_store.proofs.Common.{◌≡◌, inl, inr, ℕ, ◌<◌, pos, List, [], ◌∷◌, map, AllPairs, Bool, true, false, cond, T, ◌&&◌, ◌==◌, Option, Some, None, refl, sym, ap, subst, ◌∙◌, arith, nat_cmp, int_cmp, is_lt, is_eq, Less, Equal, option_to_list, eq_by_cmp, ordering_then, FinMap, get, entries, entries_sorted, retain_keys, get-retain_keys, is_sorted, below_all, nat_tests, All-from_recursion, Int, Row, column, Binary, is_true, Compare, Eq, value_cmp-Int, then-Equal, Has, contains_had, AreFounds, IsFound, IsFoundAt, IsSlotOfFile, Found, IsPicked, file_query, files_query, Spells, map_of, entry_of, map_map, and_true, in_map, from_map, equal_numbers, entry_got, got_entry, below_has, looked_up, in_order, all_in, ImageRow, FileAt, file_cmp, AreFilesIn, IsFileIn, file_spelling, file_shown, later}
+use Rattle.rd_store.proofs.Common.{equals_itself, halves, ◌≡◌, inl, inr, ℕ, ◌<◌, pos, List, [], ◌∷◌, map, AllPairs, Bool, true, false, cond, T, ◌&&◌, ◌==◌, Option, Some, None, refl, sym, ap, subst, ◌∙◌, arith, nat_cmp, int_cmp, is_lt, is_eq, Less, Equal, option_to_list, eq_by_cmp, ordering_then, FinMap, get, entries, entries_sorted, retain_keys, get-retain_keys, is_sorted, below_all, nat_tests, All-from_recursion, Int, Row, column, Binary, is_true, Compare, Eq, value_cmp-Int, then-Equal, Has, contains_had, AreFounds, IsFound, IsFoundAt, IsSlotOfFile, Found, IsPicked, file_query, files_query, Spells, map_of, entry_of, map_map, and_true, in_map, from_map, equal_numbers, entry_got, got_entry, below_has, looked_up, in_order, all_in, ImageRow, FileAt, file_cmp, AreFilesIn, IsFileIn, file_spelling, file_shown, later}
 use Rattle.std.proofs.lemmas.List.Kept.{AllPairs-cons}
 use Rattle.sqlite_sql.specs.Ops.{binary}
 use Rattle.rd_store.proofs.Orders.{file_order}
@@ -43,10 +43,6 @@ module _ (acc : ℕ) (table rows : List Row) where
 less_slot : (a b m n acc : ℕ) → a ≡ acc → b ≡ acc → T (is_lt (ordering_then (nat_cmp a b) (nat_cmp m n))) → m < n
 less_slot a b m n acc one other less = grind (arith, nat_tests)
 
-parts : (a b : Bool) → T (a && b) → T a × T b
-parts true b h = (tt, h)
-parts false b h = absurd h
-
 module _ (image : Option ImageRow) (index : FinMap file_cmp Found) (acc : ℕ) (is : (slot : ℕ) → IsFileIn image slot (get index (record { acc = acc; slot = slot }))) where
   abbrev of_acc : FileAt → Bool
   of_acc at = at.acc == acc
@@ -72,11 +68,8 @@ module _ (image : Option ImageRow) (index : FinMap file_cmp Found) (acc : ℕ) (
   index_in : (slot : ℕ) (file : Found) → get index (record { acc = acc; slot = slot }) ≡ Some file → Has kept (record { acc = acc; slot = slot }, file)
   index_in slot file found =
       let at : FileAt = record { acc = acc; slot = slot } in
-      let passes : of_acc at ≡ true = itself acc in
+      let passes : of_acc at ≡ true = equals_itself acc in
       got_entry file_cmp file_order (retain_keys index of_acc) at file (get-retain_keys index of_acc at (alike at) ∙ rw passes found)
-    where
-      itself : (n : ℕ) → (n == n) ≡ true
-      itself n = grind arith
 
   -- each file stands at its slot
   at_slot : (image : ImageRow) → ((slot : ℕ) → IsFoundAt image.kind image.bytes slot (get index (record { acc = acc; slot = slot }))) → (e : FileAt × Found) → Has kept e → IsFoundAt image.kind image.bytes e.0.slot (Some e.1)
@@ -88,19 +81,19 @@ module _ (image : Option ImageRow) (index : FinMap file_cmp Found) (acc : ℕ) (
   ascends : (es : List (FileAt × Found)) → T (is_sorted file_cmp es) → ((e : FileAt × Found) → Has es e → (e.0.acc ≡ acc) × (e.1.slot ≡ e.0.slot)) → AllPairs (λ f g. f.slot < g.slot) (map (λ (e : FileAt × Found). e.1) es)
   ascends [] sorted own = λ i j d before inside. absurd (omega (arith, inside))
   ascends (e ∷ es) sorted own =
-      let halves = parts (below_all file_cmp e.0 es) (is_sorted file_cmp es) sorted in
+      let sides = halves (below_all file_cmp e.0 es) (is_sorted file_cmp es) sorted in
       let first = own e (inl refl) in
       AllPairs-cons (λ f g. f.slot < g.slot) e.1 (map (λ (e : FileAt × Found). e.1) es)
       (All-from_recursion (λ (g : Found). e.1.slot < g.slot) _ (all_in (λ (g : Found). e.1.slot < g.slot) _ (λ g there.
       let f = from_map (λ (e : FileAt × Found). e.1) es g there in
       let second = own f.0 (inr f.1) in
-      let less = below_has file_cmp file_order e.0 f.0.0 f.0.1 es halves.0 f.1 in
+      let less = below_has file_cmp file_order e.0 f.0.0 f.0.1 es sides.0 f.1 in
       let low : e.0.slot < f.0.0.slot = less_slot e.0.acc f.0.0.acc e.0.slot f.0.0.slot acc first.0 second.0 less in
       let one : e.1.slot ≡ e.0.slot = first.1 in
       let other : f.0.1.slot ≡ f.0.0.slot = second.1 in
       let file : g.slot ≡ f.0.1.slot = ap (λ (h : Found). h.slot) f.2 in
       omega (arith, low, one, other, file))))
-      (ascends es halves.1 (λ f there. own f (inr there)))
+      (ascends es sides.1 (λ f there. own f (inr there)))
 
   are_founds : (image : ImageRow) → ((slot : ℕ) → IsFoundAt image.kind image.bytes slot (get index (record { acc = acc; slot = slot }))) → AreFounds image.kind image.bytes files_of
   are_founds image described = record {

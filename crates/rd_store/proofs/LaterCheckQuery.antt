@@ -23,10 +23,10 @@ unfolding binary
 greater_integers a b = truth_kept _ ∙ ap is_gt (value_cmp-Int a b) ∙ grind (arith, nat_tests)
 
 -- ORDER BY the accession and the day, as checks rise
-two_keys : (a b : ℕ) (d e : ℤ) → key_cmp 0 (rising ∷ rising ∷ []) (Int (pos a) ∷ Int d ∷ []) (Int (pos b) ∷ Int e ∷ []) ≡ ordering_then (int_cmp (pos a) (pos b)) (int_cmp d e)
+pub two_keys : (a b : ℕ) (d e : ℤ) → key_cmp 0 (rising ∷ rising ∷ []) (Int (pos a) ∷ Int d ∷ []) (Int (pos b) ∷ Int e ∷ []) ≡ ordering_then (int_cmp (pos a) (pos b)) (int_cmp d e)
 two_keys a b d e = ap₂ ordering_then (value_cmp-Int (pos a) (pos b)) (then-Equal _ ∙ value_cmp-Int d e)
 
-checks_rise : (a b : ℕ) (d e : ℤ) → is_lt (ordering_then (int_cmp (pos b) (pos a)) (int_cmp e d)) ≡ false → is_eq (ordering_then (nat_cmp a b) (int_cmp d e)) ≡ false
+pub checks_rise : (a b : ℕ) (d e : ℤ) → is_lt (ordering_then (int_cmp (pos b) (pos a)) (int_cmp e d)) ≡ false → is_eq (ordering_then (nat_cmp a b) (int_cmp d e)) ≡ false
     → ordering_then (nat_cmp a b) (int_cmp d e) ≡ Less
 checks_rise a b d e up apart = grind (arith, nat_tests)
 

@@ -1,5 +1,5 @@
 -- What a register of images tells, and what becomes of it.
-use Rattle.rd_store.proofs.Common.{◌≡◌, inl, inr, ℕ, zero, suc, ◌+◌, ◌<◌, ◌≤◌, pos, List, [], ◌∷◌, ◌&&◌, map, length, slice_index_or, Bool, true, false, T, Option, Some, None, is_some, option_map, Result, Ok, Err, IfOk, refl, sym, ap, ap₂, subst, ◌∙◌, arith, add-one, Ordering, nat_cmp, is_lt, Less, Equal, Greater, IsBinarySearchResult, IsNonDecreasingBy, IsSearchInRange, ordering_index, FinMap, entries, entries-insert, entries_sorted, from_entries, get, get-entries, get-from_entries, insert, keys, len-empty, len-entries, below_all, find, is_sorted, put, nat_tests, length-map, IsNonDecreasingBy-from_all_adjacent, Int, Ghosts, Database, Held, state, Row, Has, map_of, entry_got, empty_by_length, map_map, same_truth, OpenFault, Heading, Register, ImageRow, is_one_of, Turns, Changes, IsOf, IsOpen, Stays, desk, joined, kind_with, with_marks, first_desk, AreKeys, IsPlaceIn, IsRegisterOf, IsSameHeading, entry_for, entry_in, numbered_accession, listed, number_of, register_of, as_row, heading_of, desk_of, image_spelling, marks_spelling, Desk, HasOtherImage, put_or_kept, with_image, registered, image_columns}
+use Rattle.rd_store.proofs.Common.{halves, holds_true, ◌≡◌, inl, inr, ℕ, zero, suc, ◌+◌, ◌<◌, ◌≤◌, pos, List, [], ◌∷◌, map, length, slice_index_or, true, T, Option, Some, None, is_some, option_map, Result, Ok, Err, IfOk, refl, sym, ap, ap₂, subst, ◌∙◌, arith, add-one, Ordering, nat_cmp, is_lt, Less, Equal, Greater, IsBinarySearchResult, IsNonDecreasingBy, IsSearchInRange, ordering_index, FinMap, entries, entries-insert, entries_sorted, from_entries, get, get-entries, get-from_entries, insert, keys, len-empty, len-entries, below_all, find, is_sorted, put, nat_tests, length-map, IsNonDecreasingBy-from_all_adjacent, Int, Ghosts, Database, Held, state, Row, Has, map_of, entry_got, empty_by_length, map_map, same_truth, OpenFault, Heading, Register, ImageRow, is_one_of, Turns, Changes, IsOf, IsOpen, Stays, desk, joined, kind_with, with_marks, first_desk, AreKeys, IsPlaceIn, IsRegisterOf, IsSameHeading, entry_for, entry_in, numbered_accession, listed, number_of, register_of, as_row, heading_of, desk_of, image_spelling, marks_spelling, Desk, HasOtherImage, put_or_kept, with_image, registered, image_columns}
 use Rattle.std.specs.List.{insert as insert_at}
 use Rattle.rd_store.proofs.ColumnValues.{one_of_shown, one_of_spelled}
 use Rattle.rd_store.proofs.QueryResults.{row_back}
@@ -14,14 +14,6 @@ Entries = List (ℕ × ImageRow)
 
 -- ---- the entries ascend
 
-parts : (a b : Bool) → T (a && b) → T a × T b
-parts true b h = (tt, h)
-parts false b h = absurd h
-
-is_true : (b : Bool) → T b → b ≡ true
-is_true true h = refl
-is_true false h = absurd h
-
 below_next : (a b : ℕ) → is_lt (nat_cmp a b) ≡ true → a ≤ b
 below_next a b low = grind (arith, nat_tests)
 
@@ -29,11 +21,11 @@ rises : (es : Entries) → T (is_sorted nat_cmp es) → (k : ℕ) (d : ℕ × He
 rises [] sorted k d low = absurd (omega (arith, low))
 rises (e ∷ []) sorted k d low = absurd (omega (arith, low))
 rises (e ∷ f ∷ es) sorted zero d low =
-    let halves = parts (below_all nat_cmp e.0 (f ∷ es)) (is_sorted nat_cmp (f ∷ es)) sorted in
-    below_next e.0 f.0 (is_true (is_lt (nat_cmp e.0 f.0)) (parts (is_lt (nat_cmp e.0 f.0)) (below_all nat_cmp e.0 es) halves.0).0)
+    let sides = halves (below_all nat_cmp e.0 (f ∷ es)) (is_sorted nat_cmp (f ∷ es)) sorted in
+    below_next e.0 f.0 (holds_true (is_lt (nat_cmp e.0 f.0)) (halves (is_lt (nat_cmp e.0 f.0)) (below_all nat_cmp e.0 es) sides.0).0)
 rises (e ∷ f ∷ es) sorted (suc k) d low =
-    let halves = parts (below_all nat_cmp e.0 (f ∷ es)) (is_sorted nat_cmp (f ∷ es)) sorted in
-    rises (f ∷ es) halves.1 k d (omega (arith, low))
+    let sides = halves (below_all nat_cmp e.0 (f ∷ es)) (is_sorted nat_cmp (f ∷ es)) sorted in
+    rises (f ∷ es) sides.1 k d (omega (arith, low))
 
 index_rises : (a b n : ℕ) → a ≤ b → ordering_index (nat_cmp a n) ≤ ordering_index (nat_cmp b n)
 index_rises a b n low = grind (arith, nat_tests)

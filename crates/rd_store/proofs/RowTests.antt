@@ -1,5 +1,5 @@
 -- What the tests of the rows that are shown say of the tables.
-use Rattle.rd_store.proofs.Common.{◌≡◌, inl, inr, ℕ, suc, pos, List, [], ◌∷◌, map, All, Bool, true, false, Option, Some, None, IsSome, refl, sym, ap, subst, ◌∙◌, arith, MatchBool, Any, IsPermutation, eq_by_cmp, get, eq_by_cmp_equiv, IsPermutation-map, IsPermutation-sym, Value, Int, Blob, Row, column, value_cmp, rowid, Database, IsDatabase, Table, one_permutation, Term, value_cmp_total, Has, Audience, Staff, asks_of, IsPicked, IsListed, all_deeds_query, all_images_query, all_rules_query, all_keys_query, all_checks_query, all_marks_query, version_query, desk_with, Spelling, entry_of, IsSpelled, SpellLawful, map_of, natural, IsKeyOrder, tie, map_map, in_map, from_map, to_permuted, show, all_shown, each_shown, shown_each, rowids_apart, have_rowids, apart_by_rowids, row_got, got_row, rows_lawful, lawful_rows, same_int, same_blob, agree_one, agree_two, agree_three, one_rule, one_key, one_check, is_number, IsDeedRow, IsImageRow, IsRuleRow, IsKeyRow, IsCheckRow, IsMarksRow, IsStaffRow, audience_code, audience_in, IsDeed, IsKey, AreKeys, AreMarksOf, IsImageOf, IsRuleOf, IsCheckOf, HasVersion, deed_spelling, image_spelling, marks_spelling, rule_spelling, key_spelling, check_spelling, Place, Checkup, band_code, Key}
+use Rattle.rd_store.proofs.Common.{some_got, ◌≡◌, inl, inr, ℕ, suc, pos, List, [], ◌∷◌, map, All, Bool, true, false, Some, IsSome, refl, sym, ap, subst, ◌∙◌, arith, MatchBool, Any, IsPermutation, eq_by_cmp, get, eq_by_cmp_equiv, IsPermutation-map, IsPermutation-sym, Value, Int, Blob, Row, column, value_cmp, rowid, Database, IsDatabase, Table, one_permutation, Term, value_cmp_total, Has, Audience, Staff, asks_of, IsPicked, IsListed, all_deeds_query, all_images_query, all_rules_query, all_keys_query, all_checks_query, all_marks_query, version_query, desk_with, Spelling, entry_of, IsSpelled, SpellLawful, map_of, natural, IsKeyOrder, tie, map_map, in_map, from_map, to_permuted, show, all_shown, each_shown, shown_each, rowids_apart, have_rowids, apart_by_rowids, row_got, got_row, rows_lawful, lawful_rows, same_int, same_blob, agree_one, agree_two, agree_three, one_rule, one_key, one_check, is_number, IsDeedRow, IsImageRow, IsRuleRow, IsKeyRow, IsCheckRow, IsMarksRow, IsStaffRow, audience_code, audience_in, IsDeed, IsKey, AreKeys, AreMarksOf, IsImageOf, IsRuleOf, IsCheckOf, HasVersion, deed_spelling, image_spelling, marks_spelling, rule_spelling, key_spelling, check_spelling, Place, Checkup, band_code, Key}
 use Rattle.sqlite_sql.specs.Term.{col}
 use Rattle.rd_store.proofs.QueryResults.{any_has}
 use Rattle.rd_store.proofs.ColumnValues.{number_spelled}
@@ -47,10 +47,6 @@ module _ {K X : Type 0} (spelling : Spelling K X) (order : IsKeyOrder spelling.c
   pub tests_spell : (b : Bool) → MatchBool b (All Q rows) (¬ All Q rows) → MatchBool b (SpellLawful spelling P table) (¬ SpellLawful spelling P table)
   tests_spell true all = told_lawful all
   tests_spell false some = λ lawful. some (lawful_told lawful)
-
-  some_got : (o : Option X) → IsSome o → (x : X) × (o ≡ Some x)
-  some_got None some = absurd cc
-  some_got (Some x) some = (x, refl)
 
   -- the first column of the rows shown, where it is the key
   pub keys_told : (key : K → ℕ) (first : (row : Row) → natural (column row 0) ≡ key (entry_of spelling row).0) → SpellLawful spelling P table → (n : ℕ)

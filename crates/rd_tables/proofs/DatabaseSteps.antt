@@ -1,5 +1,6 @@
 -- What one statement on the rows of a table makes of a database of the desk.
 use Rattle.rd_tables.proofs.Common.{◌≡◌, ℕ, ◌==◌, List, [], ◌∷◌, Bool, true, false, not, cond, ◌||◌, filter, None, Ok, refl, sym, ap, ◌∙◌, true≢false, is_eq, arith, Row, value_cmp, Trees, rowid, IsNoIndex, is_taken, Database, Tally, Concludes, Task, Written, Mode, desk_schema}
+use Rattle.rd_tables.proofs.ListLemmas.{equals_itself}
 use Rattle.rd_tables.proofs.TableSteps.{SetsRows, went, same_value}
 
 -- the trees of the indexes
@@ -19,11 +20,8 @@ pub sets_rows : (tree : ℕ) (db after : Database) (trees : Trees) (rows : List 
 sets_rows tree db after trees rows sets is = record {
   schema = ap (λ (d : Database). d.schema) is;
   now = ap (λ (d : Database). d.trees tree) is ∙ sets.now;
-  stays = λ t other none. ap (λ (d : Database). d.trees t) is ∙ sets.others t (λ e. absurd (let same : (t == tree) ≡ true = rw e (itself tree) in true≢false (sym same ∙ other))) (no_index t none);
+  stays = λ t other none. ap (λ (d : Database). d.trees t) is ∙ sets.others t (λ e. absurd (let same : (t == tree) ≡ true = rw e (equals_itself tree) in true≢false (sym same ∙ other))) (no_index t none);
 }
-  where
-    itself : (n : ℕ) → (n == n) ≡ true
-    itself n = grind arith
 
 pub concluded : (task : Task) (mode : Mode) (w : Written) (r : Tally × Database) → Concludes task mode None w (Ok r) → r.1 ≡ record { schema = task.schema; trees = w.trees }
 concluded task mode w r h = let tested = went h in let shown = went tested.2 in ap (λ (p : Tally × Database). p.1) (same_value shown.2)

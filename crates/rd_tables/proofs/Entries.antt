@@ -1,5 +1,6 @@
 -- A list of entries, no two with one key, is a finite map whatever its order.
-use Rattle.rd_tables.proofs.Common.{◌≡◌, inl, inr, List, [], ◌∷◌, map, filter, Bool, true, false, cond, T, Some, None, Option, refl, sym, ap, subst, ◌∙◌, arith, Ordering, Less, Equal, Greater, is_eq, is_lt, ◌&&◌, AllByRecursion, option_to_list, IsPermutation, eq_by_cmp, FinMap, get, entries, entries_sorted, get-entries, insert, remove, from_entries, retain_keys, same_map, get-insert, get-remove, get-from_entries, get-retain_keys, IsAntisymmetric, find, find-where_key, is_sorted, is_sorted-where_key, below_all, same_entries, where_key, cases_Bool, eq_by_cmp_equiv, length_permutation, IsPermutation-map, IsDistinct-IsPermutation, IsDistinct-head, IsDistinct-tail, sorted_head, sorted_tail, Has, IsPermutation-filter, one_permutation}
+use Rattle.rd_tables.proofs.Common.{◌≡◌, inl, inr, List, [], ◌∷◌, map, filter, Bool, true, false, cond, T, Some, None, Option, refl, sym, ap, subst, ◌∙◌, arith, Ordering, Less, Equal, Greater, is_eq, is_lt, option_to_list, AllByRecursion, IsPermutation, eq_by_cmp, FinMap, get, entries, entries_sorted, get-entries, insert, remove, from_entries, retain_keys, same_map, get-insert, get-remove, get-from_entries, get-retain_keys, IsAntisymmetric, find, find-where_key, is_sorted, is_sorted-where_key, below_all, same_entries, where_key, cases_Bool, eq_by_cmp_equiv, length_permutation, IsPermutation-map, IsDistinct-IsPermutation, IsDistinct-head, IsDistinct-tail, sorted_head, sorted_tail, Has, IsPermutation-filter, one_permutation}
+use Rattle.rd_tables.proofs.ListLemmas.{halves, wholes}
 use Rattle.std.specs.List.{IsDistinct}
 use Rattle.std.specs.List.Sorted.{IsStrictlySortedBy}
 use Rattle.std.specs.Cmp.{IsTotalOrder}
@@ -20,11 +21,7 @@ tie Equal h = refl
 tie Less h = absurd cc
 tie Greater h = absurd cc
 
-parts : (a b : Bool) → T (a && b) → T a × T b
-parts true b h = (tt, h)
-parts false b h = absurd h
-
-apart_if_less : (o : Ordering) → T (is_lt o) → is_eq o ≡ false
+pub apart_if_less : (o : Ordering) → T (is_lt o) → is_eq o ≡ false
 apart_if_less Less h = refl
 apart_if_less Equal h = absurd h
 apart_if_less Greater h = absurd h
@@ -93,11 +90,7 @@ module _ {K X : Type 0} (cmp : K → K → Ordering) (order : IsKeyOrder cmp) wh
 
   pub is_rising : (es : List (K × X)) → IsStrictlySortedBy cmp (keys_of es) → T (is_sorted cmp es)
   is_rising [] up = tt
-  is_rising (e ∷ es) up = both (below_all cmp e.0 es) (is_sorted cmp es) (below e.0 es (sorted_head cmp e.0 _ up)) (is_rising es (sorted_tail cmp e.0 _ up))
-    where
-      both : (a b : Bool) → T a → T b → T (a && b)
-      both true b p q = q
-      both false b p q = p
+  is_rising (e ∷ es) up = wholes (below_all cmp e.0 es) (is_sorted cmp es) (below e.0 es (sorted_head cmp e.0 _ up)) (is_rising es (sorted_tail cmp e.0 _ up))
 
   pub where_key_passes : (p : K → Bool) (es : List (K × X)) → AllByRecursion (λ e. p e.0 ≡ true) (where_key cmp p es)
   where_key_passes p [] = tt
@@ -121,16 +114,16 @@ module _ {K X : Type 0} (cmp : K → K → Ordering) (order : IsKeyOrder cmp) wh
 
   pub below_has : (x q : K) (v : X) (es : List (K × X)) → T (below_all cmp x es) → Has es (q, v) → T (is_lt (cmp x q))
   below_has x q v [] below here = absurd here
-  below_has x q v (e ∷ es) below (inl is) = subst (λ (f : K × X). T (is_lt (cmp x f.0))) (sym is) (parts (is_lt (cmp x e.0)) (below_all cmp x es) below).0
-  below_has x q v (e ∷ es) below (inr there) = below_has x q v es (parts (is_lt (cmp x e.0)) (below_all cmp x es) below).1 there
+  below_has x q v (e ∷ es) below (inl is) = subst (λ (f : K × X). T (is_lt (cmp x f.0))) (sym is) (halves (is_lt (cmp x e.0)) (below_all cmp x es) below).0
+  below_has x q v (e ∷ es) below (inr there) = below_has x q v es (halves (is_lt (cmp x e.0)) (below_all cmp x es) below).1 there
 
   has_found : (q : K) (v : X) (es : List (K × X)) → T (is_sorted cmp es) → Has es (q, v) → find cmp q es ≡ Some v
   has_found q v [] sorted here = absurd here
   has_found q v (e ∷ es) sorted (inl is) = subst (λ (f : K × X). find cmp q (f ∷ es) ≡ Some v) is (rw ((eq_by_cmp_equiv order.total).refl q) refl)
   has_found q v (e ∷ es) sorted (inr there) =
-      let halves = parts (below_all cmp e.0 es) (is_sorted cmp es) sorted in
-      let apart : eq_by_cmp cmp q e.0 ≡ false = (eq_by_cmp_equiv order.total).symm q e.0 ∙ apart_if_less (cmp e.0 q) (below_has e.0 q v es halves.0 there) in
-      rw apart (has_found q v es halves.1 there)
+      let sides = halves (below_all cmp e.0 es) (is_sorted cmp es) sorted in
+      let apart : eq_by_cmp cmp q e.0 ≡ false = (eq_by_cmp_equiv order.total).symm q e.0 ∙ apart_if_less (cmp e.0 q) (below_has e.0 q v es sides.0 there) in
+      rw apart (has_found q v es sides.1 there)
 
   pub entry_got : (m : FinMap cmp X) (q : K) (v : X) → Has (entries m) (q, v) → get m q ≡ Some v
   entry_got m q v here = get-entries m q ∙ has_found q v (entries m) (entries_sorted m) here

@@ -1,5 +1,5 @@
 -- Lists, filters and their order.
-use Rattle.rd_tables.proofs.Common.{◌≡◌, inl, inr, ℕ, List, [], ◌∷◌, map, filter, length, get_or, set, Bool, true, false, not, cond, ◌&&◌, ◌||◌, refl, sym, ap, subst, ◌∙◌, arith, true≢false, AllByRecursion, swap, IsPermutation, SwapsInRange, apply_swaps, cases_Bool, length-map, map-set, get_or-map, IsDistinct-head, IsDistinct-tail, Has}
+use Rattle.rd_tables.proofs.Common.{T, ◌==◌, Option, Some, None, IsSome, arith, ◌≡◌, inl, inr, ℕ, List, [], ◌∷◌, map, filter, length, get_or, set, Bool, true, false, not, cond, ◌&&◌, ◌||◌, refl, sym, ap, subst, ◌∙◌, true≢false, AllByRecursion, swap, IsPermutation, SwapsInRange, apply_swaps, cases_Bool, length-map, map-set, get_or-map, IsDistinct-head, IsDistinct-tail, Has}
 use Rattle.std.specs.List.{IsDistinct}
 
 pub map_map : {A B C : Type 0} (f : B → C) (g : A → B) (xs : List A) → map f (map g xs) ≡ map (λ x. f (g x)) xs
@@ -68,6 +68,33 @@ neither false b e = (refl, e)
 pub both : (a b : Bool) → (a && b) ≡ true → (a ≡ true) × (b ≡ true)
 both true b e = (refl, e)
 both false b e = absurd (true≢false (sym e))
+
+pub halves : (a b : Bool) → T (a && b) → T a × T b
+halves true b h = (tt, h)
+halves false b h = absurd h
+
+pub wholes : (a b : Bool) → T a → T b → T (a && b)
+wholes true b p q = q
+wholes false b p q = absurd p
+
+pub holds_true : (b : Bool) → T b → b ≡ true
+holds_true true h = refl
+holds_true false h = absurd h
+
+pub or_true : (a b : Bool) → b ≡ true → (a || b) ≡ true
+or_true true b is = refl
+or_true false b is = is
+
+pub negated : (b : Bool) → not b ≡ true → b ≡ false
+negated true h = absurd (true≢false (sym h))
+negated false h = refl
+
+pub equals_itself : (n : ℕ) → (n == n) ≡ true
+equals_itself n = grind arith
+
+pub some_got : {X : Type 0} (o : Option X) → IsSome o → (x : X) × (o ≡ Some x)
+some_got None some = absurd cc
+some_got (Some x) some = (x, refl)
 
 pub not_or : (a b : Bool) → (not a && not b) ≡ not (a || b)
 not_or true b = refl

@@ -1,5 +1,5 @@
 -- What a query shows of the map that the rows of its table spell.
-use Rattle.rd_tables.proofs.Common.{◌≡◌, ◌+◌, ◌<◌, List, [], ◌∷◌, map, filter, length, get_or, Bool, true, false, cond, T, Some, None, Option, refl, sym, ap, subst, subst₂, ◌∙◌, arith, Less, Equal, is_lt, list_all, AllByRecursion, option_to_list, IsPermutation, IsSorted, eq_by_cmp, get, entries, entries_sorted, retain_keys, get-from_entries, get-retain_keys, get-entries, find, is_sorted, where_key, find-where_key, same_entries, length-map, get_or-map, eq_by_cmp_equiv, length_permutation, IsPermutation-map, All-permutation, recursion_from_All, All-from_recursion, IsDistinct-IsPermutation, apart_from_distinct, sorted_from_all_adjacent, IsDistinct-keys_filter, Row, holds, Query, Output, output, output_cmp, key_cmp, one_permutation, IsPicked, Spelling, entry_of, IsSpelled, Spells, map_of}
+use Rattle.rd_tables.proofs.Common.{◌≡◌, ◌+◌, ◌<◌, List, [], ◌∷◌, map, filter, length, get_or, Bool, true, false, cond, T, Some, None, Option, refl, sym, ap, subst, subst₂, ◌∙◌, arith, Less, Equal, is_lt, option_to_list, list_all, AllByRecursion, IsPermutation, IsSorted, eq_by_cmp, get, entries, entries_sorted, retain_keys, get-from_entries, get-retain_keys, get-entries, find, is_sorted, where_key, find-where_key, same_entries, length-map, get_or-map, eq_by_cmp_equiv, length_permutation, IsPermutation-map, All-permutation, recursion_from_All, All-from_recursion, IsDistinct-IsPermutation, apart_from_distinct, sorted_from_all_adjacent, IsDistinct-keys_filter, Row, holds, Query, Output, output, output_cmp, key_cmp, one_permutation, IsPicked, Spelling, entry_of, IsSpelled, Spells, map_of}
 use Rattle.std.specs.List.{IsDistinct}
 use Rattle.std.specs.List.Sorted.{IsStrictlySortedBy}
 use Rattle.rd_tables.proofs.ListLemmas.{map_map, all_weaker, empty_by_length, permuted_images}

@@ -1,5 +1,6 @@
 -- The rows that a DELETE takes out, and rows whose rowids are apart.
-use Rattle.rd_tables.proofs.Common.{◌≡◌, inl, inr, ℤ, List, [], ◌∷◌, filter, Bool, true, false, not, refl, sym, ap, subst, ◌∙◌, IsTrue, Ordering, Less, Equal, Greater, true≢false, is_eq, list_any, false_from_ne_true, tied_itself, tied_back, Row, value_cmp, Int, rowid, put_row, has_rowid, without_rowid, is_taken, is_int, Has, id_in, ids_of, some_has, some_from, has_filtered, value_cmp_total, HaveRowids}
+use Rattle.rd_tables.proofs.Common.{◌≡◌, inl, inr, ℤ, List, [], ◌∷◌, filter, Bool, true, false, not, refl, sym, ap, subst, ◌∙◌, IsTrue, Equal, true≢false, is_eq, list_any, false_from_ne_true, tied_itself, tied_back, Row, value_cmp, Int, rowid, put_row, has_rowid, without_rowid, is_taken, is_int, Has, id_in, ids_of, some_has, some_from, has_filtered, value_cmp_total, HaveRowids}
+use Rattle.rd_tables.proofs.Entries.{tie as tied}
 use Rattle.sqlite_rules.specs.Edit.{without_all}
 use Rattle.sqlite_rules.proofs.TableLemmas.{int_is, put_has}
 use Rattle.rd_tables.proofs.ListLemmas.{filter_true, filter_filter, filter_same, not_or, same_truth}
@@ -17,11 +18,6 @@ without_filter : (ids : List ℤ) (rows : List Row) → without_all rows ids ≡
 without_filter [] rows = sym (filter_true rows)
 without_filter (id ∷ ids) rows =
     without_filter ids (without_rowid id rows) ∙ filter_filter _ _ rows ∙ filter_same _ _ rows (λ row _. not_or (has_rowid id row) (takes ids row))
-
-tied : (o : Ordering) → is_eq o ≡ true → o ≡ Equal
-tied Less h = absurd (true≢false (sym h))
-tied Equal h = refl
-tied Greater h = absurd (true≢false (sym h))
 
 in_ids : (found : List Row) (x : Row) → Has found x → Has (ids_of found) (id_in (rowid x))
 in_ids [] x none = absurd none

@@ -1,5 +1,5 @@
 -- A query whose order is turned round shows the same rows, the last one first.
-use Rattle.rd_tables.proofs.Common.{◌≡◌, ℕ, suc, ◌+◌, ◌-◌, ◌<◌, List, [], ◌∷◌, ◌++◌, map, reverse, take, filter, length, get_or, slice_get, false, true, not, Some, Ordering, refl, sym, ap, ap₂, subst, ◌∙◌, arith, is_lt, list_all, IsPermutation, IsSorted, option_to_list, ordering_then, get_or-reverse, length-reverse, map-append, reverse-reverse, take-map, IsPermutation-reverse, IsPermutation-trans, Row, Query, Output, output_cmp, key_cmp, Term, eval_all, holds, Key, by_key, collated, directed, IsPicked, IsStart, picked}
+use Rattle.rd_tables.proofs.Common.{◌≡◌, ℕ, suc, ◌+◌, ◌-◌, ◌<◌, List, [], ◌∷◌, ◌++◌, map, reverse, take, filter, length, get_or, slice_get, false, true, not, Some, Ordering, refl, sym, ap, ap₂, subst, ◌∙◌, arith, is_lt, option_to_list, list_all, IsPermutation, IsSorted, ordering_then, get_or-reverse, length-reverse, map-append, reverse-reverse, take-map, IsPermutation-reverse, IsPermutation-trans, Row, Query, Output, output_cmp, key_cmp, Term, eval_all, holds, Key, by_key, collated, directed, IsPicked, IsStart, picked}
 use Rattle.std.proofs.lemmas.Grind.{reverse_onto}
 use Rattle.std.proofs.lemmas.Option.{slice_get-get_or}
 use Rattle.sqlite.specs.Order.{column}

@@ -1,15 +1,12 @@
 -- What one statement makes of the rows of a table, where no foreign key acts on what it does.
-use Rattle.rd_tables.proofs.Common.{◌≡◌, ◌≢◌, ◌⊎◌, inl, inr, ℕ, ◌/◌, ℤ, List, [], ◌∷◌, length, Bool, true, false, not, Option, Result, Ok, Err, refl, sym, ap, subst, ◌∙◌, true≢false, and_parts, Row, Trees, put_row, Term, Schema, Edit, edit_of, taken_by, without_all, IsNoIndex, is_taken, with_rowid, cast_row, Chosen, Given, Written, Task, Edited, Inserts, stamped, count_of, rowids_for, Counts, value_rows, one_step, works}
+use Rattle.rd_tables.proofs.Common.{◌≡◌, ◌≢◌, ◌⊎◌, inl, inr, ℕ, ◌/◌, ℤ, List, [], ◌∷◌, length, false, not, Option, Result, Ok, Err, refl, ap, subst, ◌∙◌, and_parts, Row, Trees, put_row, Term, Schema, Edit, edit_of, taken_by, without_all, IsNoIndex, is_taken, with_rowid, cast_row, Chosen, Given, Written, Task, Edited, Inserts, stamped, count_of, rowids_for, Counts, value_rows, one_step, works}
+use Rattle.rd_tables.proofs.ListLemmas.{negated}
 use Rattle.sqlite.specs.Source.TheVariants.{Values}
 
 -- The rows on one tree are these, and each other tree but those of indexes is as it was.
 pub record SetsRows (schema : Schema) (tree : ℕ) (old new : Trees) (rows : List Row) : Type 0 where
   pub now : new tree ≡ rows
   pub others : (t : ℕ) → t ≢ tree → IsNoIndex schema t → new t ≡ old t
-
-negated : (b : Bool) → not b ≡ true → b ≡ false
-negated true h = absurd (true≢false (sym h))
-negated false h = refl
 
 -- a part that gave a value did not stop on the way
 pub went : {B E R : Type 0} {b : B} {Stops : E → Type 0} → ((stop : E) × Stops stop × (Ok b ≡ Err stop)) ⊎ R → R

@@ -1,25 +1,14 @@
 -- Where a test turns in a list in order, and what lies between two such places.
 use Rattle.rd_tables.proofs.Common.{◌≡◌, inl, inr, ℕ, zero, suc, ◌<◌, ◌≤◌, List, [], ◌∷◌, ◌&&◌, map, filter, take, drop, length, get_or, Bool, true, false, not, cond, T, sym, ap, refl, ◌∙◌, arith, is_lt, Ordering, IsPartitionedBy, IsPartitionPoint, below_all, is_sorted, cases_order, length-map}
+use Rattle.rd_tables.proofs.ListLemmas.{halves, holds_true, wholes}
 use Rattle.std.proofs.lemmas.List.{get_or-map}
 
 -- ---- entries by their keys
 
-halves : (a b : Bool) → T (a && b) → T a × T b
-halves true b h = (tt, h)
-halves false b h = absurd h
-
-both : (a b : Bool) → T a → T b → T (a && b)
-both true b p q = q
-both false b p q = absurd p
-
-is_true : (b : Bool) → T b → b ≡ true
-is_true true h = refl
-is_true false h = absurd h
-
 module _ {K X : Type 0} (cmp : K → K → Ordering) where
   above : (key : K) (es : List (K × X)) → T (below_all cmp key es) → (j : ℕ) (d : K × X) → j < length es → is_lt (cmp key (get_or es j d).0) ≡ true
   above key [] below j d within = absurd (omega (arith, within))
-  above key (e ∷ es) below zero d within = is_true _ (halves (is_lt (cmp key e.0)) (below_all cmp key es) below).0
+  above key (e ∷ es) below zero d within = holds_true _ (halves (is_lt (cmp key e.0)) (below_all cmp key es) below).0
   above key (e ∷ es) below (suc j) d within = above key es (halves (is_lt (cmp key e.0)) (below_all cmp key es) below).1 j d (omega (arith, within))
 
   -- each key is below each later one
@@ -50,14 +39,14 @@ module _ {K X : Type 0} (cmp : K → K → Ordering) where
   below_front key (suc n) [] below = tt
   below_front key (suc n) (e ∷ es) below =
       let parts = halves (is_lt (cmp key e.0)) (below_all cmp key es) below in
-      both (is_lt (cmp key e.0)) (below_all cmp key (take n es)) parts.0 (below_front key n es parts.1)
+      wholes (is_lt (cmp key e.0)) (below_all cmp key (take n es)) parts.0 (below_front key n es parts.1)
 
   pub sorted_before : (n : ℕ) (es : List (K × X)) → T (is_sorted cmp es) → T (is_sorted cmp (take n es))
   sorted_before zero es sorted = tt
   sorted_before (suc n) [] sorted = tt
   sorted_before (suc n) (e ∷ es) sorted =
       let parts = halves (below_all cmp e.0 es) (is_sorted cmp es) sorted in
-      both (below_all cmp e.0 (take n es)) (is_sorted cmp (take n es)) (below_front e.0 n es parts.0) (sorted_before n es parts.1)
+      wholes (below_all cmp e.0 (take n es)) (is_sorted cmp (take n es)) (below_front e.0 n es parts.0) (sorted_before n es parts.1)
 
 -- what is made of each turns where that does
 pub parted_map : {A B : Type 0} (test : B → Bool) (f : A → B) (xs : List A) → IsPartitionedBy (λ x. test (f x)) xs → IsPartitionedBy test (map f xs)

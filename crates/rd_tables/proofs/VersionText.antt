@@ -1,5 +1,6 @@
 -- What the text that asks for the version means, wherever the table `desk` stands.
 use Rattle.rd_tables.proofs.Common.{◌≡◌, ◌∙◌, ℕ, zero, suc, ◌+◌, ◌-◌, ◌^◌, ◌<◌, ◌≤◌, ◌==◌, ◌||◌, ◌&&◌, not, Bool, true, false, List, [], ◌∷◌, ◌++◌, length, take, get_or, slice_get, codes, Option, Some, None, refl, sym, ap, subst, arith, nat_le, nat_lt, eq-eqb, eqb-true, is_ok, Ok, Err, negsuc, nat_tests, list_any, position_from, Table, Schema, column_named, is_key, place_of, Int, lit, col, TellsVersion, are_desk_columns, desk_table, desk_with, has_tree, is_named_desk, tells_version, version_text, version_query}
+use Rattle.rd_tables.proofs.ListLemmas.{both, negated, or_true}
 use Rattle.std.specs.List.{find}
 use Rattle.sqlite.specs.Listing.{understood}
 use Rattle.sqlite_value.specs.declared.keys.Collation.{Collation}
@@ -57,14 +58,6 @@ or_rest : (a b : Bool) → (a || b) ≡ false → b ≡ false
 or_rest true b is = absurd cc
 or_rest false b is = is
 
-and_both : (a b : Bool) → (a && b) ≡ true → (a ≡ true) × (b ≡ true)
-and_both true b is = (refl, is)
-and_both false b is = absurd cc
-
-not_true : (a : Bool) → not a ≡ true → a ≡ false
-not_true true is = absurd cc
-not_true false is = refl
-
 -- ---- places of a list
 
 pub item_at : {X : Type 0} (x : X) (xs : List X) (at : ℕ) → at < length xs → x ≡ get_or xs at x → slice_get xs at ≡ Some x
@@ -101,10 +94,6 @@ module _ {X : Type 0} (p : X → Bool) (x : X) (passes : p x ≡ true) where
   some_passes [] at here = absurd cc
   some_passes (y ∷ ys) zero here = let test : p y ≡ true = ap p (some_same y x here) ∙ passes in rw test refl
   some_passes (y ∷ ys) (suc at) here = or_true (p y) _ (some_passes ys at here)
-    where
-      or_true : (a b : Bool) → b ≡ true → (a || b) ≡ true
-      or_true true b is = refl
-      or_true false b is = is
 
 -- ---- from one SELECT over stored tables to the command
 
@@ -352,10 +341,10 @@ module _ (s : Schema) (at tree : ℕ) (t : Table) (id version : Column) (named :
 -- the columns of a `desk` by name
 module _ (id version : Column) (are : (same_name id.name (codes "id") && same_name version.name (codes "version")) ≡ true) where
   first_id : same_name id.name (codes "id") ≡ true
-  first_id = (and_both _ _ are).0
+  first_id = (both _ _ are).0
 
   then_version : same_name version.name (codes "version") ≡ true
-  then_version = (and_both _ _ are).1
+  then_version = (both _ _ are).1
 
   apart : same_name id.name (codes "version") ≡ false
   unfolding same_name
@@ -370,10 +359,10 @@ Tells others t = (are_desk_columns t.columns ≡ true) × (is_key t.key 0 ≡ tr
 
 told_parts : (others : List Table) (t : Table) → tells_version others t ≡ true → Tells others t
 told_parts others t is =
-    let alone = and_both (are_desk_columns t.columns && is_key t.key 0 && nat_lt t.tree (2 ^ 31)) (not (has_tree others t.tree)) is in
-    let low = and_both (are_desk_columns t.columns && is_key t.key 0) (nat_lt t.tree (2 ^ 31)) alone.0 in
-    let both = and_both (are_desk_columns t.columns) (is_key t.key 0) low.0 in
-    (both.0, both.1, low.1, not_true _ alone.1)
+    let alone = both (are_desk_columns t.columns && is_key t.key 0 && nat_lt t.tree (2 ^ 31)) (not (has_tree others t.tree)) is in
+    let low = both (are_desk_columns t.columns && is_key t.key 0) (nat_lt t.tree (2 ^ 31)) alone.0 in
+    let sides = both (are_desk_columns t.columns) (is_key t.key 0) low.0 in
+    (sides.0, sides.1, low.1, negated _ alone.1)
 
 module _ (s : Schema) where
   place_of_desk : (tree : ℕ) (d : TellsVersion tree s) → position_from is_named_desk 0 s.tables ≡ Some (0 + d.at)
