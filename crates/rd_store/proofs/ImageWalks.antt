@@ -1,5 +1,5 @@
 -- What a walk over the images finds.
-use Rattle.rd_store.proofs.Common.{some_got, ◌≡◌, inl, inr, ℕ, ◌-◌, pos, List, [], ◌∷◌, ◌++◌, map, filter, length, take, All, Bool, true, false, Option, Some, None, IsSome, option_map, slice_get, Result, Ok, Err, refl, sym, ap, ap₂, subst, ◌∙◌, arith, nat_cmp, MatchBool, IsErrAnd, FinMap, entries, get, keys, length_push, map-append, All-from_recursion, All-weaker, Int, Database, IsDatabase, Held, state, Row, column, Ghosts, Table, Trees, id_in, Has, has_either, Length, TypeOf, AreRising, IsListed, greater, all_images_query, all_marks_query, desk_with, IsSpelled, Spells, entry_of, map_of, natural, entry_got, got_entry, all_in, row_got, rows_lawful, and_true, from_map, in_map, map_map, greater_int, OpenFault, Heading, ImageRow, HasErrorBytes, IsImageRow, IsMarksRow, is_number, is_one_of, IsScope, IsClean, IsOpen, Stays, AreFiledUnder, AreKeys, AreListed, HaveAccessions, HaveFiles, IsConsistent, IsConsistentAs, IsImageOf, JudgedPart, LawfulCommon, LawfulImages, LawfulMarks, TestsPart, is_among, entry_in, number_of, register_of, as_row, HasVersion, deed_spelling, image_spelling, images_of, marks_spelling, unmarked, AreBatchOf, AreFiledOf, AreNextOf, AreReadNext, HasFilesOnce, IsJudgedImage, IsLawfulAt, IsReadOf, IsWalk, IsWalkTo, LawfulGivenWalk, LawfulWalk, SpellMarksIf, StandsOnce, image_read, image_columns, last_number}
+use Rattle.rd_store.proofs.Common.{some_got, and_true, from_map, in_map, map_map, ◌≡◌, inl, inr, ℕ, ◌-◌, pos, List, [], ◌∷◌, ◌++◌, map, filter, length, take, All, Bool, true, false, Option, Some, None, IsSome, option_map, slice_get, Result, Ok, Err, refl, sym, ap, ap₂, subst, ◌∙◌, arith, nat_cmp, MatchBool, IsErrAnd, FinMap, entries, get, keys, length_push, map-append, All-from_recursion, All-weaker, Int, Database, IsDatabase, Held, state, Row, column, Ghosts, Table, Trees, id_in, Has, has_either, Length, TypeOf, AreRising, IsListed, greater, all_images_query, all_marks_query, desk_with, IsSpelled, Spells, entry_of, map_of, natural, entry_got, got_entry, all_in, row_got, rows_lawful, greater_int, OpenFault, Heading, ImageRow, HasErrorBytes, IsImageRow, IsMarksRow, is_number, is_one_of, IsScope, IsClean, IsOpen, Stays, AreFiledUnder, AreKeys, AreListed, HaveAccessions, HaveFiles, IsConsistent, IsConsistentAs, IsImageOf, JudgedPart, LawfulCommon, LawfulImages, LawfulMarks, TestsPart, is_among, entry_in, number_of, register_of, as_row, HasVersion, deed_spelling, image_spelling, images_of, marks_spelling, unmarked, AreBatchOf, AreFiledOf, AreNextOf, AreReadNext, HasFilesOnce, IsJudgedImage, IsLawfulAt, IsReadOf, IsWalk, IsWalkTo, LawfulGivenWalk, LawfulWalk, SpellMarksIf, StandsOnce, image_read, image_columns, last_number}
 use Rattle.sqlite_sql.specs.Ops.{unary}
 use Rattle.rd_tables.specs.Walks.{AreNext, ComesNext, IsWalked, is_after}
 use Rattle.rd_tables.proofs.RowWalks.{all_walked, comes_from, each_next, none_next, walk_goes_on, walk_starts}

@@ -1,5 +1,5 @@
 -- What the queries show of the index.
-use Rattle.rd_store.proofs.Common.{equals_itself, halves, ◌≡◌, inl, inr, ℕ, ◌<◌, pos, List, [], ◌∷◌, map, AllPairs, Bool, true, false, cond, T, ◌&&◌, ◌==◌, Option, Some, None, refl, sym, ap, subst, ◌∙◌, arith, nat_cmp, int_cmp, is_lt, is_eq, Less, Equal, option_to_list, eq_by_cmp, ordering_then, FinMap, get, entries, entries_sorted, retain_keys, get-retain_keys, is_sorted, below_all, nat_tests, All-from_recursion, Int, Row, column, Binary, is_true, Compare, Eq, value_cmp-Int, then-Equal, Has, contains_had, AreFounds, IsFound, IsFoundAt, IsSlotOfFile, Found, IsPicked, file_query, files_query, Spells, map_of, entry_of, map_map, and_true, in_map, from_map, equal_numbers, entry_got, got_entry, below_has, looked_up, in_order, all_in, ImageRow, FileAt, file_cmp, AreFilesIn, IsFileIn, file_spelling, file_shown, later}
+use Rattle.rd_store.proofs.Common.{equals_itself, halves, map_map, and_true, in_map, from_map, ◌≡◌, inl, inr, ℕ, ◌<◌, pos, List, [], ◌∷◌, map, AllPairs, Bool, true, false, cond, T, ◌&&◌, ◌==◌, Option, Some, None, refl, sym, ap, subst, ◌∙◌, arith, nat_cmp, int_cmp, is_lt, is_eq, Less, Equal, option_to_list, eq_by_cmp, ordering_then, FinMap, get, entries, entries_sorted, retain_keys, get-retain_keys, is_sorted, below_all, nat_tests, All-from_recursion, Int, Row, column, Binary, is_true, Compare, Eq, value_cmp-Int, then-Equal, Has, contains_had, AreFounds, IsFound, IsFoundAt, IsSlotOfFile, Found, IsPicked, file_query, files_query, Spells, map_of, entry_of, equal_numbers, entry_got, got_entry, below_has, looked_up, in_order, all_in, ImageRow, FileAt, file_cmp, AreFilesIn, IsFileIn, file_spelling, file_shown, later}
 use Rattle.std.proofs.lemmas.List.Kept.{AllPairs-cons}
 use Rattle.sqlite_sql.specs.Ops.{binary}
 use Rattle.rd_store.proofs.Orders.{file_order}

@@ -1,5 +1,5 @@
 -- What a register of images tells, and what becomes of it.
-use Rattle.rd_store.proofs.Common.{halves, holds_true, ◌≡◌, inl, inr, ℕ, zero, suc, ◌+◌, ◌<◌, ◌≤◌, pos, List, [], ◌∷◌, map, length, slice_index_or, true, T, Option, Some, None, is_some, option_map, Result, Ok, Err, IfOk, refl, sym, ap, ap₂, subst, ◌∙◌, arith, add-one, Ordering, nat_cmp, is_lt, Less, Equal, Greater, IsBinarySearchResult, IsNonDecreasingBy, IsSearchInRange, ordering_index, FinMap, entries, entries-insert, entries_sorted, from_entries, get, get-entries, get-from_entries, insert, keys, len-empty, len-entries, below_all, find, is_sorted, put, nat_tests, length-map, IsNonDecreasingBy-from_all_adjacent, Int, Ghosts, Database, Held, state, Row, Has, map_of, entry_got, empty_by_length, map_map, same_truth, OpenFault, Heading, Register, ImageRow, is_one_of, Turns, Changes, IsOf, IsOpen, Stays, desk, joined, kind_with, with_marks, first_desk, AreKeys, IsPlaceIn, IsRegisterOf, IsSameHeading, entry_for, entry_in, numbered_accession, listed, number_of, register_of, as_row, heading_of, desk_of, image_spelling, marks_spelling, Desk, HasOtherImage, put_or_kept, with_image, registered, image_columns}
+use Rattle.rd_store.proofs.Common.{halves, holds_true, empty_by_length, map_map, same_truth, ◌≡◌, inl, inr, ℕ, zero, suc, ◌+◌, ◌<◌, ◌≤◌, pos, List, [], ◌∷◌, map, length, slice_index_or, true, T, Option, Some, None, is_some, option_map, Result, Ok, Err, IfOk, refl, sym, ap, ap₂, subst, ◌∙◌, arith, add-one, Ordering, nat_cmp, is_lt, Less, Equal, Greater, IsBinarySearchResult, IsNonDecreasingBy, IsSearchInRange, ordering_index, FinMap, entries, entries-insert, entries_sorted, from_entries, get, get-entries, get-from_entries, insert, keys, len-empty, len-entries, below_all, find, is_sorted, put, nat_tests, length-map, IsNonDecreasingBy-from_all_adjacent, Int, Ghosts, Database, Held, state, Row, Has, map_of, entry_got, OpenFault, Heading, Register, ImageRow, is_one_of, Turns, Changes, IsOf, IsOpen, Stays, desk, joined, kind_with, with_marks, first_desk, AreKeys, IsPlaceIn, IsRegisterOf, IsSameHeading, entry_for, entry_in, numbered_accession, listed, number_of, register_of, as_row, heading_of, desk_of, image_spelling, marks_spelling, Desk, HasOtherImage, put_or_kept, with_image, registered, image_columns}
 use Rattle.std.specs.List.{insert as insert_at}
 use Rattle.rd_store.proofs.ColumnValues.{one_of_shown, one_of_spelled}
 use Rattle.rd_store.proofs.QueryResults.{row_back}

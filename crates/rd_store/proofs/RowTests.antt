@@ -1,5 +1,5 @@
 -- What the tests of the rows that are shown say of the tables.
-use Rattle.rd_store.proofs.Common.{some_got, ◌≡◌, inl, inr, ℕ, suc, pos, List, [], ◌∷◌, map, All, Bool, true, false, Some, IsSome, refl, sym, ap, subst, ◌∙◌, arith, MatchBool, Any, IsPermutation, eq_by_cmp, get, eq_by_cmp_equiv, IsPermutation-map, IsPermutation-sym, Value, Int, Blob, Row, column, value_cmp, rowid, Database, IsDatabase, Table, one_permutation, Term, value_cmp_total, Has, Audience, Staff, asks_of, IsPicked, IsListed, all_deeds_query, all_images_query, all_rules_query, all_keys_query, all_checks_query, all_marks_query, version_query, desk_with, Spelling, entry_of, IsSpelled, SpellLawful, map_of, natural, IsKeyOrder, tie, map_map, in_map, from_map, to_permuted, show, all_shown, each_shown, shown_each, rowids_apart, have_rowids, apart_by_rowids, row_got, got_row, rows_lawful, lawful_rows, same_int, same_blob, agree_one, agree_two, agree_three, one_rule, one_key, one_check, is_number, IsDeedRow, IsImageRow, IsRuleRow, IsKeyRow, IsCheckRow, IsMarksRow, IsStaffRow, audience_code, audience_in, IsDeed, IsKey, AreKeys, AreMarksOf, IsImageOf, IsRuleOf, IsCheckOf, HasVersion, deed_spelling, image_spelling, marks_spelling, rule_spelling, key_spelling, check_spelling, Place, Checkup, band_code, Key}
+use Rattle.rd_store.proofs.Common.{some_got, map_map, in_map, from_map, ◌≡◌, inl, inr, ℕ, suc, pos, List, [], ◌∷◌, map, All, Bool, true, false, Some, IsSome, refl, sym, ap, subst, ◌∙◌, arith, MatchBool, Any, IsPermutation, eq_by_cmp, get, eq_by_cmp_equiv, IsPermutation-map, IsPermutation-sym, Value, Int, Blob, Row, column, value_cmp, rowid, Database, IsDatabase, Table, one_permutation, Term, value_cmp_total, Has, Audience, Staff, asks_of, IsPicked, IsListed, all_deeds_query, all_images_query, all_rules_query, all_keys_query, all_checks_query, all_marks_query, version_query, desk_with, Spelling, entry_of, IsSpelled, SpellLawful, map_of, natural, IsKeyOrder, tie, to_permuted, show, all_shown, each_shown, shown_each, rowids_apart, have_rowids, apart_by_rowids, row_got, got_row, rows_lawful, lawful_rows, same_int, same_blob, agree_one, agree_two, agree_three, one_rule, one_key, one_check, is_number, IsDeedRow, IsImageRow, IsRuleRow, IsKeyRow, IsCheckRow, IsMarksRow, IsStaffRow, audience_code, audience_in, IsDeed, IsKey, AreKeys, AreMarksOf, IsImageOf, IsRuleOf, IsCheckOf, HasVersion, deed_spelling, image_spelling, marks_spelling, rule_spelling, key_spelling, check_spelling, Place, Checkup, band_code, Key}
 use Rattle.sqlite_sql.specs.Term.{col}
 use Rattle.rd_store.proofs.QueryResults.{any_has}
 use Rattle.rd_store.proofs.ColumnValues.{number_spelled}

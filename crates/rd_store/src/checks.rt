@@ -1,4 +1,4 @@
-ghost use Rattle.std.specs.Prelude.{◌≡◌, false, IsSome, MatchBool, None, IfErr, IfOk, option_map, slice_get, ◌≢◌, map};
+ghost use Rattle.std.specs.Prelude.{◌≡◌, false, IsSome, MatchBool, None, IfErr, IfOk, option_map, slice_get, ◌≢◌, map, take};
 ghost use Rattle.std.specs.FinMap.{get, entries, retain_keys};
 ghost use Rattle.sqlite.specs.Held.{state};
 ghost use Rattle.rd_policy.specs.Days.{IsDay};
@@ -170,23 +170,24 @@ impl<S: Alter> Store<S> {
         first_finding(&rows)
     }
 
-    /// The rows for the checks of later days than this one, each with its accession and its day.
+    /// The row for the first check of a later day than this one, with its accession and its day; none where there is
+    /// no such check.
     ///
     /// It fails with `Sql`.
     fn later_rows(&mut self, day: i32) -> Result<Vec<Row>, StoreFault>
         ensures reads { Reads S.Store self.old self.new result (λ rows.
-            rows.items ≡ map checkup_shown (checks_after day (desk S.Store self.old))) }
+            rows.items ≡ map checkup_shown (take 1 (checks_after day (desk S.Store self.old)))) }
         ensures fault { IfErr result (λ fault. fault ≡ StoreFault.Sql) }
     {
         let from = day.to_sql();
         self.query(
-            "SELECT acc, day FROM checked WHERE day > ?1 ORDER BY acc, day",
+            "SELECT acc, day FROM checked WHERE day > ?1 ORDER BY acc, day LIMIT 1",
             &[from],
         )
     }
 
     /// Whether a check of a later day than this one, counted from 1970-01-01, is recorded; the day may be any number. It
-    /// is one query, which shows those checks alone.
+    /// is one query, for one row.
     ///
     /// It fails with `Sql`.
     pub fn has_check_after(&mut self, day: i32) -> Result<bool, StoreFault>

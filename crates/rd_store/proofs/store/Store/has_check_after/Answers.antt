@@ -1,4 +1,4 @@
-use Rattle.rd_store.proofs.Common.{◌≡◌, ℤ, length, map, rules, subst, vec_len, w32, to_z-of_z, desk, checks_after, checkup_shown}
+use Rattle.rd_store.proofs.Common.{take, ◌≡◌, ℤ, length, map, rules, subst, vec_len, w32, to_z-of_z, desk, checks_after, checkup_shown}
 use Rattle.rd_store.proofs.LaterCheckQuery.{later_told}
 use Rattle.rd_store.proofs.store.Store.has_check_after.Goals as goal
 
@@ -11,5 +11,5 @@ returns-clause-reads g c =
       ends_open = search rules;
       answer = λ is_open.
           later_told checkup_shown (checks_after c.args.day now) c.in_ok-rows.rows.items (vec_len c.in_ok-rows.rows) c.is_empty.result
-          (subst (λ (d : ℤ). c.in_ok-rows.rows.items ≡ map checkup_shown (checks_after d now)) (to_z-of_z w32 c.args.day c.ranges.day) (c.in_ok-rows.ensures.reads.answer is_open)) len c.is_empty.ensures;
+          (subst (λ (d : ℤ). c.in_ok-rows.rows.items ≡ map checkup_shown (take 1 (checks_after d now))) (to_z-of_z w32 c.args.day c.ranges.day) (c.in_ok-rows.ensures.reads.answer is_open)) len c.is_empty.ensures;
     }
