@@ -1,5 +1,5 @@
 -- The text that asks for the checks after a day, and what it shows.
-use Rattle.rd_store.proofs.Common.{take, IsStart, desk_schema, AsksStart, Checkup, Outcome, ◌≡◌, ◌∙◌, ◌&&◌, ◌==◌, ℕ, ℤ, pos, Bool, List, [], ◌∷◌, false, Less, ap, ap₂, arith, codes, eqb-true, int_cmp, int_lt, is_eq, is_gt, is_lt, length, map, nat_cmp, not, refl, subst, sym, true, ◌≢◌, MatchBool, entries, retain_keys, ordering_then, nat_tests, Int, Row, column, Query, key_cmp, Binary, col, is_true, Compare, Gt, value_cmp-Int, then-Equal, IsPicked, asks_of, greater, rising, Spells, entry_of, map_of, and_true, empty_by_length, in_order, truth_kept, checkup_shown, check_spelling}
+use Rattle.rd_store.proofs.Common.{take, ◌≡◌, ◌∙◌, ◌&&◌, ◌==◌, ℕ, ℤ, pos, Bool, List, [], ◌∷◌, false, Less, ap, ap₂, arith, codes, eqb-true, int_cmp, int_lt, is_eq, is_gt, is_lt, length, map, nat_cmp, not, refl, subst, sym, true, ◌≢◌, MatchBool, IsStart, IsPicked, asks_of, greater, rising, desk_schema, AsksStart, Checkup, Outcome, entries, retain_keys, ordering_then, nat_tests, Int, Row, column, Query, key_cmp, Binary, col, is_true, Compare, Gt, value_cmp-Int, then-Equal, Spells, entry_of, map_of, and_true, empty_by_length, in_order, truth_kept, checkup_shown, check_spelling}
 use Rattle.sqlite.specs.Listing.{understood}
 use Rattle.sqlite_sql.specs.Ops.{binary}
 use Rattle.sqlite_tied.specs.Compute.{everything}

@@ -204,16 +204,6 @@ module _ {S : Type 0} (g : Ghosts S) (a b : Held S) (settled : IsSettledAt (stat
     none_brought (Ok value) laws stays_so turns named is = tt
     none_brought {T} (Err fault) laws stays_so turns named is = not_brought {T = T} fault laws stays_so turns named fault is
 
--- a transaction that is not begun
-pub not_begun : {S T : Type 0} (g : Ghosts S) (h : Held S) (Before After : Database → Type 0) → (IsOpen g h → RestsIn Before (state g h)) → (fault : OpenFault) → Turns {T = T} g h h After (Err fault)
-not_begun g h Before After start fault = record {
-  lasts = lasts_still g h;
-  ok = λ o. tt;
-  err = λ o. let at = start o in record { settled = at.settled; autocommit = at.autocommit; holds = refl };
-  ends_open = λ clean. tt;
-  crash = λ was clean left may. inl may;
-}
-
 -- a transaction told by another result
 pub turns_told : {S T U X Y : Type 0} (g : Ghosts S) (old new : Held S) (After : Database → Type 0) (value : T) (other : U) → Turns {X = X} g old new After (Ok value) → Turns {X = Y} g old new After (Ok other)
 turns_told g old new After value other h = record { lasts = h.lasts; ok = h.ok; err = λ o. tt; ends_open = h.ends_open; crash = h.crash }
