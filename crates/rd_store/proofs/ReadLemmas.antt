@@ -1,5 +1,5 @@
 -- Calls that read.
-use Rattle.rd_store.proofs.Common.{Result, ◌≡◌, ℕ, List, Vec, Global, IfOk-weaker, Ghosts, Held, state, Asks, HoldsDesk, IsOpen, Keeps, Reads, HoldsCommonTables, Table, Term, Row, Shown, desk_schema, desk_with, SpellDesk, IsPicked, IsStart, asks_of, shown_picks, shown_starts, shown_was_open, AsksStart, AsksOver, Key}
+use Rattle.rd_store.proofs.Common.{Ok, Err, IfOk, OnOk, Result, ◌≡◌, ℕ, List, Vec, Global, IfOk-weaker, Ghosts, Held, state, Asks, HoldsDesk, IsOpen, Keeps, Reads, HoldsCommonTables, Table, Term, Row, Shown, desk_schema, desk_with, SpellDesk, IsPicked, IsStart, asks_of, shown_picks, shown_starts, shown_was_open, AsksStart, AsksOver, Key}
 use Rattle.rd_store.proofs.Laws.{Laws, crash_same, desk_same, leaves_only, stays_desk}
 
 -- a query leaves the desk as it was
@@ -50,3 +50,11 @@ module _ {S X : Type 0} (g : Ghosts S) (old new : Held S) {text : List ℕ} {tre
     rows_started means = asks_as g old new asks (λ o rows h.
         let at = held (shown_was_open text params (state g old) (state g new) rows.items h) in
         shown_starts (means at.more) params (state g old) (state g new) at.rests.schema rows.items h)
+
+-- a call that reads rows, and then tells what they show
+pub read_told : {S T U X Y : Type 0} (g : Ghosts S) (old new : Held S) {rows : T} {P : T → Type 0} → Reads {X = X} g old new (Ok rows) P → (r : Result U Y) {Q : U → Type 0} → (IsOpen g new → P rows → IfOk r Q) → Reads g old new r Q
+read_told {S} {T} {U} {X} {Y} g old new reads r told = record { keeps = reads.keeps; answer = λ o. told o (reads.answer o); ends_open = λ clean. still r (reads.ends_open clean) }
+  where
+    still : (q : Result U Y) → IsOpen g new → OnOk q (IsOpen g new)
+    still (Ok value) o = o
+    still (Err fault) o = tt
