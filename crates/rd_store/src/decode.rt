@@ -1,4 +1,5 @@
-ghost use Rattle.std.specs.Prelude.{◌≡◌, ◌/◌, IfOk, IfErr, length, option_map, pos, string_bytes};
+ghost use Rattle.std.specs.Prelude.{◌≡◌, ◌≢◌, ◌/◌, ◌<◌, ◌^◌, ℕ, ℤ, List, FitsSigned, IfOk, IfErr, length, option_map, pos, string_bytes};
+ghost use Rattle.std.specs.Int.{w32};
 ghost use Rattle.sqlite.specs.declared.types.Value.TheVariants.{Int, Text as Words, Blob};
 ghost use Rattle.sqlite.specs.Order.{column};
 ghost use Rattle.sqlite.specs.Values.{or_null};
@@ -13,12 +14,16 @@ use sqlite::Row;
 use sqlite::types::ValueRef;
 use std::alloc::Global;
 
-/// The natural number in a column.
+/// The natural number in a column. It fails only where none below 2 to the power of 32 is there.
 pub(crate) fn number_at(row: &Row, at: usize) -> Result<u32, StoreFault>
     ensures value { IfOk result (λ number. column row.now at ≡ Int (pos number)) }
     ensures fault { IfErr result (λ fault. fault ≡ StoreFault.Sql) }
+    ensures none { IfErr result (λ fault. (number : ℕ) → number < 2 ^ 32 → column row.now at ≢ Int (pos number)) }
 {
-    row.get(at).map_err(|_| StoreFault::Sql)
+    match row.get_ref(at) {
+        Ok(ValueRef::Int(number)) => u32::try_from(number).map_err(|_| StoreFault::Sql),
+        _ => Err(StoreFault::Sql),
+    }
 }
 
 /// The natural number in a column that may be NULL.
@@ -30,12 +35,16 @@ pub(crate) fn some_number_at(row: &Row, at: usize) -> Result<Option<u32>, StoreF
     row.get(at).map_err(|_| StoreFault::Sql)
 }
 
-/// The day in a column.
+/// The day in a column. It fails only where no number that fits in 32 bits is there.
 pub(crate) fn day_at(row: &Row, at: usize) -> Result<i32, StoreFault>
     ensures value { IfOk result (λ day. column row.now at ≡ Int day) }
     ensures fault { IfErr result (λ fault. fault ≡ StoreFault.Sql) }
+    ensures none { IfErr result (λ fault. (day : ℤ) → FitsSigned w32 day → column row.now at ≢ Int day) }
 {
-    row.get(at).map_err(|_| StoreFault::Sql)
+    match row.get_ref(at) {
+        Ok(ValueRef::Int(day)) => i32::try_from(day).map_err(|_| StoreFault::Sql),
+        _ => Err(StoreFault::Sql),
+    }
 }
 
 /// The day in a column that may be NULL.
@@ -54,10 +63,11 @@ pub(crate) fn text_at(row: &Row, at: usize) -> Result<String, StoreFault>
     row.get(at).map_err(|_| StoreFault::Sql)
 }
 
-/// The digest in a column.
+/// The digest in a column. It fails only where no 32 bytes are there.
 pub(crate) fn digest_at(row: &Row, at: usize) -> Result<[u8; 32], StoreFault>
     ensures value { IfOk result (λ digest. column row.now at ≡ Blob digest) }
     ensures fault { IfErr result (λ fault. fault ≡ StoreFault.Sql) }
+    ensures none { IfErr result (λ fault. (digest : List ℕ) → length digest ≡ 32 → column row.now at ≢ Blob digest) }
 {
     match row.get_ref(at) {
         Ok(ValueRef::Blob(bytes)) => <[u8; 32]>::try_from(bytes).map_err(|_| StoreFault::Sql),
