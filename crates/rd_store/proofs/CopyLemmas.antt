@@ -1,5 +1,5 @@
 -- A desk that is copied entry by entry, inside one transaction.
-use Rattle.rd_store.proofs.Common.{apart_if_less, IsKeyOrder, halves, ◌≡◌, ◌⊎◌, ◌∙◌, inl, inr, ℕ, zero, suc, ◌+◌, ◌<◌, ◌++◌, List, [], ◌∷◌, length, get_or, take, Bool, true, false, cond, T, Some, None, Result, Ok, Err, Ordering, ap, arith, refl, subst, sym, is_lt, IfOk, IsErr, IsTrue, MatchBool, OnOk, true≢false, map, FinMap, entries, entries_sorted, from_entries, from_entries_push, get, get-entries, get-from_entries, insert, same_map, below_all, find, is_sorted, eq_by_cmp, eq_by_cmp_equiv, take_all, take_more, get_or-map, length-map, Ghosts, Database, Held, state, Error, Desk, IsBlank, has_desk, AndClean, IsCopied, IsNotCopied, KeepsOrStays, LeavesCopy, OpensCopy, LeavesOldOrNew, RestsIn, Turns, OpenFault, IsNotOpened, IsOpened, Holds, IsAtRest, IsClean, IsLeft, IsOpen, Keeps, Lasts, LeavesOpen, Moves, Reads, desk, IsOf}
+use Rattle.rd_store.proofs.Common.{apart_if_less, IsKeyOrder, halves, ◌≡◌, ◌⊎◌, ◌∙◌, inl, inr, ℕ, zero, suc, ◌+◌, ◌<◌, ◌++◌, List, [], ◌∷◌, length, get_or, take, Bool, false, cond, T, Some, None, Result, Ok, Err, Ordering, ap, arith, refl, subst, sym, is_lt, IfOk, IsErr, IsTrue, MatchBool, OnOk, true≢false, map, FinMap, entries, entries_sorted, from_entries, from_entries_push, get, get-entries, get-from_entries, insert, same_map, below_all, find, is_sorted, eq_by_cmp, eq_by_cmp_equiv, take_all, take_more, get_or-map, length-map, Ghosts, Database, Held, state, Error, Desk, IsBlank, has_desk, AndClean, IsCopied, IsNotCopied, KeepsOrStays, LeavesCopy, OpensCopy, LeavesOldOrNew, RestsIn, Turns, OpenFault, IsNotOpened, IsOpened, Holds, IsAtRest, IsClean, IsLeft, IsOpen, Keeps, Lasts, LeavesOpen, Moves, Reads, desk, IsOf}
 use Rattle.rd_store.specs.declared.faults.CreateFault.{CreateFault}
 use Rattle.rd_store.specs.declared.faults.CreateFault.TheVariants.{Exists, Sql}
 use Rattle.rd_store.proofs.Laws.{lasts_still, lasts_then, left_is}

@@ -1,5 +1,7 @@
 -- A desk that is copied into a database without tables.
-use Rattle.std.specs.Prelude.{◌≡◌, ◌⊎◌, ℕ, Bool, IfOk, IsTrue, map, MatchBool, Result, Some}
+use Rattle.std.specs.Prelude.{◌≡◌, ◌⊎◌, ℕ, Bool, IfOk, IsTrue, map, MatchBool, Result, Some, ⊤}
+use Rattle.sqlite.specs.declared.types.Value.{Value}
+use Rattle.sqlite.specs.declared.types.Value.TheVariants.{Null, Int, Real, Text, Blob}
 use Rattle.std.specs.FinMap.{FinMap, entries, get}
 use Rattle.std.specs.Ordering.{nat_cmp}
 use Rattle.sqlite.specs.Store.{Ghosts}
@@ -94,6 +96,14 @@ pub record Compares {S T X : Type 0} (g : Ghosts S) (one_old one_new other_old o
   pub answer : IsOpen g one_new → IsOpen g other_new → IfOk result Answers
   pub one_open : LeavesOpen g one_new result
   pub other_open : LeavesOpen g other_new result
+
+-- a value is no number with a fraction, which no desk has
+abbrev pub IsWhole : Value → Type 0
+IsWhole Null = ⊤
+IsWhole (Int number) = ⊤
+IsWhole (Real number) = ⊥
+IsWhole (Text text) = ⊤
+IsWhole (Blob bytes) = ⊤
 
 -- what is told to be the same is
 abbrev pub TellsSame : {A : Type 0} → A → A → Bool → Type 0

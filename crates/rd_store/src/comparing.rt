@@ -1,9 +1,10 @@
 //! Compares the desks of two stores, row by row and image by image.
 
+ghost use Rattle.std.specs.Prelude.{◌≡◌, ◌≢◌, ◌<◌, false, length};
 ghost use Rattle.std.specs.FinMap.{get};
 ghost use Rattle.sqlite.specs.Order.{column};
 ghost use Rattle.sqlite_value.specs.Value.{owned};
-ghost use Rattle.rd_store.specs.Copied.{Compares, TellsSame, TellsSameBoth};
+ghost use Rattle.rd_store.specs.Copied.{Compares, IsWhole, TellsSame, TellsSameBoth};
 ghost use Rattle.rd_store.specs.Held.{desk};
 
 use crate::faults::StoreFault;
@@ -15,7 +16,8 @@ use std::alloc::Global;
 
 /// Whether two values of a column are the same. It says no of numbers with a fraction, which no desk has.
 fn is_same_value(one: ValueRef<'_>, other: ValueRef<'_>) -> bool
-    ensures { TellsSame (owned one.entry) (owned other.entry) result }
+    ensures same { TellsSame (owned one.entry) (owned other.entry) result }
+    ensures differ { result ≡ false → IsWhole (owned one.entry) → owned one.entry ≢ owned other.entry }
 {
     match (one, other) {
         (ValueRef::Null, ValueRef::Null) => true,
@@ -28,7 +30,8 @@ fn is_same_value(one: ValueRef<'_>, other: ValueRef<'_>) -> bool
 
 /// Whether two rows have the same value in a column.
 fn is_same_at(one: &Row, other: &Row, at: usize) -> bool
-    ensures { TellsSame (column one.now at) (column other.now at) result }
+    ensures same { TellsSame (column one.now at) (column other.now at) result }
+    ensures differ { result ≡ false → at < length one.now → at < length other.now → IsWhole (column one.now at) → column one.now at ≢ column other.now at }
 {
     match (one.get_ref(at), other.get_ref(at)) {
         (Ok(one), Ok(other)) => is_same_value(one, other),

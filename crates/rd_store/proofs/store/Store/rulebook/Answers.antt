@@ -1,4 +1,4 @@
-use Rattle.rd_store.proofs.Common.{rules, ◌∙◌, ap, map, rule_spelling, rule_of}
+use Rattle.rd_store.proofs.Common.{◌∙◌, ap, map, rule_spelling, rule_of}
 use Rattle.rd_store.proofs.QueryResults.{rules_back}
 use Rattle.rd_store.proofs.ReadLemmas.{read_told}
 use Rattle.rd_store.proofs.store.Store.rulebook.Goals as goal
