@@ -1,5 +1,5 @@
 -- What the tests of a database say of it, from the tests of its rows.
-use Rattle.rd_store.proofs.Common.{or_true, ◌≡◌, ◌≢◌, inl, inr, ℕ, List, [], get_or, true, false, Option, Result, Ok, Err, IfOk, IfErr, refl, sym, ap, subst, ◌∙◌, true≢false, arith, IsErrAnd, Row, column, Ghosts, Database, IsDatabase, Held, state, Table, TellsVersion, desk_schema, desk_with, first_schema, has_desk_columns, has_foreign_desk, may_be_desk, natural, desk_first, one_tree, OpenFault, NotADesk, Inconsistent, Version, HasVersion, HaveOwnRowids, unmarked, Asks, IsClean, IsOpen, Stays, IsConsistent, IsConsistentAs, IsNamed, IsNoDesk, IsResting, IsSaid, IsSettledAt, Judged, IsHeld, NamesDesk, Refuses, Says, Tests, TestsDatabase, IsHeldFirst, RefusesEach}
+use Rattle.rd_store.proofs.Common.{IsErr, or_true, ◌≡◌, ◌≢◌, inl, inr, ℕ, List, [], get_or, true, false, Option, Result, Ok, Err, IfOk, IfErr, refl, sym, ap, subst, ◌∙◌, true≢false, arith, IsErrAnd, Row, column, Ghosts, Database, IsDatabase, Held, state, Table, TellsVersion, desk_schema, desk_with, first_schema, has_desk_columns, has_foreign_desk, may_be_desk, natural, desk_first, one_tree, OpenFault, NotADesk, Inconsistent, Version, HasVersion, HaveOwnRowids, unmarked, Asks, IsClean, IsOpen, Stays, IsConsistent, IsConsistentAs, IsNamed, IsNoDesk, IsResting, IsSaid, IsSettledAt, Judged, IsHeld, NamesDesk, Refuses, Says, Tests, TestsDatabase, IsHeldFirst, RefusesEach}
 use Rattle.rd_store.specs.declared.faults.OpenFault.TheVariants.{Version as OtherVersion, Sql}
 use Rattle.rd_store.proofs.Laws.{stays_here, stays_then}
 
@@ -143,3 +143,10 @@ module _ {S : Type 0} (g : Ghosts S) (a b : Held S) (stays : Stays g a b) where
 
   pub still : (P : Database → Type 0) → (IsOpen g a → P (state g a).now) → IsOpen g b → P (state g b).now
   still P held o = subst P (sym (stays.now o)) (held (stays.lasts.was_open o))
+
+-- nothing is asked of a database, and Sql is answered
+pub not_asked : {S T : Type 0} (g : Ghosts S) (h : Held S) (Good : T → Database → Type 0) (Bad : OpenFault → Database → Type 0) → IsResting (state g h) → (IsOpen g h → Bad Sql (state g h).now)
+    → (r : Result T OpenFault) → IfErr r (λ fault. fault ≡ Sql) → IsErr r → TestsDatabase g h h r Good Bad
+not_asked g h Good Bad rests bad (Ok value) is failed = absurd (true≢false (sym failed))
+not_asked {T} g h Good Bad rests bad (Err fault) is failed = subst (λ e. TestsDatabase {T = T} g h h (Err e) Good Bad) (sym is)
+    (record { stays = stays_here g h (λ o. (rests o).autocommit); holds = λ o. tt; refused = bad; ends_open = λ clean. tt; refuses = λ not_desk not_sql clean. absurd (not_sql refl) })

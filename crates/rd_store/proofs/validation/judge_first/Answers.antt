@@ -1,6 +1,6 @@
-use Rattle.rd_store.proofs.Common.{◌≡◌, [], refl, sym, ◌∙◌, rules, state, first_schema}
-use Rattle.rd_store.proofs.DatabaseTests.{judged_first, said_here}
-use Rattle.rd_store.proofs.Laws.{stays_here}
+use Rattle.rd_store.proofs.Common.{◌≡◌, Err, refl, IsHeldFirst, RefusesEach, [], sym, ◌∙◌, state, first_schema}
+use Rattle.rd_store.specs.declared.faults.OpenFault.TheVariants.{Sql}
+use Rattle.rd_store.proofs.DatabaseTests.{err_told, judged_first, said_here, not_asked}
 use Rattle.rd_store.proofs.validation.judge_first.Goals as goal
 
 pub check_first_rows-requires-clause-tables : goal.check_first_rows-requires-clause-tables
@@ -15,22 +15,12 @@ check_first_rows-requires-clause-version g c is_open =
     said_here [] (state g.S.Store c.args.conn.now).now schema (c.requires.said is_open)
 
 pub returns-in_err-first-clause-tests : goal.returns-in_err-first-clause-tests
-returns-in_err-first-clause-tests g c = record {
-  stays = stays_here g.S.Store c.args.conn.now (λ is_open. (c.requires.rests is_open).autocommit);
-  holds = search rules;
-  refused = search rules;
-  ends_open = search rules;
-  refuses = search rules;
-}
+returns-in_err-first-clause-tests g c =
+    let is = err_told c.from_residual.result c.in_err-first.field-0.0 c.from_residual.ensures.1 (λ fault. fault ≡ Sql) c.in_err-first.ensures.fault in
+    not_asked g.S.Store c.args.conn.now (λ _. IsHeldFirst) RefusesEach c.requires.rests (λ o. rw (c.requires.desk o) refl) c.from_residual.result is c.from_residual.ensures.0
 
 pub returns-then-not-same_schema-clause-tests : goal.returns-then-not-same_schema-clause-tests
-returns-then-not-same_schema-clause-tests g c = record {
-  stays = stays_here g.S.Store c.args.conn.now (λ is_open. (c.requires.rests is_open).autocommit);
-  holds = λ is_open. tt;
-  refused = λ is_open. rw (c.requires.desk is_open) refl;
-  ends_open = λ clean. tt;
-  refuses = λ not_desk not_sql clean. absurd (not_sql refl);
-}
+returns-then-not-same_schema-clause-tests g c = not_asked g.S.Store c.args.conn.now (λ _. IsHeldFirst) RefusesEach c.requires.rests (λ o. rw (c.requires.desk o) refl) (Err Sql) refl refl
 
 pub returns-clause-tests : goal.returns-clause-tests
 returns-clause-tests g c =

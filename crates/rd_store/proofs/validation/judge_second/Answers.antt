@@ -1,6 +1,6 @@
-use Rattle.rd_store.proofs.Common.{◌≡◌, [], ◌∷◌, refl, sym, ◌∙◌, rules, state, desk_schema, marks_table}
-use Rattle.rd_store.proofs.DatabaseTests.{judged_second, said_here}
-use Rattle.rd_store.proofs.Laws.{stays_here}
+use Rattle.rd_store.proofs.Common.{◌≡◌, Err, refl, IsHeld, Refuses, [], ◌∷◌, sym, ◌∙◌, state, desk_schema, marks_table}
+use Rattle.rd_store.specs.declared.faults.OpenFault.TheVariants.{Sql}
+use Rattle.rd_store.proofs.DatabaseTests.{err_told, judged_second, said_here, not_asked}
 use Rattle.rd_store.proofs.validation.judge_second.Goals as goal
 
 pub check_rows-requires-clause-tables : goal.check_rows-requires-clause-tables
@@ -15,22 +15,12 @@ check_rows-requires-clause-version g c is_open =
     said_here (marks_table 11 ∷ []) (state g.S.Store c.args.conn.now).now schema (c.requires.said is_open)
 
 pub returns-in_err-second-clause-tests : goal.returns-in_err-second-clause-tests
-returns-in_err-second-clause-tests g c = record {
-  stays = stays_here g.S.Store c.args.conn.now (λ is_open. (c.requires.rests is_open).autocommit);
-  holds = search rules;
-  refused = search rules;
-  ends_open = search rules;
-  refuses = search rules;
-}
+returns-in_err-second-clause-tests g c =
+    let is = err_told c.from_residual.result c.in_err-second.field-0.0 c.from_residual.ensures.1 (λ fault. fault ≡ Sql) c.in_err-second.ensures.fault in
+    not_asked g.S.Store c.args.conn.now (λ _. IsHeld) Refuses c.requires.rests (λ o. rw (c.requires.desk o) refl) c.from_residual.result is c.from_residual.ensures.0
 
 pub returns-then-not-same_schema-clause-tests : goal.returns-then-not-same_schema-clause-tests
-returns-then-not-same_schema-clause-tests g c = record {
-  stays = stays_here g.S.Store c.args.conn.now (λ is_open. (c.requires.rests is_open).autocommit);
-  holds = λ is_open. tt;
-  refused = λ is_open. rw (c.requires.desk is_open) refl;
-  ends_open = λ clean. tt;
-  refuses = λ not_desk not_sql clean. absurd (not_sql refl);
-}
+returns-then-not-same_schema-clause-tests g c = not_asked g.S.Store c.args.conn.now (λ _. IsHeld) Refuses c.requires.rests (λ o. rw (c.requires.desk o) refl) (Err Sql) refl refl
 
 pub returns-clause-tests : goal.returns-clause-tests
 returns-clause-tests g c =
