@@ -1,5 +1,5 @@
 -- What one statement makes of the rows of a table, where no foreign key acts on what it does.
-use Rattle.rd_tables.proofs.Common.{◌≡◌, ◌≢◌, ◌⊎◌, inl, inr, ℕ, ◌/◌, ℤ, List, [], ◌∷◌, length, false, not, Option, Result, Ok, Err, refl, ap, subst, ◌∙◌, and_parts, Row, Trees, put_row, Term, Schema, Edit, edit_of, taken_by, without_all, IsNoIndex, is_taken, with_rowid, cast_row, Chosen, Given, Written, Task, Edited, Inserts, stamped, count_of, rowids_for, Counts, value_rows, one_step, works}
+use Rattle.rd_tables.proofs.Common.{◌≡◌, ◌≢◌, ◌⊎◌, inl, inr, ℕ, ◌/◌, ℤ, List, [], ◌∷◌, length, false, Option, Result, Ok, Err, refl, ap, subst, ◌∙◌, and_parts, Row, Trees, put_row, Term, Schema, Edit, edit_of, taken_by, without_all, IsNoIndex, is_taken, with_rowid, cast_row, Chosen, Given, Written, Task, Edited, Inserts, stamped, count_of, rowids_for, Counts, value_rows, one_step, works}
 use Rattle.rd_tables.proofs.ListLemmas.{negated}
 use Rattle.sqlite.specs.Source.TheVariants.{Values}
 
