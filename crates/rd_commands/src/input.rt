@@ -12,7 +12,9 @@ use std::io::{ErrorKind, Read};
 /// How many bytes are read at a time.
 const PART: usize = 4_096;
 
-/// Reads once, and again if the read was interrupted; it gives how many bytes came. It fails when a read fails.
+/// Reads once, and again if the read was interrupted, and gives how many bytes came.
+///
+/// It fails when a read fails otherwise.
 pub fn read_some<R: Read>(input: &mut R, part: &mut [u8]) -> io::Result<usize>
     ensures bound { ReadsAtMost result part.new }
     ensures bytes { ReadConsumes (R.remaining input.old) (R.remaining input.new) result part.new }

@@ -1,6 +1,6 @@
 -- The rule in which a file of the time zone database ends. The file is of the format of RFC 9636: tables of the
 -- clocks' changes up to some year, and in its last line the rule for all later time.
-use Rattle.std.specs.Prelude.{◌≡◌, ◌⊎◌, ◌≤◌, ◌==◌, ℕ, Bool, List, None, Ok, Some, codes, length}
+use Rattle.std.specs.Prelude.{◌≡◌, ◌⊎◌, ◌≤◌, ℕ, List, None, Ok, Some, codes, length}
 use Rattle.std.specs.Io.BufRead.{strip_last}
 use Rattle.std.specs.List.{after_last}
 use Rattle.std.specs.Str.{IsUtf8}
@@ -11,12 +11,9 @@ use Rattle.jiff_tz.specs.declared.posix.TimeZone.{TimeZone as Rule}
 use Rattle.jiff.specs.Words.{read_whole}
 use Rattle.rd_policy.specs.Zones.{IsZoneOf, IsZoneRule}
 use Rattle.rd_policy.specs.declared.zone.Zone.{Zone}
+use Rattle.rd_operands.specs.KeyFiles.{is_line_feed}
 use Rattle.rd_operands.specs.declared.zone_file.ZoneFileFault.{ZoneFileFault}
 use Rattle.rd_operands.specs.declared.zone_file.ZoneFileFault.TheVariants.{NoMemory, NoRule}
-
--- the byte that ends a line
-abbrev pub is_line_feed : ℕ → Bool
-is_line_feed byte = byte == 10
 
 -- the last line of bytes: what follows their last line feed but one at their end
 abbrev pub last_line : List ℕ → List ℕ

@@ -11,7 +11,7 @@ use crate::blanks::trimmed;
 pub const KEY_FILE_LIMIT: usize = 4_096;
 
 /// The byte that ends a line.
-const LINE_FEED: u8 = b'\n';
+pub(crate) const LINE_FEED: u8 = b'\n';
 
 /// The byte that some systems write before it.
 const CARRIAGE_RETURN: u8 = b'\r';

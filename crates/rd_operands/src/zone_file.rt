@@ -10,6 +10,7 @@ ghost use Rattle.jiff.specs.Words.{read_whole};
 ghost use Rattle.rd_policy.specs.Zones.{IsZoneOf, IsZoneRule};
 ghost use Rattle.rd_operands.specs.ZoneFiles.{HasFooter, HasNoFooter, HasNoRule, IsRuleLine, IsZoneOfFile, last_line as last_line_of};
 
+use crate::key_file::LINE_FEED;
 use jiff_core::Error as ZoneError;
 use jiff_tz::posix::{DayTime, Dst, TimeZone};
 use jiff_tz::{Abbreviation, Tzif};
@@ -20,9 +21,6 @@ use std::{fmt, str};
 
 /// The most bytes that a file with a zone may have.
 pub const ZONE_FILE_LIMIT: usize = 65_536;
-
-/// The byte that ends a line.
-const LINE_FEED: u8 = b'\n';
 
 /// Why a file gives no zone.
 #[derive(Clone, Copy, Debug, PartialEq, Eq, Hash)]

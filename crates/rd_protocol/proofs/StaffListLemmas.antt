@@ -144,7 +144,7 @@ select_back (Prefix text) = refl
 select_back (User user) = refl
 select_back (OfType text) = refl
 
--- one value writes one selector
+-- selectors of the same value are the same
 pub select_same : (one other : Select) → select_data one ≡ select_data other → one ≡ other
 select_same one other same = sym (select_back one) ∙ ap select_in same ∙ select_back other
 

@@ -18,7 +18,7 @@ abbrev pub without : List ℕ → Data → Data
 without key (object members) = object (members_without key members)
 without key other = other
 
--- a rule as replies show it, with its rank taken off: as the body of a command says it
+-- a rule as replies show it, but without its rank: what the body of a command holds
 abbrev pub rule_body : Rule → Data
 rule_body rule = without (codes "rank") (rule_data rule)
 

@@ -188,7 +188,7 @@ audience_words set = word_if set.public (codes "public") ++ word_if set.room (co
 abbrev pub one_member : List ℕ → Data → Data
 one_member key value = object (member key value no_members)
 
--- a selector, as the body of a command says it
+-- a selector, as {"all":true}, {"slot":3}, {"prefix":"HE"}, {"user":0} or {"type":"PRG"}
 abbrev pub select_data : Select → Data
 select_data AllFiles = one_member (codes "all") (boolean true)
 select_data (Slot slot) = one_member (codes "slot") (natural slot)
