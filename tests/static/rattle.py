@@ -10,7 +10,7 @@ CRATES = ROOT / "crates"
 # What begins a function, or a constant that stands in none.
 PUBLIC = r"(?:pub(?:\([^)]*\))? )?"
 HEAD = rf"(?: *{PUBLIC}(?:const |unsafe |final )*(fn)|{PUBLIC}(?:const|static)) (\w+)"
-EDIT = re.compile(r"(?:file: .*\n(?:old: .*\nnew:.*\n)+)+")
+EDIT = re.compile(r"(?:test: .*\n)?(?:file: .*\n(?:old: .*\nnew:.*\n)+)+")
 # A clause: what it belongs to (none where the name is that of a function), its name and its file.
 Clause = collections.namedtuple("Clause", "owner name path")
 

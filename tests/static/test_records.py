@@ -27,7 +27,7 @@ def is_coded(path, name):
 THERE = {
     "defined": ("specs", lambda path, name: rattle.has_definition(path, name)),
     "coded": ("src", is_coded),
-    "refused": ("must-fail more-edits", lambda path, name: text_of(path) and not name),
+    "refused": ("must-fail more-edits tested-edits", lambda path, name: text_of(path) and not name),
     "file": ("specs", lambda path, name: text_of(path) and path.endswith(".antt") and not name),
     "look": ("", lambda path, name: (ROOT / path).exists() and not name)}
 

@@ -1,8 +1,10 @@
-"""Each wrong body in must-fail/ and more-edits/ can be tried: its old texts stand once in src/ of its crate."""
+"""Each wrong body can be tried: its old texts stand once in src/ of its crate, and a test that refuses it is there."""
+
+import re
 
 from static.rattle import ROOT, pairs_of, parts_of, text_of
 
-EDITS = sorted(str(edit.relative_to(ROOT)) for edit in ROOT.glob("crates/*/m*/*.edit"))
+EDITS = sorted(str(edit.relative_to(ROOT)) for edit in ROOT.glob("crates/*/*/*.edit"))
 
 def test_old_texts_stand_once():
     """The changes of one wrong body are made one after the other."""
@@ -17,3 +19,10 @@ def test_old_texts_stand_once():
 
 def test_no_two_have_one_name():
     assert EDITS and len({(parts_of(path)[0], parts_of(path)[2]) for path in EDITS}) == len(EDITS)
+
+def test_those_that_a_test_refuses_name_it():
+    for path in EDITS:
+        named = re.match(r"test: (\w+) (?:([\w-]+\.trial)|(\w+))\n", text_of(path))
+        assert bool(named) == (parts_of(path)[1] == "tested-edits"), path
+        tests = (ROOT / "crates" / named[1]).glob(f"data/{named[2]}" if named[2] else "src/**/*.rt") if named else ()
+        assert not named or any(named[2] or f"fn {named[3]}(" in test.read_text() for test in tests), path
