@@ -14,6 +14,7 @@ import tempfile
 import pytest
 import refused_commands
 from support import server
+from support.clients import by_socket
 from support.samples import DONE, RECORD_DISK, digest
 
 STORE, LIMIT = "museum.sqlite", 600
@@ -131,12 +132,9 @@ class Place:
 
 def reply_to(request, place):
     """What comes of a request, as far as it comes: a desk that is killed or fails may end at any byte."""
-    came = b""
-    with contextlib.suppress(ConnectionError), server.socket_at(place) as connection:
-        connection.sendall(request)
-        while part := connection.recv(65536):
-            came += part
-    return came
+    with contextlib.suppress(ConnectionError):
+        return by_socket(place, [request])[0]
+    return b""
 
 class Sweep:
     """A command, what is refused to it, and how it ends where nothing is."""

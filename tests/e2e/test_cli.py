@@ -8,7 +8,7 @@ import subprocess
 
 import pytest
 from support import model_disks
-from support.server import ROOT, socket_at
+from support.server import ROOT, connected
 
 WELCOME, MUSEUM = (pathlib.Path(ROOT, "images", name) for name in ("welcome.img", "museum.d64"))
 KEY, SERVE, DONE = ["--key", "abc"], ["serve", "--count", "0"], (0, "done\n", "")
@@ -138,7 +138,7 @@ def test_socket_is_of_one_desk_and_that_of_a_killed_one_gives_way(ends, serving,
     with serving(plain, place=path):
         assert stat.filemode(path.stat().st_mode) == "srw-rw----"
         assert ends(*words) == DEVICE
-        socket_at(path).close()
+        connected(path).close()
     assert path.is_socket()
     assert ends(*words) == (0, "listening socket\nserved 0\n", "")
     assert not path.exists()

@@ -1,7 +1,6 @@
 """Calls of the system fail on a connection, as strace has them fail: that visit ends there, and the desk goes on."""
 
 import re
-import time
 
 import pytest
 from support import server as places
@@ -22,11 +21,7 @@ class Traced(places.Serving):
 
     def waits_for(self, holds):
         """What strace has written, once it is so."""
-        end = time.monotonic() + places.LIMIT
-        while not holds(text := self.log.read_text()):
-            assert time.monotonic() < end, text
-            time.sleep(0.02)
-        return text
+        return places.wait_until(lambda: holds(text := self.log.read_text()) and text)
 
     def last_call(self):
         """The last call of the first visit before it ends its sending."""

@@ -4,12 +4,11 @@ import contextlib
 import datetime
 import functools
 import socket
-import threading
 import time
-from concurrent import futures
 
 from support import server
 from support.samples import head, raw
+from support.server import alongside, connected, reply_at
 
 # How long a client waits between its parts, and how many files a desk may open that a connection left open stops soon.
 PAUSE, OPEN_FILES = 0.3, 32
@@ -22,27 +21,9 @@ def curl(port, path, *words):
 
 def by_client(place, asked):
     """The bytes of what http.client tells of a reply."""
-    fields = {} if asked.key is None else {"Desk-Key": asked.key}
-    with contextlib.closing(server.client_at(place)) as connection:
-        connection.request(asked.method, asked.path, asked.body, fields)
-        response = connection.getresponse()
-        lines = [f"{name}: {value}" for name, value in response.getheaders()]
-        return head(f"HTTP/{response.version / 10} {response.status} {response.reason}", *lines) + response.read()
-
-def connected(place, room=None):
-    """A plain socket to a port or a Unix socket, that sends at once. Its system keeps so much that it has not read."""
-    is_port = isinstance(place, int)
-    connection = socket.socket(socket.AF_INET if is_port else socket.AF_UNIX)
-    connection.settimeout(server.LIMIT)
-    if is_port:
-        connection.setsockopt(socket.IPPROTO_TCP, socket.TCP_NODELAY, 1)
-    if room:
-        connection.setsockopt(socket.SOL_SOCKET, socket.SO_RCVBUF, room)
-        # small segments make the desk's system keep little, too: over loopback it takes megabytes of large ones
-        if is_port:
-            connection.setsockopt(socket.IPPROTO_TCP, socket.TCP_MAXSEG, 536)
-    connection.connect((server.HOST, place) if is_port else str(place))
-    return connection
+    reply, body = reply_at(place, asked)
+    lines = [f"{name}: {value}" for name, value in reply.getheaders()]
+    return head(f"HTTP/{reply.version / 10} {reply.status} {reply.reason}", *lines) + body
 
 def read_all(connection):
     """The bytes that come, and how they end: with an end or a reset."""
@@ -70,22 +51,14 @@ def ask(place, asked):
     assert ending == "an end", came[:1000]
     return came
 
-@contextlib.contextmanager
 def beside(act, client):
     """Has a client act until the block ends. It is no fault that the desk ends the connection; others are handed on."""
-    ended = threading.Event()
 
-    def run():
+    def run(ended):
         with contextlib.suppress(BrokenPipeError, ConnectionResetError):
             act(client, ended)
 
-    with futures.ThreadPoolExecutor() as pool:
-        running = pool.submit(run)
-        try:
-            yield
-        finally:
-            ended.set()
-        running.result(server.LIMIT)
+    return alongside(run)
 
 def zone_of(seconds):
     """The rule of clocks that are so many seconds ahead of UTC; a rule counts how far they are behind it."""

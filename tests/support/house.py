@@ -1,7 +1,6 @@
 """A room with the places of a museum's machine, for the tools in operate/ that need systemd: in its place there is a
 systemctl that starts, stops, freezes and thaws the desk of the room."""
 
-import concurrent.futures
 import contextlib
 import itertools
 import json
@@ -9,12 +8,11 @@ import os
 import pathlib
 import signal
 import subprocess
-import threading
 import time
 
 from support.room import OPERATE, wait_until
 from support.samples import STAFF, bytes_of, get, put, put_image, put_rule
-from support.server import ENDLESS, LIMIT
+from support.server import ENDLESS, LIMIT, alongside
 
 IMAGE = bytes_of("images", "museum.d64")
 OTHER = IMAGE[:100] + b"\7" + IMAGE[101:]
@@ -186,20 +184,12 @@ class House:
         with beside(ask) as work:
             yield turn
 
-@contextlib.contextmanager
 def beside(work):
     """While this is entered, work is done again and again. What breaks it is raised."""
-    is_over = threading.Event()
-    def repeat():
-        while not is_over.is_set():
+    def repeat(ended):
+        while not ended.is_set():
             work()
-    with concurrent.futures.ThreadPoolExecutor(1) as pool:
-        running = pool.submit(repeat)
-        try:
-            yield running
-        finally:
-            is_over.set()
-        running.result()
+    return alongside(repeat)
 
 def takedown(accession, rank, slot, key=STAFF):
     return put_rule(f"/images/{accession}/rules/{rank}", "deny", {"slot": slot}, *READERS)._replace(key=key)

@@ -10,9 +10,8 @@ import signal
 import ssl
 import subprocess
 import tempfile
-import time
 
-from support.server import ENDLESS, HOST, LIMIT, ROOT, Serving, client_at, free_ports, wait_for
+from support.server import ENDLESS, HOST, LIMIT, ROOT, Serving, free_ports, reply_at, wait_for, wait_until
 
 NGINX = "/usr/sbin/nginx"
 # The folder with the configuration under test: another one shows whether a test finds the faults that it had.
@@ -25,14 +24,6 @@ def give_to_nginx(path, mode):
     if os.geteuid() == 0:
         shutil.chown(path, group="www-data")
     path.chmod(mode)
-
-def wait_until(holds, seconds=LIMIT):
-    """Waits until something holds, and fails where it does not in time."""
-    end = time.monotonic() + seconds
-    while not holds():
-        if time.monotonic() > end:
-            raise TimeoutError(f"not within {seconds} s: {holds}")
-        time.sleep(0.02)
 
 class Room(contextlib.AbstractContextManager):
     """A folder with a store, a certificate, the page and the places, and what it has started. The desk is at a Unix
@@ -170,8 +161,5 @@ class Room(contextlib.AbstractContextManager):
 
 def asked_at(place, asked):
     """The status and the body of the reply at a place."""
-    fields = {} if asked.key is None else {"Desk-Key": asked.key}
-    with contextlib.closing(client_at(place)) as connection:
-        connection.request(asked.method, asked.path, asked.body, fields)
-        reply = connection.getresponse()
-        return reply.status, reply.read()
+    reply, body = reply_at(place, asked)
+    return reply.status, body

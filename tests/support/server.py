@@ -5,12 +5,14 @@ import http.client
 import os
 import pathlib
 import random
+import select
 import socket
 import subprocess
 import sys
 import threading
 import time
 import zlib
+from concurrent import futures
 
 ROOT = str(pathlib.Path(__file__).resolve().parents[2])
 HOST = "127.0.0.1"
@@ -42,32 +44,62 @@ def free_ports(count):
 def free_port():
     return free_ports(1)[0]
 
+def wait_until(holds, seconds=LIMIT):
+    """Waits until something holds, and gives it; fails where nothing does in time."""
+    end = time.monotonic() + seconds
+    while not (found := holds()):
+        if time.monotonic() > end:
+            raise TimeoutError(f"not within {seconds} s: {holds}")
+        time.sleep(0.02)
+    return found
+
 def wait_for(port, process, seconds=LIMIT):
     """Waits until a process listens at a port, for so many seconds at most."""
-    end = time.monotonic() + seconds
-    while time.monotonic() < end and process.poll() is None:
-        with socket.socket() as probe:
-            if probe.connect_ex((HOST, port)) == 0:
-                return
-        time.sleep(0.05)
-    raise RuntimeError(f"nobody listens at port {port}")
 
-def socket_at(place):
-    """A plain connection to a port of this machine, or to the path of a Unix socket."""
-    if isinstance(place, int):
-        return socket.create_connection((HOST, place), LIMIT)
-    connection = socket.socket(socket.AF_UNIX)
+    def listens():
+        assert process.poll() is None, f"nobody listens at port {port}"
+        with socket.socket() as probe:
+            return probe.connect_ex((HOST, port)) == 0
+
+    wait_until(listens, seconds)
+
+def connected(place, room=None):
+    """A plain socket to a port or a Unix socket, that sends at once. Its system keeps so much that it has not read."""
+    is_port = isinstance(place, int)
+    connection = socket.socket(socket.AF_INET if is_port else socket.AF_UNIX)
     connection.settimeout(LIMIT)
-    connection.connect(str(place))
+    if is_port:
+        connection.setsockopt(socket.IPPROTO_TCP, socket.TCP_NODELAY, 1)
+    if room:
+        connection.setsockopt(socket.SOL_SOCKET, socket.SO_RCVBUF, room)
+        # small segments make the desk's system keep little, too: over loopback it takes megabytes of large ones
+        if is_port:
+            connection.setsockopt(socket.IPPROTO_TCP, socket.TCP_MAXSEG, 536)
+    connection.connect((HOST, place) if is_port else str(place))
     return connection
 
-def client_at(place):
-    client = http.client.HTTPConnection(HOST, place if isinstance(place, int) else None, timeout=LIMIT)
-    if not isinstance(place, int):
-        client.connect = lambda: setattr(client, "sock", socket_at(place))
-    return client
+def reply_at(place, asked):
+    """What http.client tells of the reply to a request, and its body."""
+    client = http.client.HTTPConnection(HOST, place if isinstance(place, int) else None)
+    client.connect = lambda: setattr(client, "sock", connected(place))
+    with contextlib.closing(client):
+        client.request(asked.method, asked.path, asked.body, {} if asked.key is None else {"Desk-Key": asked.key})
+        reply = client.getresponse()
+        return reply, reply.read()
 
-class Serving:
+@contextlib.contextmanager
+def alongside(act):
+    """While this is entered, something is done, by an event that is set at the end. What breaks it is raised."""
+    ended = threading.Event()
+    with futures.ThreadPoolExecutor(1) as pool:
+        running = pool.submit(act, ended)
+        try:
+            yield running
+        finally:
+            ended.set()
+        running.result(2 * LIMIT)
+
+class Serving(contextlib.AbstractContextManager):
     """The program while it serves visits of a store, at a place or at a free port. With few_files it may open no more
     than so many files. Words before it, such as those of strace, run it."""
 
@@ -79,9 +111,6 @@ class Serving:
         before = [*before, *(["prlimit", f"--nofile={few_files}"] if few_files else [])]
         environment = {**os.environ, **dict(environment or ())}
         self.process = subprocess.Popen([*before, program, "serve", *where, *words], env=environment, **how)
-
-    def __enter__(self):
-        return self
 
     def __exit__(self, *_):
         self.kill()
@@ -97,12 +126,9 @@ class Serving:
 
     def line(self):
         """The first line that it writes. It is killed where it writes none in time."""
-        watch = threading.Timer(LIMIT, self.process.kill)
-        watch.start()
-        try:
-            return self.process.stdout.readline().decode()
-        finally:
-            watch.cancel()
+        if not select.select([self.process.stdout], [], [], LIMIT)[0]:
+            self.process.kill()
+        return self.process.stdout.readline().decode()
 
     def listens(self):
         line = self.line()
