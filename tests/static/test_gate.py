@@ -94,10 +94,10 @@ def test_proofs_are_counted_by_their_last_line(monkeypatch, tmp_path, last, stat
     gate.Gate.prove(run)
     assert (run.passed, run.failed) == counts
 
-CASE = '<testcase classname="e2e.test_x{}" name="a" time="{}">{}</testcase>'
+CASE = '<testcase classname="e2e.test_x{}" name="a" file="e2e/test_x.py" time="{}">{}</testcase>'
 CASES = CASE.format(".TestUpload", 1, "") + CASE.format("", 2, "<skipped/>")
 # A file that breaks before it has a test.
-BROKEN = '<testcase classname="" name="e2e.test_x" time="0.0"><error/></testcase>'
+BROKEN = '<testcase classname="" name="e2e.test_x" file="e2e/test_x.py" time="0.0"><error/></testcase>'
 
 @pytest.mark.parametrize("status, table, counts", [
     (0, f"<suite>{CASES}</suite>", [1, 1, 3.0]), (2, f"<suite>{CASES}</suite>", [1, 2, 3.0]), (2, "", [0, 1, 0.0]),
