@@ -1,7 +1,7 @@
 // The home of the page for readers: one search over titles, files and numbers, facets with their counts, an order, and
 // the disks as a list or as the screens of their machines. All that is chosen stands in the address.
 import { welcome } from "./about.js";
-import { allDisks, allFiles, familyOf, found, kept, known, nameOfDisk, nameOfFile } from "./room.lists.js";
+import { allDisks, allFiles, familyOf, found, kept, known, letterOf, mayRead, nameOfDisk, nameOfFile } from "./room.lists.js";
 import { plain, showsNow, wordsOf } from "./room.lists.js";
 import { filesOf, link, ways } from "./room.parts.js";
 import { askObject, box, counted, element, kindWords, loaded } from "./shared.js";
@@ -69,7 +69,7 @@ function bar({ kinds, types, all }, choices) {
   return made;
 }
 
-function diskCard({ disk, matches }, files, machine, words) {
+function diskCard(disk, matches, files, machine, words) {
   const { accession, kind } = disk;
   const title = link("", accession, { className: "disk-title" });
   title.append(marked(nameOfDisk(accession), words));
@@ -102,13 +102,14 @@ function pages(hits, choices) {
 
 // Where titles begin with each letter, in a list of many pages.
 function letters(hits, choices) {
+  if ((choices.sort ?? "title") !== "title" || hits.length <= 3 * PAGE) return null;
   const first = new Map();
-  hits.forEach(({ letter }, at) => {
-    if (!first.has(letter) && /[a-z]/.test(letter)) first.set(letter, String(Math.floor(at / PAGE) + 1));
+  hits.forEach((disk, at) => {
+    const letter = letterOf(disk);
+    if (!first.has(letter) && /[a-z]/.test(letter ?? "")) first.set(letter, String(Math.floor(at / PAGE) + 1));
   });
   const links = [...first].map(([letter, page]) => link(letter.toUpperCase(), placeOf({ ...choices, page })));
-  const isLong = (choices.sort ?? "title") === "title" && hits.length > 3 * PAGE && links.length > 1;
-  return isLong ? ways("By the first letter", "letters", ...links) : null;
+  return links.length > 1 ? ways("By the first letter", "letters", ...links) : null;
 }
 
 function summary(hits, counts, { q, type, kind }, isRead) {
@@ -170,16 +171,16 @@ export async function showHome(choices, progress) {
   results.id = "results";
   let [files, drawn] = [null, 0];
   async function draw(now, mine) {
-    const { hits, counts } = await found(items, files, now);
+    const { hits, matches, counts } = await found(items, files, now);
     const machine = files && now.as === "screens" ? await machines() : null;
     if (mine !== drawn) return;
     const words = wordsOf(now.q);
     const { shown, nav } = pages(hits, now);
-    const cards = shown.map((hit) => diskCard(hit, files, machine, words));
+    const cards = shown.map((disk) => diskCard(disk, matches.get(disk) ?? [], files, machine, words));
     const list = cards.length ? box("ul", `disks as-${now.as === "screens" ? "screens" : "list"}`, ...cards) : "";
-    showsNow(hits.map(({ disk }) => disk));
+    showsNow(hits);
     const title = element("h2", now.q || now.type || now.kind ? "What was found" : "All disks");
-    const chance = hits[Math.floor(Math.random() * hits.length)]?.disk.accession;
+    const chance = hits[Math.floor(Math.random() * hits.length)]?.accession;
     const head = chance && box("div", "head", title, link("Open one by chance", chance));
     results.replaceChildren(...[head, bar(counts, now), letters(hits, now), list, nav].filter(Boolean));
     progress(summary(hits, counts, now, files));

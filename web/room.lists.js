@@ -88,9 +88,13 @@ async function readFiles(progress) {
 
 export const allFiles = (progress) => kept("files", () => readFiles(progress));
 
-// Words to look for, each in its spellings, and these as their pieces between stars.
-export const wordsOf = (text = "") => (text.match(/\S*[^\s*]\S*/g) ?? []).map(
-  (word) => spellings(word).map((way) => way.split("*").filter(Boolean)));
+// Words to look for, each in its spellings, and these as their pieces between stars. Little words count only alone.
+const LITTLE = /^(an?|and|at|by|for|from|in|of|on|or|the|to|with)$/i;
+export function wordsOf(text = "") {
+  const [all, few] = [text.match(/\S*[^\s*]\S*/g) ?? [], (word) => !LITTLE.test(word)];
+  const words = all.some(few) ? all.filter(few) : all;
+  return words.map((word) => spellings(word).map((way) => way.split("*").filter(Boolean)));
+}
 
 // Whether a text has the pieces of a word one after the other, in one of its spellings.
 const has = (text, word) => word.some((pieces) => {
@@ -108,26 +112,29 @@ function inDisk(text, word) {
   return /^\d+$/.test(number) ? new RegExp(`(?<!\\d)${number}(?!\\d)`).test(text) : has(text, word);
 }
 
-// The disks in the order of their titles, each with its first letter: articles and accents do not count, and numbers
-// count as such. Those without a title come last, by their numbers.
+// What a title is put in order by: articles and accents do not count, and numbers count as such.
+const orderOf = (title) => plain(title).replace(/^(the|an?) /, "").replace(/\d+/g, (digits) => digits.padStart(6, "0"));
+export const letterOf = ({ accession }) => orderOf(titleOf(accession))[0];
+
+// The disks in the order of their titles. Those without a title come last, by their numbers, as the desk lists them.
 export function known(disks) {
-  const inOrder = (text) => text.replace(/^(the|an?) /, "").replace(/\d+/g, (digits) => digits.padStart(6, "0"));
-  const keyOf = (title) => (title && inOrder(plain(title))) || "\uffff";
-  const keyed = disks.map((disk) => ({ disk, key: keyOf(titleOf(disk.accession)) }));
-  keyed.sort((one, other) => (one.key < other.key ? -1 : one.key > other.key ? 1 : byNumber(one, other)));
-  return keyed.map(({ disk, key }) => ({ disk, letter: key[0], text: "" }));
+  const isTitled = (disk) => titleOf(disk.accession) !== "";
+  const keys = new Map(disks.filter(isTitled).map((disk) => [disk, orderOf(titleOf(disk.accession))]));
+  const titled = [...keys].sort(([, one], [, other]) => (one < other ? -1 : Number(one > other)));
+  return [...titled.map(([disk]) => disk), ...(keys.size ? disks.filter((disk) => !keys.has(disk)) : disks)];
 }
 
 // What a disk is found by, which is kept from the first search on.
-function diskText(item) {
-  const { accession, kind } = item.disk;
-  const texts = [`disk ${accession}`, titleOf(accession), noteOf(accession), kindWords(kind)];
-  item.text ||= spellings(texts.join("\n")).join("\n");
-  return item.text;
+function diskText(disk) {
+  const { accession, kind } = disk;
+  disk.text ||= spellings([`disk ${accession}`, titleOf(accession), noteOf(accession), kindWords(kind)].join("\n")).join("\n");
+  return disk.text;
 }
 
-const byNumber = (one, other) => one.disk.accession - other.disk.accession;
-const ORDERS = { number: byNumber, files: (one, other) => other.disk.files - one.disk.files };
+const ORDERS = {
+  number: (one, other) => one.accession - other.accession,
+  files: (one, other) => other.files - one.files,
+};
 const NONE = [];
 
 export const familyOf = (kind) => (kind === "cpm8" ? "cpm8" : "d64");
@@ -135,15 +142,14 @@ export const familyOf = (kind) => (kind === "cpm8" ? "cpm8" : "d64");
 const isOf = (kind, file, type) => file.type === type || (type === "picture" && isPicture(kind, file));
 const count = (counts, name) => counts.set(name, (counts.get(name) ?? 0) + 1);
 
-// The disks that have all words, and the files that have those that their disk lacks, and one at least. The counts are
-// those of the other kinds and types with the same words.
-export async function found(items, files, { q, type, kind, sort }) {
+// The disks that have all words, and by disks the files that have those that their disk lacks, and one at least. The
+// counts are those of the other kinds and types with the same words.
+export async function found(disks, files, { q, type, kind, sort }) {
   const words = wordsOf(q);
   const counts = { kinds: new Map(), types: new Map(), all: 0, files: 0, read: 0 };
-  const hits = [];
-  const look = (item) => {
-    const { disk, letter } = item;
-    const missing = words.filter((word) => !inDisk(diskText(item), word));
+  const [hits, matches] = [[], new Map()];
+  const look = (disk) => {
+    const missing = words.filter((word) => !inDisk(diskText(disk), word));
     const isIn = (file) => (word) => has(file.text, word);
     const isNamed = (file) => (missing.length ? missing.every(isIn(file)) : words.some(isIn(file)));
     const all = files?.get(disk.accession) ?? NONE;
@@ -160,8 +166,9 @@ export async function found(items, files, { q, type, kind, sort }) {
     if (!isOfKind) return;
     counts.files += words.length || type ? wanted.length : disk.files;
     counts.read += wanted.filter(mayRead).length;
-    hits.push({ disk, letter, matches: words.length || type ? wanted : NONE });
+    hits.push(disk);
+    if (words.length || type) matches.set(disk, wanted);
   };
-  await inParts(items, (some) => some.forEach(look));
-  return { hits: Object.hasOwn(ORDERS, sort ?? "") ? hits.sort(ORDERS[sort]) : hits, counts };
+  await inParts(disks, (some) => some.forEach(look));
+  return { hits: Object.hasOwn(ORDERS, sort ?? "") ? hits.sort(ORDERS[sort]) : hits, matches, counts };
 }
