@@ -1,7 +1,8 @@
 // One disk: its title, what may be read of it, and its directory as its own machine shows it.
 import { askStaff } from "./about.js";
-import { allDisks, familyOf, lastShown, mayRead, nameOfDisk, nameOfFile, typeWords } from "./room.lists.js";
-import { button, citation, filesOf, link, neighbours, numberOf, permission, quoting, rulesOf } from "./room.parts.js";
+import { allDisks, familyOf, known, lastShown, mayRead, nameOfDisk, nameOfFile, typeWords } from "./room.lists.js";
+import { button, citation, closedWords, filesOf, link, neighbours, numberOf } from "./room.parts.js";
+import { permission, quoting, rulesOf } from "./room.parts.js";
 import { directoryScreen } from "./screen.js";
 import { askObject, box, cell, counted, element, kindWords, loaded, refusal, row, table } from "./shared.js";
 import { noteOf } from "./titles.js";
@@ -45,18 +46,17 @@ function machine(disk) {
   Object.assign(screen, { role: "img", ariaLabel: `${words}: the same files as in the table` });
   screen.setAttribute("aria-details", "files");
   const dim = disk.files.every(mayRead) ? "" : " What you may not read is dim.";
-  const caption = element("figcaption", `${words}, with the files of the table.${dim}`);
+  const caption = element("figcaption", `${words}, with the files of the table.${dim}`, { className: "quiet" });
   const figure = box("figure", "", box("div", `monitor ${familyOf(disk.kind)}`, screen), caption);
   return Object.assign(figure, { ariaLabel: words });
 }
 
 async function otherDisks(accession) {
   const isIt = (disk) => disk.accession === accession;
-  const listed = lastShown().some(isIt) ? lastShown() : null;
-  const disks = listed ?? (await allDisks().catch(() => []));
+  const disks = lastShown().some(isIt) ? lastShown() : known(await allDisks().catch(() => []));
   const at = disks.findIndex(isIt);
   const wayTo = (disk) => ({ words: nameOfDisk(disk.accession), place: disk.accession });
-  return at < 0 ? null : neighbours("disk", disks, at, wayTo, listed ? "" : ", by number");
+  return at < 0 ? null : neighbours("disk", disks, at, wayTo);
 }
 
 export async function showDisk(number) {
@@ -70,8 +70,11 @@ export async function showDisk(number) {
   const list = table("Files", columns, files.map((file) => fileRow(kind, accession, file, hasUsers)));
   Object.assign(list, { id: "files", className: "files" });
   const none = element("p", "There is no file on it that you may see.", { className: "callout" });
-  const words = `${rulesOf(files)}Deed ${deed} is the paper by which the disk came to the museum. `;
-  const why = box("p", "quiet", words, askStaff("this disk", `Disk ${accession}: ${title}`));
+  const rules = files.length ? `What decides here: ${rulesOf(files)}. ` : "";
+  const words = `${rules}Deed ${deed} is the paper by which the disk came to the museum. `;
+  const staff = askStaff("this disk", `Disk ${accession}: ${title}`);
+  const why = box("p", "quiet", words, staff);
+  closedWords(accession, files).then((closed) => closed && why.before(box("p", "callout", `${closed} `, staff)));
   const quotes = quoting(() => citation(accession));
   const text = box("div", "", ...zipWay({ accession, kind, files, quotes }), files.length ? list : none, why);
   const aside = files.length ? machine({ kind, accession, files }) : "";

@@ -2,7 +2,7 @@
 import { askStaff } from "./about.js";
 import { BASIC_WORDS, basicListing } from "./basic.js";
 import { pictureIn } from "./pictures.js";
-import { mayRead, nameOfDisk, nameOfFile, typeWords } from "./room.lists.js";
+import { kept, mayRead, nameOfDisk, nameOfFile, typeWords } from "./room.lists.js";
 import { button, citation, filesOf, link, neighbours, numberOf, quoting } from "./room.parts.js";
 import { fileName } from "./safe.js";
 import { blocksOf, canvasOf, textScreen } from "./screen.js";
@@ -135,6 +135,15 @@ function factsOf({ kind, accession, file, bytes, digest, files }) {
   return box("dl", "facts", ...said.flatMap(([term, text]) => [element("dt", term), box("dd", "", text)]));
 }
 
+// Links to the files with the same bytes that were read before, which are known until the key changes.
+async function copiesOf(place, digest, words) {
+  const read = await kept("read", async () => new Map());
+  const same = [...read].filter(([other, one]) => digest && other !== place && one.digest === digest);
+  read.set(place, { digest, words });
+  const links = same.flatMap(([other, one]) => [", ", link(one.words, other)]).slice(1);
+  return links.length ? box("p", "", "The same bytes as ", ...links, ".") : "";
+}
+
 // The listing says how to read the bytes, and comes first. A file that it lacks, and that comes, was opened in between.
 export async function showFile(number, slot) {
   const accession = Number(number);
@@ -155,7 +164,9 @@ export async function showFile(number, slot) {
   });
   const question = askStaff("this file", `Disk ${accession}, slot ${slot}: ${heading}`);
   const facts = factsOf({ kind, accession, file, bytes, digest, files });
-  const aside = box("aside", "card", facts, box("div", "cluster", save, ...quotes.buttons), quotes.says, question);
+  const same = await copiesOf(`${accession}/${slot}`, digest, `${heading} (${nameOfDisk(accession)})`);
+  const ways = box("div", "cluster", save, ...quotes.buttons);
+  const aside = box("aside", "card", facts, same, ways, quotes.says, question);
   aside.ariaLabel = "About the file";
   const image = element("div", null, { id: "picture", className: `monitor ${kind === "cpm8" ? "cpm8" : "d64"}` });
   const says = element("p", null, { id: "shown-as", className: "quiet" });

@@ -1,20 +1,23 @@
 // The home of the page for readers: one search over titles, files and numbers, facets with their counts, an order, and
 // the disks as a list or as the screens of their machines. All that is chosen stands in the address.
 import { welcome } from "./about.js";
-import { allDisks, allFiles, familyOf, found, kept, known, letterOf, mayRead, nameOfDisk, nameOfFile } from "./room.lists.js";
-import { plain, showsNow, wordsOf } from "./room.lists.js";
-import { filesOf, link, ways } from "./room.parts.js";
-import { askObject, box, counted, element, kindWords, loaded } from "./shared.js";
+import { allDisks, allFiles, familyOf, found, kept, known, letterOf, mayRead, nameOfDisk } from "./room.lists.js";
+import { nameOfFile, plain, showsNow, wordsOf } from "./room.lists.js";
+import { closedWords, filesOf, link, permission, ways } from "./room.parts.js";
+import { askObject, box, counted, element, kindWords, loaded, part } from "./shared.js";
 import { noteOf } from "./titles.js";
 
 const PAGE = 48;
 const MOST_MATCHES = 5;
 const MOST_TYPES = 9;
+// Of up to so many disks that were found the page asks which files are closed.
+const FEW = 6;
 // Up to so many disks the list of all files is read at once, and else when somebody looks for something.
 const SMALL = 500;
 // How long the page waits for the next letter, in milliseconds.
 const PAUSE = 250;
 const HAS_ROOM = matchMedia("(min-width: 60rem)");
+HAS_ROOM.addEventListener("change", () => part("choices")?.toggleAttribute("open", HAS_ROOM.matches));
 const SORTS = { title: "Title", number: "Number", files: "Most files" };
 const LOOKS = { list: "List", screens: "Directories" };
 const KINDS = { "": "All", d64: kindWords("d64"), cpm8: kindWords("cpm8") };
@@ -57,34 +60,45 @@ function chips(label, name, words, choices, counts = null) {
   return made;
 }
 
-// The kinds of disks, the order, and the types of files of which there are most.
-function bar({ kinds, types, all }, choices) {
+// The kinds of disks, the order, and the types of files of which there are most; folded where the window has no room.
+function choicesBelow({ kinds, types, all }, choices) {
   const sum = [...kinds.values()].reduce((before, one) => before + one, 0);
   const most = [...types].sort(([, one], [, other]) => other - one).slice(0, MOST_TYPES).map(([type]) => type);
   const shown = most.includes(choices.type) || !choices.type ? most : [...most, choices.type];
   const typeWords = Object.fromEntries(shown.map((type) => [type, TYPES[type] ?? type]));
-  const looks = box("div", "looks", chips("Sort by", "sort", SORTS, choices), chips("Show as", "as", LOOKS, choices));
-  const made = box("div", "bar", chips("Disks", "kind", KINDS, choices, kinds.set("", sum)), looks);
-  if (shown.length) made.append(chips("Files", "type", { "": "All", ...typeWords }, choices, types.set("", all)));
-  return made;
+  const bar = box("div", "bar", chips("Disks", "kind", KINDS, choices, kinds.set("", sum)));
+  bar.append(chips("Sort by", "sort", SORTS, choices), chips("Show as", "as", LOOKS, choices));
+  if (shown.length) bar.append(chips("Files", "type", { "": "All", ...typeWords }, choices, types.set("", all)));
+  const open = HAS_ROOM.matches || part("choices")?.open === true;
+  return Object.assign(box("details", "", element("summary", "Kinds, order and types"), bar), { id: "choices", open });
+}
+
+// How many files of some a reader may read, where this is known.
+function inSight(count, read) {
+  const [open, listed] = [read, count - read].map((one) => one?.toLocaleString("en"));
+  return `${counted(count, "file")}${read === undefined ? "" : `: ${open} to read, ${listed} only listed`}`;
 }
 
 function diskCard(disk, matches, files, machine, words) {
   const { accession, kind } = disk;
   const title = link("", accession, { className: "disk-title" });
   title.append(marked(nameOfDisk(accession), words));
-  const facts = `Disk ${accession} \u00b7 ${kindWords(kind)} \u00b7 ${counted(disk.files, "file")} to see`;
+  const sight = inSight(disk.files, files?.get(accession)?.filter(mayRead).length);
+  const facts = `Disk ${accession} \u00b7 ${kindWords(kind)} \u00b7 ${sight}`;
   const note = noteOf(accession) ? box("p", "", marked(noteOf(accession), words)) : null;
   const named = matches.slice(0, MOST_MATCHES).map((file) => {
     const way = link("", `${accession}/${file.slot}`, { className: "name" });
     way.append(marked(nameOfFile(kind, file), words));
-    return box("li", "", way, element("small", ` ${file.type}`));
+    const { word, colour } = permission(file);
+    const badge = colour === "good" ? "" : element("span", word, { className: `badge ${colour}` });
+    return box("li", badge && "closed", way, element("small", ` ${file.type} `), badge);
   });
   const more = matches.length - MOST_MATCHES;
   if (more > 0) named.push(element("li", `and ${counted(more, "more file")}`));
   const body = box("div", "", title, element("p", facts, { className: "quiet" }), note);
   if (named.length) body.append(box("ul", "matches", ...named));
-  const sleeve = box("span", `sleeve hue-${accession % 5}`);
+  const sleeve = box("span", "sleeve");
+  sleeve.style.setProperty("--hue", accession * 72);
   const front = machine?.directoryScreen({ ...disk, files: files.get(accession) ?? [] }, true) ?? sleeve;
   front.ariaHidden = "true";
   return box("li", `disk ${familyOf(kind)}`, front, body);
@@ -113,14 +127,21 @@ function letters(hits, choices) {
 }
 
 function summary(hits, counts, { q, type, kind }, isRead) {
-  const [disks, files] = [counted(hits.length, "disk"), counted(counts.files, "file")];
-  const [read, listed] = [counts.read, counts.files - counts.read].map((count) => count.toLocaleString("en"));
+  const disks = counted(hits.length, "disk");
   if ((q || type) && !isRead) return "Reading the list of all files.";
-  if (hits.length && (q || type)) return `Found: ${disks} and ${files}.`;
-  if (hits.length) return `${disks} with ${files}${isRead ? `: ${read} to read, ${listed} only listed` : ""}.`;
+  if (hits.length && (q || type)) return `Found: ${disks} and ${counted(counts.files, "file")}.`;
+  if (hits.length) return `${disks} with ${inSight(counts.files, isRead ? counts.read : undefined)}.`;
   const other = wordsOf(q).length > 1 ? "fewer words" : "another word";
   const ways = [q && other, type && "all types of files", kind && "all kinds of disks"].filter(Boolean);
-  return `Nothing was found. Try ${ways.join(", or ")}.`;
+  return `Nothing was found. Try ${ways.join(", or ")}. The staff knows the files whose names are closed.`;
+}
+
+// Says of each disk that was found how many of its files are closed, and why; the disk says whom to ask.
+async function sayClosed(shown, cards, files, isOver) {
+  for (const [at, { accession }] of shown.entries()) {
+    const words = isOver() ? "" : await closedWords(accession, files.get(accession) ?? []);
+    if (words) cards[at].lastChild.append(box("p", "closed", link(words, accession)));
+  }
 }
 
 // The box to search in: what is typed there changes the address.
@@ -158,7 +179,7 @@ async function showDay(disks, place) {
   const { directoryScreen } = await machines();
   const screen = directoryScreen({ ...listing, files: filesOf(listing) }, true, 3);
   screen.ariaHidden = "true";
-  const caption = box("figcaption", "", "On the screen today: ", link(nameOfDisk(accession), accession));
+  const caption = box("figcaption", "quiet", "On the screen today: ", link(nameOfDisk(accession), accession));
   const figure = box("figure", "", box("div", `monitor ${familyOf(listing.kind)}`, screen), caption);
   place.append(Object.assign(figure, { ariaLabel: "On the screen today" }));
 }
@@ -179,11 +200,10 @@ export async function showHome(choices, progress) {
     const cards = shown.map((disk) => diskCard(disk, matches.get(disk) ?? [], files, machine, words));
     const list = cards.length ? box("ul", `disks as-${now.as === "screens" ? "screens" : "list"}`, ...cards) : "";
     showsNow(hits);
-    const title = element("h2", now.q || now.type || now.kind ? "What was found" : "All disks");
-    const chance = hits[Math.floor(Math.random() * hits.length)]?.accession;
-    const head = chance && box("div", "head", title, link("Open one by chance", chance));
-    results.replaceChildren(...[head, bar(counts, now), letters(hits, now), list, nav].filter(Boolean));
+    const head = hits.length ? element("h2", now.q || now.type || now.kind ? "What was found" : "All disks") : null;
+    results.replaceChildren(...[head, choicesBelow(counts, now), letters(hits, now), list, nav].filter(Boolean));
     progress(summary(hits, counts, now, files));
+    if (files && now.q && hits.length <= FEW) sayClosed(shown, cards, files, () => mine !== drawn).catch(() => {});
   }
   async function change(now) {
     const mine = (drawn += 1);
@@ -195,8 +215,7 @@ export async function showHome(choices, progress) {
     }
     await draw(now, mine);
   }
-  const none = "There is no disk of which you may see a file.";
-  const parts = disks.length ? [form, day, results] : [element("p", none)];
+  const parts = disks.length ? [form, day, results] : [element("p", "There is no disk of which you may see a file.")];
   const isFirst = disks.length ? change(choices) : null;
   isFirst?.then(() => showDay(disks, day)).catch(() => day.remove());
   return { heading: welcome(), parts, change, ready: isFirst };

@@ -69,9 +69,9 @@ async function readFiles(progress) {
   const number = (text) => (text === "" ? null : Number(text));
   let spoken = performance.now();
   await readTable("/catalogue", {
-    take: ([accession, , kind, slot, user, name, type, size, faults, , effect]) => {
+    take: ([accession, , kind, slot, user, name, type, size, faults, rule, effect]) => {
       const file = { slot: Number(slot), user: number(user), name: once(name), type: once(type), size: number(size) };
-      Object.assign(file, { faults: faults ? faults.split(" ") : null, effect: once(effect) });
+      Object.assign(file, { faults: faults ? faults.split(" ") : null, effect: once(effect), rule: once(rule) });
       file.text = once(fileText(kind, file));
       const disk = Number(accession);
       if (disks.has(disk)) disks.get(disk).push(file);
@@ -127,7 +127,8 @@ export function known(disks) {
 // What a disk is found by, which is kept from the first search on.
 function diskText(disk) {
   const { accession, kind } = disk;
-  disk.text ||= spellings([`disk ${accession}`, titleOf(accession), noteOf(accession), kindWords(kind)].join("\n")).join("\n");
+  const texts = [`disk ${accession}`, titleOf(accession), noteOf(accession), kindWords(kind)];
+  disk.text ||= spellings(texts.join("\n")).join("\n");
   return disk.text;
 }
 

@@ -1,7 +1,7 @@
 // What the views of the page for readers share: what a reader may do with a file, and ways to quote, ask and go on.
 import { house } from "./about.js";
-import { mayRead, nameOfDisk } from "./room.lists.js";
-import { box, counted, element, faultWords, listOf, meaning, textOf } from "./shared.js";
+import { kept, mayRead, nameOfDisk } from "./room.lists.js";
+import { ask, box, counted, element, faultWords, listOf, meaning, textOf } from "./shared.js";
 import { titleOf } from "./titles.js";
 
 // A link within the page.
@@ -42,12 +42,40 @@ export function permission(file) {
   return { word: "Listed only", colour: "some", why };
 }
 
-// Which rules decide about some files, each in words with its label.
+// Which rules decide about some files, each in words with its label, and about how many where there are several.
 export function rulesOf(files) {
   const labels = new Map();
   for (const { rule } of files) labels.set(rule, (labels.get(rule) ?? 0) + 1);
-  const said = [...labels].map(([label, count]) => `${meaning(label)} (${label}) about ${counted(count, "file")}`);
-  return said.length ? `What decides here: ${said.join(", ")}. ` : "";
+  const about = (count) => (labels.size > 1 ? ` about ${counted(count, "file")}` : "");
+  return [...labels].map(([label, count]) => `${meaning(label)} (${label})${about(count)}`).join(", ");
+}
+
+// What lies between two requests of many.
+export const pause = (time = 100) => new Promise((go) => setTimeout(go, time));
+
+// At how many slots of a disk the page asks at most.
+const MOST = 40;
+
+// The refusals of files that a list lacks: at the slots that it leaves out, and behind it up to one without a file.
+async function closedOn(accession, listed) {
+  const [closed, slots] = [[], new Set(listed.map(({ slot }) => slot))];
+  for (let slot = 0, asked = 0; asked < MOST; slot += 1) {
+    if (slots.has(slot)) continue;
+    const { said } = await ask(`/images/${accession}/files/${slot}`).catch((fault) => fault);
+    if (said?.error === "denied") closed.push(said);
+    else if (said?.error !== "no-file" || slot > Math.max(...slots)) break;
+    asked += 1;
+    await pause();
+  }
+  return closed;
+}
+
+// How many files of a disk are closed besides those of a list, and why; an empty text if the desk tells of none.
+export async function closedWords(accession, listed) {
+  const closed = await kept(`closed ${accession}`, () => closedOn(accession, listed));
+  const are = closed.length === 1 ? "is" : "are";
+  const words = `${counted(closed.length, "more file")} ${are} closed to you, name and all: ${rulesOf(closed)}.`;
+  return closed.length ? words : "";
 }
 
 // The number of a disk behind its title, where it has one.
@@ -71,10 +99,10 @@ export function quoting(cite) {
 }
 
 // The ways to what comes before and after in a list, and where in the list this is.
-export function neighbours(what, all, at, wayTo, order = "") {
+export function neighbours(what, all, at, wayTo) {
   const [before, after] = [all[at - 1], all[at + 1]].map((one) => one && wayTo(one));
   const back = before ? link(`\u2190\u00a0${before.words}`, before.place, { rel: "prev" }) : element("span", "");
   const on = after ? link(`${after.words}\u00a0\u2192`, after.place, { rel: "next" }) : element("span", "");
-  const where = element("span", `${at + 1} of ${counted(all.length, what)}${order}`, { className: "quiet" });
+  const where = element("span", `${at + 1} of ${counted(all.length, what)}`, { className: "quiet" });
   return ways(`Other ${what}s`, "neighbours", back, where, on);
 }

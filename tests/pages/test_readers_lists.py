@@ -54,6 +54,9 @@ def test_home_counts_disks_and_files_and_shows_them_in_pages(reader, lines):
     assert reader.read(lambda state: state["here"] == "#/?page=2")["disks"] == disks[48:96]
     assert reader.go("?page=99")["disks"] == disks[48 * (len(disks) // 48) :]
     assert reader.go("?kind=cpm8")["disks"] == [disk for disk in disks if int(disk[5:]) % 2 == 0][:48]
+    with reader.phone():
+        assert reader.load() and reader.one(".disk-title").location["y"] < 560, "a disk on the first screen"
+        assert reader.push("Kinds, order and types") and reader.named("link", "Most files")
 
 @pytest.mark.parametrize("place, links", [("?page=3", ".disk-title"), ("?q=letter+1", ".matches a")])
 def test_back_leads_to_the_same_place(reader, place, links):
@@ -86,12 +89,13 @@ def test_words_find_files_and_disks_in_any_order_in_a_list_that_is_fetched_once(
         assert shown["disks"] == [f"Disk {number}" for number in disks[:48]], words
     assert reader.find("seq*notes")["disks"] == []
     reader.type("Search titles, files and numbers", "nowhere")
-    reader.wait(lambda state: (state["here"], state["status"][19:]) == ("#/?q=nowhere", "Try another word."))
-    none = "Nothing was found. Try fewer words, or all types of files, or all kinds of disks."
+    wanted = "Nothing was found. Try %s. The staff knows the files whose names are closed."
+    reader.wait(lambda state: (state["here"], state["status"]) == ("#/?q=nowhere", wanted % "another word"))
+    none = wanted % "fewer words, or all types of files, or all kinds of disks"
     assert (reader.go("?q=no+where&type=SEQ&kind=d64")["status"], reader.texts("#results h2")) == (none, [])
     reader.script("location.hash = '#/find/letter+1'")
     reader.wait(lambda state: state["here"] == "#/?q=letter%2B1", "the search of an address of an earlier page")
-    assert [path for _, path, _ in reader.door.visits] == ["/catalogue"]
+    assert [path for _, path, _ in reader.door.visits if "/files/" not in path] == ["/catalogue"]
 
 def test_facets_narrow_what_was_found_and_count_it(reader, lines):
     shown = reader.find("letter")
@@ -109,8 +113,7 @@ def test_facets_narrow_what_was_found_and_count_it(reader, lines):
     assert "Disk 1" not in shown["disks"] and "Commodore 1541 0" in shown["chips"]
     assert f"Texts {len(texts)}" not in reader.go("?q=letter&kind=d64")["chips"]
     reader.named("link", "Directories").click()
-    reader.read(lambda state: "as=screens" in state["here"])
-    assert len(reader.texts("#results canvas")) == 48
+    assert reader.read(lambda state: "as=screens" in state["here"]) and len(reader.texts("#results canvas")) == 48
 
 def test_titles_are_in_order_without_articles_and_accents_and_each_letter_leads_to_its_page(tmp_path, reader, lines):
     titles = {n: f"{'The ' * (n % 2)}{'AÄB'[n % 3]}x {n}" for n in (int(line["accession"]) for line in lines)}

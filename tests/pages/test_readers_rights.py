@@ -34,7 +34,9 @@ def test_caller_sees_the_disks_of_their_audience(reader, key, asks, disks):
     assert (shown["caller"], shown["disks"]) == (asks, disks)
     assert f"files: {'10 to read, 4' if is_staff else '4 to read, 2'} only listed." in shown["status"]
     assert reader.go("1004")["rows"][:1] == ([[*WELCOME, "Read it"]] if is_staff else [])
-    assert reader.texts(".callout") == ([] if is_staff else ["There is no file on it that you may see."])
+    closed = "2 more files are closed to you, name and all: rule 10 of deed 7 (R7.10). Turn to the museum's staff about"
+    due = [] if is_staff else ["There is no file on it that you may see.", f"{closed} this disk."]
+    reader.wait(lambda state: reader.texts(".callout") == due, f"{due} on the disk")
     rules = {"1004/0": "R7.10, rule 10 of deed 7", "1003/1": "T1003.1, takedown 1 of disk 1003",
              "1007/0": "D0, no rule lets you see it"}
     for place, rule in rules.items():
@@ -59,6 +61,10 @@ def test_only_a_file_that_may_be_read_has_a_link_and_others_say_why(museum, read
     why = "Listed only a dividing line of the directory, which has no bytes to read"
     assert shown["rows"][1] == ["-" * 16, "DEL dividing line", "", why]
     assert shown["links"] == ["#/1002/0"] * 2 + ["#/1002/2"] * 2
+    found = [reader.load() and reader.find(name) and reader.texts(".matches li") for name in ("welcome", "logbook")]
+    assert found == [["WELCOME.TXT TXT Listed only"], ["LOGBOOK SEQ Damaged"]]
+    closed = ["1 more file is closed to you, name and all: takedown 1 of disk 1003 (T1003.1)."]
+    reader.wait(lambda state: reader.texts(".closed > a[href='#/1003']") == closed, f"{closed} of what was found")
 
 def test_refusal_says_why_whom_to_ask_and_where_to_go_on(reader):
     others, staff = "The other files of this disk", "Turn to the museum's staff about it."
@@ -82,8 +88,7 @@ def test_desk_that_has_nothing_or_does_not_answer_is_said(museum, reader):
     reader.door.before = lambda method, path: None
     assert reader.load()["disks"] == OPEN
     museum.images.clear()
-    reader.load()
-    assert reader.text("#view") == "There is no disk of which you may see a file."
+    assert reader.load() and reader.text("#view") == "There is no disk of which you may see a file."
 
 def test_file_that_was_opened_in_between_is_not_shown(museum, reader):
     """The file comes though the listing before it has none."""
@@ -104,8 +109,7 @@ def test_key_that_is_unknown_lets_go_on_without_one_and_each_key_has_its_own_lis
     assert (shown["disks"], shown["caller"]) == (["Disk 1001"], AS_PUBLIC)
 
 def test_key_is_left_nowhere(reader):
-    reader.give(STAFF)
-    assert reader.go("")["disks"] == ALL
+    assert reader.give(STAFF)["disks"] == ALL
     reader.find("welcome")
     assert STAFF not in reader.script(LEFT)
     assert reader.script("return [document.cookie, localStorage.length, sessionStorage.length]") == ["", 0, 0]

@@ -45,7 +45,7 @@ CONVERTED = {
         **dict.fromkeys([b"A\nB", b"A\x1a", b"\x05A", b""])},
     "texts.petsciiText(data, false)": {
         b"\xa6\xb0\xc0\xae\r\xdd\x61\x7e\xff": "▒┌─┐\n│♠ππ", b"AB\x0eAB\xc1\x8eAB": "ABabAAB", b"A\x02": None},
-    "texts.petsciiText(data, true)": {b"\xc8ELLO \x93\x05\xba": "Hello ✓"},
+    "texts.petsciiText(data, true)": {b"\xc8ELLO \x93\x05\xba\xde": "Hello ✓π"},
     "basic.basicListing(data, false)?.text ?? null": {
         program((1, bytes(range(0x80, 0xCC))), start=0x0401): f"1 {''.join(WORDS)}\n",
         program((5, b"A\xb2\xff:B\xb2\x5e\x5c"), (10, b"\x99 \xc7(I);"), (63999, b'\x99"\x93\x05\x12\xa6\xd3\x02"')):
@@ -53,7 +53,7 @@ CONVERTED = {
         # no line, no end, a wrong link, numbers that fall, no byte
         **dict.fromkeys([b"\1\x08\0\0", program((10, b"\x80"))[:-2], b"\1\x08\x09\x08\x0a\0\x80\0\0\0",
                          program((20, b"\x80"), (10, b"\x80")), b""])},
-    "basic.basicListing(data, true).text": {program((10, b'\x99"\xc8I"')): '10 print"Hi"\n'},
+    "basic.basicListing(data, true).text": {program((10, b'\x99"\xc8I"\xff')): '10 print"Hi"π\n'},
     "basic.basicListing(data, true).rest": {program((10, b"\x9e2061"), rest=b"\xa9\x00"): 2, program((10, b"\x80")): 0}}
 CONVERT = """return Promise.all([import("/basic.js"), import("/texts.js")]).then(([basic, texts]) =>
   arguments[0].map((bytes) => new Uint8Array(bytes)).map((data) => %s));"""
@@ -130,6 +130,8 @@ def test_file_can_be_seen_in_the_other_ways(reader):
         reader.push(button)
         assert reader.text("pre") == text
     assert "Shown as text, without its codes for colours and the cursor." in reader.texts("#view p")
+    same = "The same bytes as ../../X (Disk 2001)."
+    assert [reader.go(f"2001/{slot}") and same in reader.texts("aside p") for slot in "34"] == [False, True]
     reader.go("2001/8")
     with reader.phone():
         wait_for("lines of eight bytes", lambda: reader.text("pre") == hexed(DATA, 8))
@@ -262,7 +264,7 @@ def test_zip_asks_in_a_pace_again_after_429_and_leaves_out_what_was_closed_meanw
     tries = []
 
     def before(method, path):
-        if "/files/" in path:
+        if "/files/" in path and not path.endswith("/9"):
             tries.append((int(path.rpartition("/")[2]), time.monotonic()))
             museum.rules["T2001"] = {1: museums.rule(1, "deny", ["public"], {"slot": 3})}
             return refused_by_nginx(429, "Too Many Requests") if len(tries) == 4 else None

@@ -25,19 +25,20 @@ def tables(tmp_path):
     (tmp_path / "staff.titles.csv").write_text(FOR_STAFF)
 
 def test_titles_and_notes_for_readers_are_shown_and_found(reader):
-    shown = reader.read(lambda state: state["disks"])
-    assert shown["disks"] == [HARMFUL[2], "Letters of a Férryman", "Disk 1003"]
+    assert reader.read(lambda state: state["disks"])["disks"] == [HARMFUL[2], "Letters of a Férryman", "Disk 1003"]
     assert reader.harmed() == [None, 0]
     shown = reader.go("1001")
     ferry = ["Letters of a Férryman"]
     assert (shown["heading"], shown["title"]) == (*ferry, f"{ferry[0]}, disk 1001 – The reading room")
     facts = "Disk 1001 · CP/M, 8 inches · 2 files for you to see"
     assert reader.texts("#view > p") == [facts, "Written on the river, 1983 to 1986"]
+    assert reader.load() and reader.texts(".neighbours > *")[1] == "2 of 3 disks", "disks in the order of the list"
     wanted = {"FERRY": ferry, "letters river 1984": [], "1986 letters river": ferry, "hush": [], "welcome": ferry,
               "1001": ferry, "ferryman welcome": ferry, "damaged": [], **dict.fromkeys(UMLAUTS, [HARMFUL[2]])}
     for words, disks in wanted.items():
         assert reader.find(words)["disks"] == disks, words
-    assert [reader.find("welcome river")["matches"], reader.texts("mark")] == [["WELCOME.TXT"], ["river", "WELCOME"]]
+    found = reader.find("a welcome on the river")["matches"]
+    assert (found, reader.texts("mark")) == (["WELCOME.TXT"], ["river", "WELCOME"])
 
 def test_titles_for_the_staff_go_before_those_for_all(staff):
     mine = "1001Letters (the ferry company asks for care)"
