@@ -69,8 +69,8 @@ function choicesBelow({ kinds, types, all }, choices) {
   const bar = box("div", "bar", chips("Disks", "kind", KINDS, choices, kinds.set("", sum)));
   bar.append(chips("Sort by", "sort", SORTS, choices), chips("Show as", "as", LOOKS, choices));
   if (shown.length) bar.append(chips("Files", "type", { "": "All", ...typeWords }, choices, types.set("", all)));
-  const open = HAS_ROOM.matches || part("choices")?.open === true;
-  return Object.assign(box("details", "", element("summary", "Kinds, order and types"), bar), { id: "choices", open });
+  const [ariaLabel, open] = ["Kinds, order and types", HAS_ROOM.matches || part("choices")?.open === true];
+  return Object.assign(box("details", "", element("summary", ariaLabel), bar), { id: "choices", ariaLabel, open });
 }
 
 // How many files of some a reader may read, where this is known.
