@@ -27,7 +27,7 @@ function dumpOf(file) {
   const fieldOf = (what, ariaLabel) => element("input", null, { required: true, ariaLabel, ...LIMITS[what] });
   dump.accession = fieldOf("accession", `Accession of ${file.name}`);
   dump.deed = fieldOf("deed", `Deed of ${file.name}`);
-  if (kind === undefined) dump.problem = noKind(file.size);
+  if (kind === undefined) Object.assign(dump, { problem: noKind(file.size), isLeftOut: true });
   return dump;
 }
 
@@ -38,7 +38,7 @@ const isOpen = (dump) => dump.kind && !dump.problem && !isDone(dump);
 
 function dumpRow(dump) {
   const { file, kind, sum, accession, deed, says } = dump;
-  const fields = kind === undefined || dump.isLeftOut ? ["", ""] : [accession, deed];
+  const fields = dump.isLeftOut ? ["", ""] : [accession, deed];
   says.textContent = dump.problem || dump.outcome;
   return row([
     cell("File", kind === undefined ? file.name : mapButton(dump), "name"),
@@ -125,11 +125,11 @@ async function readSheet(files) {
 
 // Gives the dumps what the sheet says of them. A dump that it does not name is left out.
 function useSheet() {
-  const others = matchRows(sheet, dumps.filter((dump) => dump.kind));
+  const others = matchRows(sheet, dumps).filter((dump) => dump.kind);
   for (const dump of others) Object.assign(dump, { problem: "The sheet does not name it: left out.", isLeftOut: true });
   for (const one of sheet.filter((row_) => row_.dump)) {
     const { dump } = one;
-    Object.assign(dump, { problem: rowProblem(one), isLeftOut: false });
+    Object.assign(dump, { problem: dump.kind ? rowProblem(one) : noKind(dump.file.size), isLeftOut: false });
     Object.assign(dump.accession, { value: one.accession, readOnly: true });
     Object.assign(dump.deed, { value: one.deed, readOnly: true });
   }

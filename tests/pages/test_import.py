@@ -16,19 +16,22 @@ WELCOME, MUSEUM = (samples.bytes_of("images", name) for name in ("welcome.img", 
 HEADS, LONG = "accession,kind,deed,sha256,file", "Müller box 1, disk 048.img"
 NO_DEED = "There is no such deed. Check its number, or put the deed first. (no-deed)"
 NOT_NAMED, NO_FILE = "The sheet does not name it: left out.", "No file of this name is chosen."
+NO_KIND = "The page does not send it: no kind of disk has 100 bytes. CP/M, 8 inches has 256,256 bytes, "
+NO_KIND += "Commodore 1541 has 174,848 bytes, Commodore 1541 with error bytes has 175,531 bytes."
 # The dumps by their names; the rows of the sheet; and the accession, deed and result of each, before anything is sent.
 DUMPS = {
     LONG: RECORD, "hello.d64": HELLO, "marked.d64": MARKED, "other.d64": samples.LOOP_DISK, "extra.d64": MUSEUM,
-    "..%2f..%2fX": WELCOME, "=1+1": RECORD}
+    "..%2f..%2fX": WELCOME, "=1+1": RECORD, "short.d64": bytes(100)}
 ROWS = [
     ("2001", "cpm8", "9", digest(RECORD), f'"box 1/{LONG}"'),
     ("2002", "d64", "9", digest(HELLO).upper(), "C:\\dumps\\hello.d64"),
     ("2003", "d64", "9", digest(MARKED), "marked.d64"), ("2004", "d64", "9", digest(HELLO), "other.d64"),
     ("2005", "d64", "9", digest(HELLO), "gone.d64"), ("2006", "cpm8", "9", digest(WELCOME), "..%2f..%2fX"),
-    ("2007", "cpm8", "99", digest(RECORD), "=1+1")]
+    ("2007", "cpm8", "99", digest(RECORD), "=1+1"), ("2008", "d64", "9", digest(HELLO), "short.d64")]
 FOUND = {
     LONG: ("2001", "9", ""), "hello.d64": ("2002", "9", ""), "..%2f..%2fX": ("2006", "9", ""),
     "=1+1": ("2007", "99", ""), "extra.d64": ("", "", NOT_NAMED), "gone.d64": ("2005", "9", NO_FILE),
+    "short.d64": ("2008", "9", NO_KIND),
     "marked.d64": ("2003", "9", "The sheet says Commodore 1541, and the length is another. The page does not send it."),
     "other.d64": ("2004", "9", "The sheet says another SHA-256. The page does not send it.")}
 
@@ -61,7 +64,7 @@ def test_sheet_that_is_wrong_says_where(choose):
 def test_dumps_of_a_sheet_are_found_compared_and_put(museum, staff, choose):
     """Also where the connection is lost in the middle, and one is refused."""
     shown = choose({**DUMPS, "shelf.CSV": ("\ufeff" + "\r\n".join([HEADS, *map(",".join, ROWS), ""])).encode()})
-    words = "7 files chosen. The sheet has 7 rows: 4 ready, 2 with another disk than it says, 1 without a file."
+    words = "8 files chosen. The sheet has 8 rows: 4 ready, 3 with another disk than it says, 1 without a file."
     assert (shown["result"], results(shown)) == ([words], FOUND)
     assert "there is no deed 99" in staff.push("Put the disks")["result"][0], "a disk of an unknown deed goes out"
     museum.deeds[99] = "Late Donor", "2020-01-01"
@@ -86,12 +89,10 @@ def test_dumps_of_a_sheet_are_found_compared_and_put(museum, staff, choose):
 
 def test_dumps_are_described_and_numbered_by_hand(staff, choose):
     shown = choose({"one.d64": HELLO, "two <b>.d64": MARKED, "short.d64": bytes(100)})
-    no_kind = "The page does not send it: no kind of disk has 100 bytes. CP/M, 8 inches has 256,256 bytes, "
-    no_kind += "Commodore 1541 has 174,848 bytes, Commodore 1541 with error bytes has 175,531 bytes."
     assert shown["list"] == [
         ["one.d64 Map", "174,848", "Commodore 1541", digest(HELLO), "", "", ""],
         ["two <b>.d64 Map", "175,531", "Commodore 1541 with error bytes", digest(MARKED), "", "", ""],
-        ["short.d64", "100", "", "", "", "", no_kind]]
+        ["short.d64", "100", "", "", "", "", NO_KIND]]
     staff.type("Accession of one.d64", "3001")
     staff.type("Deed of one.d64", "9")
     staff.push("Number the others from the first")
@@ -106,7 +107,7 @@ def test_dumps_are_described_and_numbered_by_hand(staff, choose):
     staff.push("Put the disks")
     shown = staff.answer(True)
     assert shown["result"][0] == "2 disks put, 0 failed."
-    assert [row[4:] for row in shown["list"]] == [["3001", "9", "done"], ["3002", "9", "done"], ["", "", no_kind]]
+    assert [row[4:] for row in shown["list"]] == [["3001", "9", "done"], ["3002", "9", "done"], ["", "", NO_KIND]]
 
 def test_map_shows_each_sector_the_chosen_file_and_faults(staff, choose):
     choose({"damaged.d64": samples.bytes_of("images", "damaged.d64"), "plain.img": WELCOME})
