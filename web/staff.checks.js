@@ -27,7 +27,9 @@ export function surveyed(survey, more = {}) {
   };
   if (map !== null) {
     const { claimed_free: free, unclaimed_used: used, wrong_counts: wrong } = map;
-    pairs.Map = `${free} blocks in use are marked free, ${used} unused ones not; ${wrong} tracks have a wrong count`;
+    const [inUse, unused] = [counted(free, "block"), counted(used, "block")];
+    pairs.Map = `in use but marked as free: ${inUse}; not in use but marked so: ${unused}; `;
+    pairs.Map += `with a wrong count: ${counted(wrong, "track")}`;
     pairs.Sizes = `${counted(survey.size_differs, "file")} with another size than the directory says`;
   }
   const lines = Object.entries({ ...more, ...pairs });

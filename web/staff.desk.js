@@ -18,28 +18,18 @@ export const formOf = (name) => part(name).querySelector("form");
 
 // What stands
 
-const QUESTIONS = {
-  deeds: "/staff/deeds",
-  takedowns: "/staff/takedowns",
-  keys: "/staff/keys",
-  checks: "/staff/checks",
-};
-
 // What the desk holds, as it was when it was read last.
 export const held = { deeds: [], takedowns: [], keys: [], checks: [] };
 
 export async function readHeld(what) {
-  held[what] = listOf((await askObject(QUESTIONS[what]))[what]);
+  held[what] = listOf((await askObject(`/staff/${what}`))[what]);
   return held[what];
 }
 
 // The rules of a deed, or the takedowns of a disk, that stood when they were read last.
 export function rulesOf(name, scope) {
-  const found =
-    name === "rules"
-      ? held.deeds.find((one) => one.deed === scope)
-      : held.takedowns.find((one) => one.accession === scope);
-  return found?.rules ?? [];
+  const [all, number] = name === "rules" ? [held.deeds, "deed"] : [held.takedowns, "accession"];
+  return all.find((one) => one[number] === scope)?.rules ?? [];
 }
 
 // Who changes something, and why

@@ -6,13 +6,14 @@ import { askObject, box, cell, counted, element, part, row, table } from "./shar
 import { checkWords, checked, surveyed } from "./staff.checks.js";
 import { button, change, dated, formOf, readHeld, rulesOf, showsAnew } from "./staff.desk.js";
 import { COLUMNS as CHANGES, changeRow } from "./staff.journal.js";
+import { audienceCounts } from "./staff.forecast.js";
 import { UNREAD, originsOf, standingDisk, standingRule } from "./staff.origins.js";
 import { freeRank } from "./staff.ranks.js";
 import { rehearsalDays, rehearsed } from "./staff.rehearsal.js";
 import { makeRuleForm, ruleIn } from "./staff.ruleform.js";
 import { putMany } from "./staff.rules.js";
-import { COLUMNS, EFFECT_AT, SAVED_HEADS, mayWords, readVerdictsOf, savedVerdict } from "./staff.verdicts.js";
-import { ruleAbbr } from "./staff.verdicts.js";
+import { COLUMNS, EFFECT_AT, SAVED_HEADS, effectOf, mayWords, readVerdictsOf } from "./staff.verdicts.js";
+import { ruleAbbr, savedVerdict } from "./staff.verdicts.js";
 import { AUDIENCES, RULES, listed, ruleTexts, ruleWords, today } from "./staff.words.js";
 import { save } from "./stream.js";
 import { noteOf, titleOf } from "./titles.js";
@@ -91,9 +92,11 @@ function draw() {
   const about = surveyed(survey, { Title: title, "Taken in": disk.origin });
   const columns = ["Take down", "Slot", "Name", "Type", "Bytes", ...Object.values(AUDIENCES)];
   const press = () => change("disk", () => checked(accession, "disk"));
+  const counts = audienceCounts((who, effect) => files.filter((record) => effectOf(record, who) === effect).length);
   const all = [
     ...[about, checkWords(accession), button("Check it", press)],
     dated("h2", `Who gets what on ${asked.day}`),
+    box("ul", "", ...counts.map((text) => element("li", text))),
     files.length ? table("files", columns, files.map(fileRow)) : element("p", "It has no file."),
     ...[button("Save who gets what as CSV", saveShown), part("ticked")],
     ...[element("h2", "The rules, in their order: the first that matches decides"), rulesTable(rules)],
@@ -103,13 +106,16 @@ function draw() {
   part("disk").querySelector(".stands").replaceChildren(...all);
 }
 
-// Saves who gets what of the disk, and who put the rule that decides.
+// Saves who gets what of the disk, what the rule says that decides, and who put it.
 function saveShown() {
   const { survey, things, files, asked } = shown;
-  const originOf = (label) => things.find((one) => one.label === label)?.origin ?? "";
-  const rowOf = (record, [audience, at]) => [...savedVerdict(record, audience, asked), originOf(record[at + 1])];
+  const deciding = (label) => {
+    const found = things.find((one) => one.label === label);
+    return found ? [ruleWords(found.rule), found.origin] : ["", ""];
+  };
+  const rowOf = (record, [audience, at]) => [...savedVerdict(record, audience, asked), ...deciding(record[at + 1])];
   const rows = files.flatMap((record) => Object.entries(EFFECT_AT).map((one) => rowOf(record, one)));
-  const records = [[...SAVED_HEADS, "rule put"], ...rows];
+  const records = [[...SAVED_HEADS, "what the rule says", "rule put"], ...rows];
   save(`disk-${survey.accession}-${asked.day}.csv`, [csvText(records)], "text/csv");
 }
 

@@ -22,8 +22,7 @@ function noKind(length) {
 
 function dumpOf(file) {
   const kind = kindOf(file.size);
-  const places = { says: element("div", null), sum: element("span", "") };
-  const dump = { file, kind, digest: "", outcome: "", problem: "", ...places };
+  const dump = { file, kind, digest: "", outcome: "", problem: "", says: element("div", null) };
   const fieldOf = (what, ariaLabel) => element("input", null, { required: true, ariaLabel, ...LIMITS[what] });
   dump.accession = fieldOf("accession", `Accession of ${file.name}`);
   dump.deed = fieldOf("deed", `Deed of ${file.name}`);
@@ -37,14 +36,14 @@ const sendable = () => dumps.filter((dump) => dump.kind && !dump.problem);
 const isOpen = (dump) => dump.kind && !dump.problem && !isDone(dump);
 
 function dumpRow(dump) {
-  const { file, kind, sum, accession, deed, says } = dump;
+  const { file, kind, digest, accession, deed, says } = dump;
   const fields = dump.isLeftOut ? ["", ""] : [accession, deed];
   says.textContent = dump.problem || dump.outcome;
   return row([
     cell("File", kind === undefined ? file.name : mapButton(dump), "name"),
     cell("Bytes", file.size.toLocaleString("en"), "number"),
     cell("Kind", kind === undefined ? "" : kindWords(kind)),
-    cell("SHA-256", kind === undefined ? "" : sum, "digest"),
+    cell("SHA-256", digest, "digest"),
     cell("Accession", fields[0]),
     cell("Deed", fields[1]),
     cell("Result", says),
@@ -107,7 +106,6 @@ async function readFile(dump) {
     const bytes = await bytesOf(dump.file);
     dump.digest = await digestOf(bytes);
     dump.files = readDump(dump.kind, new Uint8Array(bytes)).files;
-    dump.sum.textContent = dump.digest;
   } catch (fault) {
     dump.problem = explainRefusal(fault);
   }

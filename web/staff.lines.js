@@ -15,15 +15,7 @@ const LINE_FEED = 10;
 const absent = new Set();
 
 // Some bytes behind others.
-function joined(parts) {
-  const bytes = new Uint8Array(parts.reduce((sum, one) => sum + one.length, 0));
-  let at = 0;
-  for (const one of parts) {
-    bytes.set(one, at);
-    at += one.length;
-  }
-  return bytes;
-}
+const joined = async (parts) => new Uint8Array(await new Blob(parts).arrayBuffer());
 
 // The bytes of a reply: of a long one those at its end, and whether some before them are left out.
 async function bytesOf(reply, { progress }) {
@@ -34,7 +26,7 @@ async function bytesOf(reply, { progress }) {
     const { done, value } = await reader.read().catch(() => {
       throw new Refused(0, {});
     });
-    if (done) return { bytes: joined(parts), isCut };
+    if (done) return { bytes: await joined(parts), isCut };
     parts.push(value);
     size += value.length;
     came += value.length;
@@ -97,7 +89,7 @@ export class Lines {
     const [start, length] = places === null ? [0, 0] : places.slice(1).map(Number);
     if (reply === null || length < this.length) throw new Refused("rotated", {});
     const { bytes } = await bytesOf(reply, tools);
-    const whole = joined([bytes, this.rest]);
+    const whole = await joined([bytes, this.rest]);
     const first = start === 0 ? 0 : whole.indexOf(LINE_FEED) + 1 || whole.length;
     Object.assign(this, { until: start, length, rest: whole.slice(0, first) });
     await eachLine(whole.subarray(first), take);

@@ -2,22 +2,16 @@
 import { KINDS } from "./shared.js";
 import { recordsOf } from "./csv.js";
 
-const COLUMNS = ["accession", "kind", "deed", "sha256", "file"];
-const NUMBER = /^[1-9][0-9]{0,5}$/;
+// What stands in each column: how it looks, in signs and in words.
+const NUMBER = [/^[1-9][0-9]{0,5}$/, "a number from 1 to 999999"];
 const FITS = {
-  accession: (text) => NUMBER.test(text),
-  kind: (text) => Object.hasOwn(KINDS, text),
-  deed: (text) => NUMBER.test(text),
-  sha256: (text) => /^[0-9A-Fa-f]{64}$/.test(text),
-  file: (text) => text !== "",
+  accession: NUMBER,
+  kind: [/^(cpm8|d64|d64e)$/, "cpm8, d64 or d64e"],
+  deed: NUMBER,
+  sha256: [/^[0-9A-Fa-f]{64}$/, "64 hexadecimal digits"],
+  file: [/^./s, "the name of a file"],
 };
-const WANTED = {
-  accession: "a number from 1 to 999999",
-  kind: "cpm8, d64 or d64e",
-  deed: "a number from 1 to 999999",
-  sha256: "64 hexadecimal digits",
-  file: "the name of a file",
-};
+const COLUMNS = Object.keys(FITS);
 
 // The rows of a sheet; where it is none, the words that say what is wrong with it.
 export function rowsIn(text) {
@@ -34,8 +28,8 @@ export function rowsIn(text) {
 
 function rowFault(record) {
   if (record.length !== COLUMNS.length) return `it has ${record.length} fields, and not ${COLUMNS.length}.`;
-  const wrong = COLUMNS.find((column, at) => !FITS[column](record[at]));
-  return wrong === undefined ? "" : `${wrong} has to be ${WANTED[wrong]}.`;
+  const wrong = COLUMNS.find((column, at) => !FITS[column][0].test(record[at]));
+  return wrong === undefined ? "" : `${wrong} has to be ${FITS[wrong][1]}.`;
 }
 
 function rowOf([accession, kind, deed, sha256, file]) {
@@ -45,20 +39,9 @@ function rowOf([accession, kind, deed, sha256, file]) {
 // Gives each row its dump: by the name of the file, and of several with one name the one with the row's SHA-256. Gives
 // the dumps that no row names.
 export function matchRows(rows, dumps) {
-  const both = (name, digest) => `${name}\0${digest}`;
-  const left = giveByKey(
-    rows,
-    dumps,
-    (row) => both(row.name, row.sha256),
-    (dump) => both(dump.file.name, dump.digest),
-  );
+  const left = giveByKey(rows, dumps, ({ name, sha256 }) => [name, sha256], ({ file, digest }) => [file.name, digest]);
   const others = rows.filter((row) => row.dump === null);
-  return giveByKey(
-    others,
-    left,
-    (row) => row.name,
-    (dump) => dump.file.name,
-  );
+  return giveByKey(others, left, ({ name }) => [name], ({ file }) => [file.name]);
 }
 
 // Gives each row the first dump with its key that no row before it has got. Gives the dumps that are left.
@@ -66,11 +49,11 @@ function giveByKey(rows, dumps, keyOfRow, keyOfDump) {
   const lists = new Map();
   // from the last dump on, so that the first stands at the end of its list
   for (const dump of [...dumps].reverse()) {
-    const key = keyOfDump(dump);
+    const key = keyOfDump(dump).join("\0");
     if (!lists.has(key)) lists.set(key, []);
     lists.get(key).push(dump);
   }
-  for (const row of rows) row.dump = lists.get(keyOfRow(row))?.pop() ?? null;
+  for (const row of rows) row.dump = lists.get(keyOfRow(row).join("\0"))?.pop() ?? null;
   const taken = new Set(rows.map(({ dump }) => dump));
   return dumps.filter((dump) => !taken.has(dump));
 }

@@ -62,7 +62,6 @@ def test_sheet_that_is_wrong_says_where(choose):
     assert {text: choose({"wrong.csv": text.encode()})["result"][0] for text in wanted} == wanted
 
 def test_dumps_of_a_sheet_are_found_compared_and_put(museum, staff, choose):
-    """Also where the connection is lost in the middle, and one is refused."""
     shown = choose({**DUMPS, "shelf.CSV": ("\ufeff" + "\r\n".join([HEADS, *map(",".join, ROWS), ""])).encode()})
     words = "8 files chosen. The sheet has 8 rows: 4 ready, 3 with another disk than it says, 1 without a file."
     assert (shown["result"], results(shown)) == ([words], FOUND)

@@ -10,7 +10,8 @@ from support.samples import DONOR_OF_9
 START, NOT = 1_800_000_000, "not in the journal"
 READ = '{"audiences":["room","public","staff"],"select":{"all":true},"effect":"read"}'
 READS, LISTS = "read it R9.20", "see that it is there (the desk gives out no file of type DEL) R9.20"
-CLOSED = "see nothing of it T1002.{}"
+CLOSED, HIDDEN = "see nothing of it T1002.{}", "hidden from the public and the reading room, on all days"
+ALL = "the public, the reading room and the staff"
 BY = f"{moment(START + 0.5)[:19].replace('T', ' ')} by Ada: a letter"
 
 @pytest.fixture
@@ -28,7 +29,9 @@ def test_disk_says_what_it_is_and_who_gets_what_by_which_rule(museum, disk):
     assert left == [], "the page goes on saying that it reads the journal"
     deed = f"9, of {DONOR_OF_9}, signed on 0001-01-01"
     assert disk.texts("#disk dd")[1:5:2] == [NOT, deed]
-    assert disk.texts("#disk dd")[4:6] == ["3 files: 2 can be given out, 0 damaged", "it ends well"]
+    blocks = "in use but marked as free: 0 blocks; not in use but marked so: 0 blocks; with a wrong count: 0 tracks"
+    assert disk.texts("#disk dd")[4:7] == ["3 files: 2 can be given out, 0 damaged", "it ends well", blocks]
+    assert disk.texts("#disk .stands > ul li")[0] == "The public: 1 to read, 1 only in the list, 1 hidden."
     closed = CLOSED.format(1000)
     assert [row[2:3] + row[5:] for row in rows[:3]] == [
         ["TOUR", *[READS] * 3], ["-" * 16, *[LISTS] * 3], ["GUIDE", closed, closed, READS]]
@@ -36,14 +39,13 @@ def test_disk_says_what_it_is_and_who_gets_what_by_which_rule(museum, disk):
     assert rows[5][1].startswith("Ada") and rows[5][2].startswith("Put rule 20 of deed 9: all files readable for")
     disk.push("Save who gets what as CSV")
     saved = list(csv.DictReader(disk.saved(f"disk-1002-{TODAY}.csv").decode().splitlines()))
-    keys = "day", "audience", "they may", "rule", "rule put", "name as shown", "size"
+    keys = "day", "audience", "they may", "rule", "what the rule says", "rule put", "name as shown", "size"
     assert [[one[key] for key in keys] for one in saved[6:9:2]] == [
-        [TODAY, "the public", "see nothing of it", "T1002.1000", NOT, "GUIDE", "532"],
-        [TODAY, "the staff", "read it", "R9.20", BY, "GUIDE", "532"]]
+        [TODAY, "the public", "see nothing of it", "T1002.1000", f"the file at slot 2 {HIDDEN}", NOT, "GUIDE", "532"],
+        [TODAY, "the staff", "read it", "R9.20", f"all files readable for {ALL}, on all days", BY, "GUIDE", "532"]]
 
 def test_ticked_files_are_taken_down_and_what_stands_after_a_failure_is_said(disk):
-    words = "hidden from the public and the reading room, on all days."
-    notes = [f"{name}, at rank {rank}: the file at slot {slot} {words}"
+    notes = [f"{name}, at rank {rank}: the file at slot {slot} {HIDDEN}."
              for name, rank, slot in (("TOUR", 1000, 0), ("GUIDE", 990, 2))]
     for slot in (0, 2):
         disk.set(f"#disk [name=slots][value='{slot}']", True)

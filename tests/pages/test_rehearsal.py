@@ -65,15 +65,13 @@ def test_drop_is_rehearsed_and_done(takedowns):
     assert takedowns.door.effects(1005)["public"] == ["read"] * 3
 
 def test_days_to_come_of_an_embargo(staff):
-    """Today, its first day, its last, and the first without it; and those of the rule that it replaces."""
     closes = ["Closes for the public: 2 files. Now they may read them; then they may see that they are there.",
               "WELCOME.TXT (disk 1001, slot 0)", "SKEW.TXT (disk 1001, slot 1)"]
     staff.go("rules/9")
     days = {"effect": "list", "start": "2090-03-01", "until": "2100-03-01"}
     shown = staff.put_rule("rules", "9", "10", "type", "TXT", "public", **days)
-    last = ["On 2100-02-28, its last day", "The same as on the day above."]
-    without = ["On 2100-03-01, the first day without it", NOTHING]
-    assert shown["sure"][2:] == [NOW, NOTHING, "On 2090-03-01, its first day", *closes, *last, *without]
+    last = "On 2100-02-28, its last day", "The same as on the day above.", "On 2100-03-01, the first day without it"
+    assert shown["sure"][2:] == [NOW, NOTHING, "On 2090-03-01, its first day", *closes, *last, NOTHING]
     staff.answer(True)
     staff.of_row("rule 10 of deed 9", "Change")
     staff.fill("change", until="")
@@ -112,7 +110,6 @@ def test_rehearsal_that_closes_nothing_or_is_refused_says_so(takedowns):
 
 @pytest.mark.parametrize("stands, is_lost", [({}, False), (takedown(1000, 0), False), ({}, True)])
 def test_lost_reply_says_that_the_desk_may_have_done_it(museum, takedowns, stands, is_lost):
-    """The page cannot know. It shows what stands, or says that it cannot read that either."""
     takedowns.take_down("1001", "", "0", *BOTH)
     museum.rules["T1001"] = stands
     takedowns.door.before = lost_at(1, is_lost)

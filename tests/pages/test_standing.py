@@ -1,5 +1,4 @@
-"""What stands at the desk: deeds, rules, takedowns, keys and checks. Each is put, changed and dropped in its row, and
-read anew after each change."""
+"""What stands at the desk: deeds, rules, takedowns, keys, checks. Each is put, changed, dropped, and read anew then."""
 
 from staff_helpers import journal_lines, lost_at, moment, older, put_deed
 from support import museums

@@ -14,6 +14,8 @@ EFFECTS = {"read": "read it", "list": "see that it is there", "deny": "see nothi
 # Why the desk gives out a file of the museum to nobody, by its type.
 UNSERVED = {"DEL": " (the desk gives out no file of type DEL)",
             "SEQ": " (damaged: read-error (the drive could not read a block of it))"}
+# A script: where the bars of the timeline are, and what drags the day.
+ENDS = "return ['.lane', '[type=range]'].map((at) => document.querySelector(`#timeline ${at}`).getBoundingClientRect())"
 PAST, STOOD = "by today's rules, not by those that stood then", "by the rules that stood when it was asked"
 
 def look(staff, day, audience="public", closed=False, words=""):
@@ -82,3 +84,8 @@ def test_timeline_has_the_next_change_first_and_says_what_is_other_on_each_day(m
     staff.set("#timeline [type=range]", int(staff.one("#timeline [type=range]").get_property("min")))
     staff.read(lambda state: state["result"] == ["Read: 2025-06-15."])
     assert staff.text("#timeline .day h2") == f"Who gets what on 2025-06-15, {PAST}"
+    for width in (390, 1280):
+        with staff.phone(width):
+            bar, dragged = staff.script(ENDS)
+            ends = [dragged["left"] + 8, dragged["right"] - 8]
+            assert bar["width"] > 200 and ends == pytest.approx([bar["left"], bar["right"]], abs=1), f"bars at {width}"
