@@ -147,12 +147,17 @@ function sheetWords() {
 // Says of each deed what its disks come under, and asks. Gives the words where nothing is to be sent, else null.
 async function unagreed() {
   const open = sendable().filter((dump) => !isDone(dump));
+  if (open.length === 0) return "There is no disk to put.";
   const deeds = new Map((await readHeld("deeds")).map((one) => [String(one.deed), one]));
   const wanted = [...new Set(open.map(({ deed }) => deed.value))];
   const unknown = wanted.filter((deed) => !deeds.has(deed));
   if (unknown.length) return `Nothing is sent: there is no deed ${listed(unknown)}. Put it first.`;
   await readHeld("takedowns");
-  const more = wanted.flatMap((deed) => deedParts(deeds.get(deed), open.filter((dump) => dump.deed.value === deed)));
+  const there = new Set((await readHeld("checks")).map(({ accession }) => String(accession)));
+  const count = open.filter(({ accession }) => there.has(accession.value)).length;
+  const words = `In use already: ${counted(count, "accession")}. The same disk stays as it is; another one is refused.`;
+  const parts = wanted.flatMap((deed) => deedParts(deeds.get(deed), open.filter((dump) => dump.deed.value === deed)));
+  const more = [...(count ? [element("p", words)] : []), ...parts];
   const asked = { words: `Put ${counted(open.length, "disk")}?`, more, go: "Put them", keep: "Do not put them" };
   return (await sure(asked)) ? null : "Nothing is sent.";
 }

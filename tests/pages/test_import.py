@@ -67,7 +67,8 @@ def test_dumps_of_a_sheet_are_found_compared_and_put(museum, staff, choose):
     assert (shown["result"], results(shown)) == ([words], FOUND)
     assert "there is no deed 99" in staff.push("Put the disks")["result"][0], "a disk of an unknown deed goes out"
     museum.deeds[99] = "Late Donor", "2020-01-01"
-    staff.push("Put the disks")
+    museums.put(museum, 2001, "cpm8", 9, RECORD)
+    assert staff.push("Put the disks")["sure"][1].startswith("In use already: 1 accession. The same disk stays")
     del museum.deeds[99]
     staff.door.before = lost_at(3)
     assert staff.answer(True)["result"][0] == "2 disks put, 1 failed, 1 not sent yet."
@@ -81,10 +82,10 @@ def test_dumps_of_a_sheet_are_found_compared_and_put(museum, staff, choose):
     staff.push("Save the report")
     rows = saved_table(staff, f"disks-{TODAY}.csv")
     assert [row[0] for row in rows] == ["accession", "2001", "2002", "2006", "2007"]
-    wanted = ["2007", "cpm8", "99", digest(RECORD), "'=1+1", NO_DEED, "Ada Archivist", "a letter of today"]
-    assert rows[-1] == wanted
+    assert rows[-1] == ["2007", "cpm8", "99", digest(RECORD), "'=1+1", NO_DEED, "Ada Archivist", "a letter of today"]
     museum.deeds[99] = "Late Donor", "2020-01-01"
     assert staff.push("Go on with the rest")["result"][0] == "4 disks put, 0 failed."
+    assert staff.push("Put the disks")["result"] == ["There is no disk to put."]
 
 def test_dumps_are_described_and_numbered_by_hand(staff, choose):
     shown = choose({"one.d64": HELLO, "two <b>.d64": MARKED, "short.d64": bytes(100)})

@@ -7,11 +7,10 @@ from staff_helpers import journal_lines, lost_at, moment, takedown
 from support.browser import TODAY
 from support.samples import DONOR_OF_9
 
-START, NOT = 1_800_000_000, "not in the journal"
+START, NOT, ALL = 1_800_000_000, "not in the journal", "the public, the reading room and the staff"
 READ = '{"audiences":["room","public","staff"],"select":{"all":true},"effect":"read"}'
 READS, LISTS = "read it R9.20", "see that it is there (the desk gives out no file of type DEL) R9.20"
 CLOSED, HIDDEN = "see nothing of it T1002.{}", "hidden from the public and the reading room, on all days"
-ALL = "the public, the reading room and the staff"
 BY = f"{moment(START + 0.5)[:19].replace('T', ' ')} by Ada: a letter"
 
 @pytest.fixture
