@@ -1,5 +1,6 @@
 """What the tools of a museum's machine share: its places, its desk, its folders, its journal, and how they end."""
 
+import argparse
 import contextlib
 import errno
 import fcntl
@@ -45,21 +46,25 @@ class Failed(Exception):
     """Why a tool cannot do its work."""
 
 
-def places(path=PLACES):
-    """The values in a file of lines NAME=VALUE, by their names. Raises Failed where a line is none, or it cannot be
-    read."""
-    try:
-        with open(path, encoding="utf-8") as file:
-            lines = [line.rstrip("\n") for line in file if line.strip() and not line.startswith("#")]
-    except OSError as fault:
-        raise Failed(f"{path}: {fault.strerror}") from fault
-    found = [PLACE.fullmatch(line) for line in lines]
-    if None in found:
-        raise Failed(f"{path}: not a place: {lines[found.index(None)]}")
-    values = dict(match.groups() for match in found)
-    global UNIT
-    UNIT = values.get("UNIT", UNIT)
-    return values
+class NoReply(Failed):
+    """Why a question has no reply. Nobody knows what became of it."""
+
+
+class Places(dict):
+    """The values in a file of lines NAME=VALUE, by their names. Raises Failed where a line is none, or one is missing."""
+
+    def __init__(self, path):
+        super().__init__(SPACE=SPACE)
+        for line in pathlib.Path(path).read_text(encoding="utf-8").splitlines():
+            place = PLACE.fullmatch(line)
+            if not place and line.strip() and not line.startswith("#"):
+                raise Failed(f"{path}: not a place: {line}")
+            self.update([place.groups()] if place else [])
+        global UNIT
+        UNIT = self.get("UNIT", UNIT)
+
+    def __missing__(self, name):
+        raise Failed(f"no place {name}")
 
 
 def unit(name):
@@ -69,11 +74,7 @@ def unit(name):
 
 def key_in(path):
     """The key in a file with one line, `Desk-Key: ` and the key. Raises Failed where there is none."""
-    try:
-        with open(path, "rb") as file:
-            lines = file.read().splitlines()
-    except OSError as fault:
-        raise Failed(f"{path}: {fault.strerror}") from fault
+    lines = pathlib.Path(path).read_bytes().splitlines()
     name, colon, key = lines[0].partition(b":") if len(lines) == 1 else (b"", b"", b"")
     if not colon or name.lower() != b"desk-key":
         raise Failed(f"{path}: not one line of the form Desk-Key: KEY")
@@ -105,18 +106,21 @@ class Desk:
         return SocketConnection(self.place, self.limit)
 
     def visit(self, method, path, body=None, fields=()):
-        """The status and the body of a reply. Raises OSError or HTTPException where there is none."""
-        with contextlib.closing(self.connection()) as connection:
-            connection.request(method, path, body, {"Desk-Key": self.key, **dict(fields)})
-            reply = connection.getresponse()
-            return reply.status, reply.read()
+        """The status and the body of a reply. Raises NoReply where there is none."""
+        try:
+            with contextlib.closing(self.connection()) as connection:
+                connection.request(method, path, body, {"Desk-Key": self.key, **dict(fields)})
+                reply = connection.getresponse()
+                return reply.status, reply.read()
+        except (OSError, http.client.HTTPException) as fault:
+            raise NoReply(f"no reply ({fault or type(fault).__name__})") from fault
 
     def ask(self, path):
         """The body of a reply with status 200. Raises Failed where there is none."""
         try:
             status, body = self.visit("GET", path)
-        except (OSError, http.client.HTTPException) as fault:
-            raise Failed(f"{path}: no reply ({fault or type(fault).__name__})") from fault
+        except NoReply as fault:
+            raise Failed(f"{path}: {fault}") from fault
         if status != 200:
             raise Failed(f"{path}: {status} {refusal_in(body)}")
         return body
@@ -170,6 +174,11 @@ def systemctl(word):
     ran = subprocess.run(["systemctl", word, UNIT], stdin=subprocess.DEVNULL, capture_output=True, text=True)
     if ran.returncode:
         raise Failed(f"systemctl {word} {UNIT}: {ran.stderr.strip()}")
+
+
+def is_open():
+    """Whether the desk's unit runs."""
+    return subprocess.run(["systemctl", "is-active", "--quiet", UNIT], stdin=subprocess.DEVNULL).returncode == 0
 
 
 # Folders
@@ -397,24 +406,29 @@ def refusal_in(body):
     return repr(body[:60])
 
 
-def run(name, work):
-    """Does the work of a tool, and ends with its status; or says why it cannot, and ends with 1."""
+def run(text, work, *arguments, has_places=True, failed=1):
+    """Does the work of a tool, and ends with its status; or says why it cannot. The tool's text begins with its name and
+    words, up to a colon. Each argument is a word and how argparse takes it; the places come last."""
+    usage = text.partition(":")[0]
+    if sys.argv[1:] in (["-h"], ["--help"]):
+        sys.exit(print(text))
+    parser = argparse.ArgumentParser(add_help=False, allow_abbrev=False)
+    parser.error = lambda _: parser.exit(2, f"usage: {usage}\n")
+    for word, how in (*arguments, *([("places", {"nargs": "?", "default": PLACES})] if has_places else [])):
+        parser.add_argument(word, **how)
+    wishes = parser.parse_args()
     try:
-        status = work(sys.argv[1:])
-    except Failed as fault:
-        print(f"{name}: {fault}", file=sys.stderr)
-        status = 1
-    except OSError as fault:
-        print(f"{name}: {told(fault)}", file=sys.stderr)
-        status = 1
-    except KeyboardInterrupt:
-        print(f"{name}: stopped", file=sys.stderr)
-        status = 1
+        status = work(wishes, Places(wishes.places)) if has_places else work(wishes)
+    except (Failed, OSError, KeyboardInterrupt) as fault:
+        print(f"{pathlib.Path(usage.split()[0]).name}: {told(fault)}", file=sys.stderr)
+        status = failed
     sys.exit(status)
 
 
 def told(fault):
     """A fault in words."""
+    if isinstance(fault, KeyboardInterrupt):
+        return "stopped"
     if not isinstance(fault, OSError):
         return str(fault)
     return f"{fault.filename}: {fault.strerror}" if fault.filename else fault.strerror or str(fault)

@@ -107,7 +107,7 @@ OF_STAFF = """
     /staff/deeds /staff /staff/ /staff/deeds?x //staff/deeds /%73taff/deeds /x/../staff/deeds /images/../staff/deeds
     /images/%2e%2e/staff/deeds /staff/./deeds /images/..%2fstaff/deeds /staff/deeds/../../images /staff/../images
     /staff.html /staff.js //staff.js /%73taff.js /./staff.js /journal /journal-2026-11 /journal?x //journal /%6aournal
-    /.journal /.staff /.may /.begun /.gate /museum.sqlite /%2e%2e/museum.sqlite /web/room.js
+    /.journal /.staff /.may /.begun /.read /museum.sqlite /%2e%2e/museum.sqlite /web/room.js
 """.split()
 
 @pytest.mark.parametrize("path", OF_STAFF)

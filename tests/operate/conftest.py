@@ -11,7 +11,7 @@ INPUTS = ("operate", "web", "images", "docs", "crates.txt", "crates/rd_trials/da
 @pytest.fixture
 def house(request, program):
     """A room with its tools; its store has sums, or none where a test says so."""
-    with Room(program) as room:
+    with Room(program) as room, room.asked_for_space():
         made = House(room, getattr(request, "param", True))
         yield made
         made.stop()

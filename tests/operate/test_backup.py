@@ -103,7 +103,7 @@ def test_backup_that_fails_says_why_and_leaves_nothing(house, key, script, words
         take_for_desk(house, script.format(house.room.program))
     status, out, errors = house.back_up()
     assert (status, out) == (1, "") and errors.endswith(words), errors
-    assert house.backups() == house.leftovers() == [] and not (house.folder / "gate").exists()
+    assert house.backups() == house.leftovers() == []
     house.do(COMMAND)
 
 def flip(house, at):
@@ -156,20 +156,19 @@ def test_bit_that_flips_while_the_desk_serves_is_found_and_takedowns_can_be_read
 def test_killed_backup_lets_commands_go_on_and_the_next_one_clears_up(house):
     """It waits for a desk that does not answer; a second one at once is refused."""
     house.do(COMMAND)
-    gate, came = house.folder / "gate", []
+    gate, came = ["flock", "-ns", house.folder / "space", "true"], []
     with house.room.desk_stalled():
         tool = house.begin("desk-backup")
-        wait_until(gate.exists)
+        wait_until(lambda: subprocess.run(gate).returncode == 1)
         assert house.back_up() == (1, "", "desk-backup: another backup or restore is at work\n"), "two work at once"
         sender = threading.Thread(target=lambda: came.append(house.room.ask_staffs_door(COMMAND)))
         sender.start()
         os.killpg(tool.pid, signal.SIGKILL)
         assert house.ended(tool)[0] == -signal.SIGKILL
     sender.join(timeout=60)
-    assert came == [DONE]
-    assert len(house.backups()) == 1 and gate.exists()
+    assert came == [DONE] and len(house.backups()) == 1
     house.backed_up()
-    assert len(house.backups()) == 1 and not gate.exists()
+    assert len(house.backups()) == 1
 
 def test_latest_backups_of_days_weeks_and_months_are_kept_and_all_of_a_day_or_with_a_name(house):
     """There is one of each night of two years, with some nights left out, and two of the last one."""

@@ -76,7 +76,7 @@ def look(room, *words, before=(), **values):
     ("SPACE", "{}/none", r"desk-space gives no reply: .*\n"),
     ("STORE", "{}/large.sqlite", r"(.* has [0-9]+ MiB free; it needs [0-9]+\n){2}"),
     ("STORE", "{}/plain.sqlite", r"the store has no sums, which BY-HAND gives it: .*\n"),
-    ("STAFF_PORT", "1", r"nginx gives no reply: .*Connection refused\n"),
+    ("STAFF_PORT", "1", r"nginx gives no reply \(.*Connection refused\)\n"),
     ("ALARM", "anna@museum.example", r"ALARM is an address, and there is no mail program, .*\n"),
     ("ALARM", "{}/none", r"ALARM is no program: .*/none\n"),
     ("PING", "http://127.0.0.1:1/", r"PING gives no reply: .*\n"),

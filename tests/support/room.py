@@ -96,7 +96,7 @@ class Room(contextlib.AbstractContextManager):
             "SITE": SITE, "HTTPS_PORT": self.https_port, "HTTP_PORT": self.http_port, "STAFF_PORT": self.staff_port,
             "HSTS_AGE": 31536000, "CERTIFICATE": folder / "site.crt", "CERTIFICATE_KEY": folder / "site.key",
             "PROGRAM": self.program, "STORE": self.store, "DESK_SOCKET": self.place, "ZONE": "UTC0",
-            "JOURNAL": folder / "journal", "GATE": folder / "gate", "SPACE": folder / "space",
+            "JOURNAL": folder / "journal", "SPACE": folder / "space",
             "BACKUPS": folder / "backups", "STAFF_KEY": folder / "staff-key", "WEB": folder / "web",
             "OWN_WEB": folder / "own", "NGINX_RUN": folder, "NGINX_WORK": folder / "work", "NGINX_LOG": folder,
             "NGINX_USER": "www-data" if os.geteuid() == 0 else getpass.getuser(), **values}

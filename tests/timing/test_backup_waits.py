@@ -36,7 +36,8 @@ def waits_of_a_backup(house):
 @pytest.mark.parametrize("disks, times", [(2 * SMALL, 2), pytest.param(7 * SMALL, 20, marks=LONG)])
 def test_reader_waits_no_longer_for_the_backup_of_a_larger_store(disks, times, program, bounded):
     with contextlib.ExitStack() as stack:
-        houses, waits = [House(stack.enter_context(Room(program))) for _ in range(2)], [[], []]
+        rooms, waits = [stack.enter_context(Room(program)) for _ in range(2)], [[], []]
+        houses = [stack.enter_context(room.asked_for_space()) or House(room) for room in rooms]
         first = [put("/deeds/1", DEED), put_rule("/deeds/1/rules/10", "read", EVERY, "public")]
         for house, count in zip(houses, (disks, SMALL)):
             for asked in (*first, *(put_image(acc, "d64", 1, disk_of(acc)) for acc in range(1, count + 1))):
