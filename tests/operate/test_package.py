@@ -44,10 +44,10 @@ def test_package_has_each_file_starts_each_timer_and_reports_its_failure(package
     """Only a machine that boots shows what they do there. The store that it makes has sums."""
     subprocess.run(["dpkg-deb", "-R", package, tmp_path], check=True)
     held = {path.read_bytes() for path in tmp_path.rglob("*") if path.is_file()}
-    due = [*MAKE.parent.glob("package/*"), *MAKE.parent.glob("desk-*"), *MAKE.parent.glob("../web/*")]
+    due = [*MAKE.parent.glob("package/**/*"), *MAKE.parent.glob("desk-*"), *MAKE.parent.glob("../web/*")]
     due += [MAKE.with_name(name) for name in ("check-all", "museum.py")]
     # (make-deb writes these anew)
-    assert {path.name for path in due if path.read_bytes() not in held} == {"control", "desk.service"}
+    assert {one.name for one in due if one.is_file() and one.read_bytes() not in held} == {"control", "desk.service"}
     script = (tmp_path / "DEBIAN" / "postinst").read_text()
     begun, units = re.search('(?m)^units="(.*)"$', script)[1].split(), [*tmp_path.glob("lib/systemd/*/*[!@].timer")]
     assert "desk-key first" in script and len(units) == 3
