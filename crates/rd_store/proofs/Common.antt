@@ -24,7 +24,7 @@ pub use Rattle.rd_policy.specs.declared.select.Select.{Select}
 pub use Rattle.rd_policy.specs.declared.select.Select.TheVariants.{Prefix, Slot, User}
 pub use Rattle.rd_store.specs.Batched.{IsIndexed, IsIndexedBy, filed_shown, files_at, is_from_to, is_number_below, is_number_up_to}
 pub use Rattle.rd_store.specs.Codes.{audience_code, audience_in, audiences_code, audiences_in, band_in, class_code, class_in, day_in, effect_code, effect_in, how, kind_code, kind_in, number, number_in, outcome_code, outcome_in, select_in, units_code, units_in, word}
-pub use Rattle.rd_store.specs.Copied.{AndClean, AreHoldingsOf, Compares, IsCopied, IsNotCopied, KeepsOrStays, LeavesCopy, OpensCopy, TakesImage, TellsSame, TellsSameBoth, numbered_check, with_checks, with_deeds, with_images, with_keys, with_rules}
+pub use Rattle.rd_store.specs.Copied.{AndClean, AreHoldingsOf, Compares, IsCopied, IsNotCopied, KeepsOrStays, LeavesCopy, OpensCopy, TakesImage, TellsSame, numbered_check, with_checks, with_deeds, with_images, with_keys, with_rules}
 pub use Rattle.rd_store.specs.Created.{HasFirstTables, IsUntouched, LeavesOldOrNew, RestsIn, Turns, empty_desk, new_desk}
 pub use Rattle.rd_store.specs.Held.{Asks, Changes, Holds, HoldsCommonTables, HoldsDesk, HoldsTables, IsAtRest, IsClean, IsDeskAt, IsDeskWith, IsLeft, IsOf, IsOpen, IsReadable, Judges, Keeps, LacksImage, Lasts, LeavesOld, LeavesOnly, LeavesOpen, Moves, Reads, RestsOver, Stays, desk}
 pub use Rattle.rd_store.specs.ImageCache.{IsAmong, IsLastOf}

@@ -1,7 +1,8 @@
 -- Two desks whose tables show the same.
-use Rattle.rd_store.proofs.Common.{◌≡◌, ◌∙◌, inl, inr, ℕ, ◌+◌, ◌<◌, List, [], ◌∷◌, length, get_or, map, Bool, true, false, Some, Result, Ok, Err, ap, arith, refl, subst, sym, IsErr, IsTrue, true≢false, nat_cmp, FinMap, entries, get, keys, same_entries_map, IfOk-weaker, ext_get_or, get_or-map, length-map, Row, Ghosts, Held, Spelling, entry_got, Desk, DeedRow, Compares, TellsSame, TellsSameBoth, IsClean, IsOpen, Keeps, Reads, desk, deed_spelling}
+use Rattle.rd_store.proofs.Common.{◌≡◌, ◌∙◌, ℕ, ◌+◌, ◌<◌, List, [], ◌∷◌, length, get_or, map, Bool, true, false, Some, Result, Ok, Err, ap, arith, refl, subst, sym, IsErr, IsTrue, true≢false, nat_cmp, FinMap, entries, get, keys, same_entries_map, IfOk-weaker, ext_get_or, get_or-map, length-map, Row, Ghosts, Held, Spelling, entry_got, Desk, DeedRow, Compares, TellsSame, IsOpen, Keeps, Reads, desk, deed_spelling, Global, Vec, below_more, subst₂, ⊤}
+use Rattle.rd_store.specs.declared.faults.StoreFault.{StoreFault}
 use Rattle.rd_store.proofs.CopyLemmas.{keeps_then, some_same}
-use Rattle.rd_store.proofs.Listings.{any_default, below_or_at, has_at}
+use Rattle.rd_store.proofs.Listings.{any_default, has_at}
 use Rattle.rd_store.proofs.Orders.{number_order}
 
 -- ---- rows that are the same
@@ -59,28 +60,16 @@ module _ {X : Type 0} (m n : FinMap nat_cmp X) (same_keys : keys m ≡ keys n) (
 pub not_told : {A : Type 0} (x y : A) → TellsSame x y false
 not_told x y told = absurd (true≢false (sym told))
 
-pub not_told_both : {A B : Type 0} (x y : A) (z w : B) → TellsSameBoth x y z w false
-not_told_both x y z w told = absurd (true≢false (sym told))
-
 -- a call that fails
-pub failed_both : {S U X : Type 0} (g : Ghosts S) (a b p q : Held S) → Keeps g a b → Keeps g p q → (x : Result U X) → IsErr x → (R : U → Type 0) → Compares g a b p q x R
-failed_both g a b p q one other (Err e) failed R = record { one = one; other = other; answer = λ o1 o2. tt; one_open = λ clean. tt; other_open = λ clean. tt }
-failed_both g a b p q one other (Ok u) failed R = absurd (true≢false (sym failed))
-
--- a second comparison that fails
-pub failed_then : {S U V X Y : Type 0} (g : Ghosts S) (a b c p q r : Held S) (A : V → Type 0) (first : V) → Compares {X = Y} g a b p q (Ok first) A → Keeps g b c → Keeps g q r → (x : Result U X) → IsErr x → (R : U → Type 0)
-    → Compares g a c p r x R
-failed_then g a b c p q r A first one two other x failed R = failed_both g a c p r (keeps_then g a b c one.one one.one_open two) (keeps_then g p q r one.other one.other_open other) x failed R
-
--- two desks are told to be the same but for their images
-abbrev pub SameMost : {S : Type 0} → Ghosts S → Held S → Held S → Bool → Type 0
-SameMost g a p told = IsTrue told → ((desk g a).deeds ≡ (desk g p).deeds) × ((desk g a).rules ≡ (desk g p).rules) × ((desk g a).keys ≡ (desk g p).keys) × ((desk g a).checks ≡ (desk g p).checks)
+pub failed_both : {S U X : Type 0} (g : Ghosts S) {a b p q : Held S} → Keeps g a b → Keeps g p q → (x : Result U X) → IsErr x → {R : U → Type 0} → Compares g a b p q x R
+failed_both g one other (Err e) failed = record { one = one; other = other; answer = λ o1 o2. tt; one_open = λ clean. tt; other_open = λ clean. tt }
+failed_both g one other (Ok u) failed = absurd (true≢false (sym failed))
 
 module _ {S X : Type 0} (g : Ghosts S) where
   -- both were asked
-  pub asked_both : {T U : Type 0} (a b p q : Held S) (P : T → Type 0) (Q : U → Type 0) (value : T) (other : U) → Reads {X = X} g a b (Ok value) P → Reads {X = X} g p q (Ok other) Q
-      → (told : Bool) (R : Bool → Type 0) → (P value → Q other → R told) → Compares {T = Bool} {X = X} g a b p q (Ok told) R
-  asked_both a b p q P Q value other one two told R answer = record {
+  pub asked_both : {T U V : Type 0} {a b p q : Held S} {P : T → Type 0} {Q : U → Type 0} {value : T} {other : U} → Reads {X = X} g a b (Ok value) P → Reads {X = X} g p q (Ok other) Q → {told : V} {R : V → Type 0} → (P value → Q other → R told)
+      → Compares {X = X} g a b p q (Ok told) R
+  asked_both one two answer = record {
     one = one.keeps;
     other = two.keeps;
     answer = λ o1 o2. answer (one.answer o1) (two.answer o2);
@@ -88,131 +77,78 @@ module _ {S X : Type 0} (g : Ghosts S) where
     other_open = two.ends_open;
   }
 
+  -- and showed rows that spell what each has
+  pub rows_compared : {K V : Type 0} (spelling : Spelling K V) → ((e : K × V) → spelling.entry (spelling.columns e) ≡ e) → (m n : FinMap spelling.cmp V) {a b p q : Held S} {rows others : Vec Row Global} → Reads {X = X} g a b (Ok rows) (λ r. r.items ≡ map spelling.columns (entries m))
+      → Reads {X = X} g p q (Ok others) (λ r. r.items ≡ map spelling.columns (entries n)) → {told : Bool} → TellsSame rows.items others.items told → Compares {X = X} g a b p q (Ok told) (TellsSame m n)
+  rows_compared spelling back m n {rows} {others} one two same = asked_both one two (λ is are told. same_spelled spelling back m n rows.items others.items is are (same told))
+
   -- a second comparison after a first
-  pub compares_then : (a b c p q r : Held S) (A C D : Bool → Type 0) (first : Bool) → Compares {T = Bool} {X = X} g a b p q (Ok first) A → (x : Result Bool X) → Compares g b c q r x C
-      → ((told : Bool) → IsOpen g b → IsOpen g q → A first → C told → D told) → Compares g a c p r x D
-  compares_then a b c p q r A C D first one x two more = record {
+  pub compares_then : {T U : Type 0} {a b c p q r : Held S} {A : T → Type 0} {first : T} → Compares {X = X} g a b p q (Ok first) A → {C D : U → Type 0} {x : Result U X} → Compares g b c q r x C
+      → (IsOpen g b → IsOpen g q → A first → (told : U) → C told → D told) → Compares g a c p r x D
+  compares_then {a} {b} {c} {p} {q} {r} one {C} {D} {x} two more = record {
     one = keeps_then g a b c one.one one.one_open two.one;
     other = keeps_then g p q r one.other one.other_open two.other;
     answer = λ o1 o2.
         let b_open = two.one.lasts.was_open o1 in
         let q_open = two.other.lasts.was_open o2 in
-        IfOk-weaker x C D (λ told answers. more told b_open q_open (one.answer b_open q_open) answers) (two.answer o1 o2);
+        IfOk-weaker x C D (more b_open q_open (one.answer b_open q_open)) (two.answer o1 o2);
     one_open = two.one_open;
     other_open = two.other_open;
   }
 
-  -- a comparison that found a difference
-  pub differ : (a b p q : Held S) (B : Bool → Type 0) (first : Bool) → Compares {T = Bool} {X = X} g a b p q (Ok first) B → (R : Bool → Type 0) → R false → Compares {T = Bool} {X = X} g a b p q (Ok false) R
-  differ a b p q B first one R none = record { one = one.one; other = one.other; answer = λ o1 o2. none; one_open = one.one_open; other_open = one.other_open }
+  -- what is answered is told in another way
+  pub told_as : {T U : Type 0} {a b p q : Held S} {A : T → Type 0} {x : T} → Compares {X = X} g a b p q (Ok x) A → {B : U → Type 0} {y : U} → (A x → B y) → Compares {X = X} g a b p q (Ok y) B
+  told_as one so = record { one = one.one; other = one.other; answer = λ o1 o2. so (one.answer o1 o2); one_open = one.one_open; other_open = one.other_open }
 
-  -- a second that found one
-  pub differ_then : (a b c p q r : Held S) (B C : Bool → Type 0) (first : Bool) → Compares {T = Bool} {X = X} g a b p q (Ok first) B → (told : Bool) → Compares {T = Bool} {X = X} g b c q r (Ok told) C → (R : Bool → Type 0) → R false
-      → Compares {T = Bool} {X = X} g a c p r (Ok false) R
-  differ_then a b c p q r B C first one told two R none = record {
-    one = keeps_then g a b c one.one one.one_open two.one;
-    other = keeps_then g p q r one.other one.other_open two.other;
-    answer = λ o1 o2. none;
-    one_open = two.one_open;
-    other_open = two.other_open;
-  }
+  -- whatever both answer
+  pub after_it : {T U : Type 0} {a b c p q r : Held S} {A : T → Type 0} {first : T} → Compares {X = X} g a b p q (Ok first) A → {C : U → Type 0} {x : Result U X} → Compares g b c q r x C → Compares g a c p r x (λ _. ⊤)
+  after_it one two = compares_then one two (λ b_open q_open answered told answers. tt)
 
-  -- the same of two pairs
-  pub same_both : {A B : Type 0} (f : Desk → A) (h : Desk → B) (a b c p q r : Held S) (first : Bool) → IsTrue first → Compares {T = Bool} {X = X} g a b p q (Ok first) (TellsSame (f (desk g a)) (f (desk g p))) → (x : Result Bool X)
-      → Compares g b c q r x (TellsSame (h (desk g b)) (h (desk g q))) → Compares g a c p r x (TellsSameBoth (f (desk g a)) (f (desk g p)) (h (desk g a)) (h (desk g p)))
-  same_both f h a b c p q r first sure one x two =
-      compares_then a b c p q r (TellsSame (f (desk g a)) (f (desk g p))) (TellsSame (h (desk g b)) (h (desk g q))) (TellsSameBoth (f (desk g a)) (f (desk g p)) (h (desk g a)) (h (desk g p))) first one x two
-      (λ told b_open q_open same rest is. (same sure, ap h (sym (one.one.same b_open)) ∙ rest is ∙ ap h (one.other.same q_open)))
+  -- both are the same
+  pub both_same : (A C : Desk → Desk → Type 0) {a b c p q r : Held S} {first : Bool} → IsTrue first → Compares {X = X} g a b p q (Ok first) (λ told. IsTrue told → A (desk g a) (desk g p)) → {x : Result Bool X}
+      → Compares g b c q r x (λ told. IsTrue told → C (desk g b) (desk g q)) → Compares g a c p r x (λ told. IsTrue told → A (desk g a) (desk g p) × C (desk g a) (desk g p))
+  both_same A C sure one two = compares_then one two (λ b_open q_open same told rest is. (same sure, subst₂ C (one.one.same b_open) (one.other.same q_open) (rest is)))
 
-  -- and of all
-  module _ (a b c d p q r s : Held S) (first second : Bool) (sure : IsTrue first) (well : IsTrue second) where
-    pub same_all_but_images : Compares {T = Bool} {X = X} g a b p q (Ok first) (TellsSameBoth (desk g a).deeds (desk g p).deeds (desk g a).rules (desk g p).rules)
-        → Compares {T = Bool} {X = X} g b c q r (Ok second) (TellsSameBoth (desk g b).keys (desk g q).keys (desk g b).checks (desk g q).checks) → Compares {T = Bool} {X = X} g a c p r (Ok second) (SameMost g a p)
-    same_all_but_images one two =
-        compares_then a b c p q r (TellsSameBoth (desk g a).deeds (desk g p).deeds (desk g a).rules (desk g p).rules) (TellsSameBoth (desk g b).keys (desk g q).keys (desk g b).checks (desk g q).checks) (SameMost g a p) first one (Ok second) two
-        (λ told b_open q_open same rest is. (
-          (same sure).0,
-          (same sure).1,
-          ap (λ (e : Desk). e.keys) (sym (one.one.same b_open)) ∙ (rest is).0 ∙ ap (λ (e : Desk). e.keys) (one.other.same q_open),
-          ap (λ (e : Desk). e.checks) (sym (one.one.same b_open)) ∙ (rest is).1 ∙ ap (λ (e : Desk). e.checks) (one.other.same q_open),
-        ))
+-- what tables of two desks are the same
+abbrev pub SameTerms : Desk → Desk → Type 0
+SameTerms d e = (d.deeds ≡ e.deeds) × (d.rules ≡ e.rules)
 
-    pub same_desks : Compares {T = Bool} {X = X} g a b p q (Ok first) (TellsSameBoth (desk g a).deeds (desk g p).deeds (desk g a).rules (desk g p).rules)
-        → Compares {T = Bool} {X = X} g b c q r (Ok second) (TellsSameBoth (desk g b).keys (desk g q).keys (desk g b).checks (desk g q).checks)
-        → (x : Result Bool X) → Compares g c d r s x (TellsSame (desk g c).images (desk g r).images) → Compares g a d p s x (TellsSame (desk g a) (desk g p))
-    same_desks one two x three =
-        let most = same_all_but_images one two in
-        compares_then a c d p r s (SameMost g a p) (TellsSame (desk g c).images (desk g r).images) (TellsSame (desk g a) (desk g p)) second most x three
-        (λ told c_open r_open same rest is.
-        let rows = same well in
-        let images : (desk g a).images ≡ (desk g p).images = ap (λ (e : Desk). e.images) (sym (most.one.same c_open)) ∙ rest is ∙ ap (λ (e : Desk). e.images) (most.other.same r_open) in
-        λ i. record { deeds = rows.0 i; images = images i; rules = rows.1 i; keys = rows.2 i; checks = rows.3 i })
+abbrev pub SameNotes : Desk → Desk → Type 0
+SameNotes d e = SameTerms d e × (d.keys ≡ e.keys)
+
+abbrev pub SameRows : Desk → Desk → Type 0
+SameRows d e = SameNotes d e × (d.checks ≡ e.checks)
+
+-- and all that both hold
+pub same_desks : {S X : Type 0} (g : Ghosts S) {a b p q : Held S} (x : Result Bool X) → Compares g a b p q x (λ told. IsTrue told → SameRows (desk g a) (desk g p) × ((desk g a).images ≡ (desk g p).images)) → Compares g a b p q x (TellsSame (desk g a) (desk g p))
+same_desks g {a} {p} x all = record {
+  one = all.one;
+  other = all.other;
+  answer = λ o1 o2. IfOk-weaker x _ _ (λ told same is. let it = same is in λ i. record { deeds = it.0.0.0.0 i; images = it.1 i; rules = it.0.0.0.1 i; keys = it.0.0.1 i; checks = it.0.1 i }) (all.answer o1 o2);
+  one_open = all.one_open;
+  other_open = all.other_open;
+}
 
 -- ---- images that are compared one by one
 
 module _ {S : Type 0} (g : Ghosts S) (a p : Held S) (numbers : List ℕ) where
   -- the images of both desks have these numbers, and so many are the same
-  pub record SameFirst (b q : Held S) (count : ℕ) : Type 0 where
-    pub one : Keeps g a b
-    pub one_open : IsClean g b → IsOpen g b
-    pub other : Keeps g p q
-    pub other_open : IsClean g q → IsOpen g q
-    pub named : IsOpen g b → IsOpen g q → (numbers ≡ keys (desk g a).images) × (numbers ≡ keys (desk g p).images)
-    pub same : IsOpen g b → IsOpen g q → (k : ℕ) → k < count → get (desk g a).images (get_or numbers k 0) ≡ get (desk g p).images (get_or numbers k 0)
+  abbrev pub AreSame : ℕ → Type 0
+  AreSame count = (numbers ≡ keys (desk g a).images) × (numbers ≡ keys (desk g p).images) × ((k : ℕ) → k < count → get (desk g a).images (get_or numbers k 0) ≡ get (desk g p).images (get_or numbers k 0))
+
+  abbrev pub SameFirst : Held S → Held S → ℕ → Type 0
+  SameFirst b q count = Compares {T = Unit {0}} {X = StoreFault} g a b p q (Ok tt) (λ _. AreSame count)
 
   -- one more is
-  module _ (b c q r : Held S) (at acc : ℕ) (low : at < length numbers) (is : acc ≡ get_or numbers at acc) where
-    abbrev SameHere : Bool → Type 0
-    SameHere = TellsSame (get (desk g b).images acc) (get (desk g q).images acc)
-
-    pub same_next : {X : Type 0} (told : Bool) → IsTrue told → SameFirst b q at → Compares {T = Bool} {X = X} g b c q r (Ok told) SameHere → SameFirst c r (at + 1)
-    same_next told sure first next = record {
-      one = keeps_then g a b c first.one first.one_open next.one;
-      one_open = next.one_open;
-      other = keeps_then g p q r first.other first.other_open next.other;
-      other_open = next.other_open;
-      named = λ o1 o2. first.named (next.one.lasts.was_open o1) (next.other.lasts.was_open o2);
-      same = λ o1 o2 k low_k.
-          let b_open = next.one.lasts.was_open o1 in
-          let q_open = next.other.lasts.was_open o2 in
-          elim (below_or_at k at low_k) [
-            | inl early ↦ first.same b_open q_open k early
-            | inr last ↦
-                let here : get_or numbers k 0 ≡ acc = ap (λ n. get_or numbers n 0) last ∙ any_default numbers at 0 acc low ∙ sym is in
-                let images : get (desk g a).images acc ≡ get (desk g p).images acc =
-                ap (λ (d : Desk). get d.images acc) (sym (first.one.same b_open)) ∙ next.answer o1 o2 sure ∙ ap (λ (d : Desk). get d.images acc) (first.other.same q_open) in
-                subst (λ n. get (desk g a).images n ≡ get (desk g p).images n) (sym here) images
-          ];
-    }
-
-    pub same_stop : {X : Type 0} (told : Bool) → SameFirst b q at → Compares {T = Bool} {X = X} g b c q r (Ok told) SameHere → Compares {T = Bool} {X = X} g a c p r (Ok false) (TellsSame (desk g a).images (desk g p).images)
-    same_stop told first next = record {
-      one = keeps_then g a b c first.one first.one_open next.one;
-      other = keeps_then g p q r first.other first.other_open next.other;
-      answer = λ o1 o2. not_told _ _;
-      one_open = next.one_open;
-      other_open = next.other_open;
-    }
-
-    pub same_fail : {X Y Z : Type 0} (e : X) → SameFirst b q at → Compares {T = Bool} {X = X} g b c q r (Err e) SameHere → (f : Result Z Y) → IsErr f → (B : Z → Type 0) → Compares g a c p r f B
-    same_fail e first next (Err f) failed B = record {
-      one = keeps_then g a b c first.one first.one_open next.one;
-      other = keeps_then g p q r first.other first.other_open next.other;
-      answer = λ o1 o2. tt;
-      one_open = λ clean. tt;
-      other_open = λ clean. tt;
-    }
-    same_fail e first next (Ok f) failed B = absurd (true≢false (sym failed))
+  pub same_next : {b c q r : Held S} (at acc : ℕ) → at < length numbers → acc ≡ get_or numbers at acc → SameFirst b q at → {x : Result Bool StoreFault} → Compares g b c q r x (TellsSame (get (desk g b).images acc) (get (desk g q).images acc))
+      → Compares g a c p r x (λ told. IsTrue told → AreSame (at + 1))
+  same_next at acc low is first next = compares_then g first next (λ b_open q_open are told same sure.
+      let here : get_or numbers at 0 ≡ acc = any_default numbers at 0 acc low ∙ sym is in
+      let images : get (desk g a).images acc ≡ get (desk g p).images acc =
+      ap (λ (d : Desk). get d.images acc) (sym (first.one.same b_open)) ∙ same sure ∙ ap (λ (d : Desk). get d.images acc) (first.other.same q_open) in
+      (are.0, are.1, below_more (λ k. get (desk g a).images (get_or numbers k 0) ≡ get (desk g p).images (get_or numbers k 0)) at are.2 (subst (λ n. get (desk g a).images n ≡ get (desk g p).images n) (sym here) images)))
 
   -- all are
-  pub same_all : {X : Type 0} (b q : Held S) (at : ℕ) → SameFirst b q at → at ≡ length numbers → Compares {T = Bool} {X = X} g a b p q (Ok true) (TellsSame (desk g a).images (desk g p).images)
-  same_all b q at first end = record {
-    one = first.one;
-    other = first.other;
-    answer = λ o1 o2 told.
-        let named = first.named o1 o2 in
-        same_maps (desk g a).images (desk g p).images (sym named.0 ∙ named.1)
-        (λ k low. subst (λ (ks : List ℕ). get (desk g a).images (get_or ks k 0) ≡ get (desk g p).images (get_or ks k 0)) named.0 (first.same o1 o2 k (omega (arith, low, end, ap length named.0))));
-    one_open = first.one_open;
-    other_open = first.other_open;
-  }
+  pub same_all : {b q : Held S} (at : ℕ) → SameFirst b q at → at ≡ length numbers → Compares {T = Bool} {X = StoreFault} g a b p q (Ok true) (TellsSame (desk g a).images (desk g p).images)
+  same_all at first end = told_as g first (λ are told. same_maps (desk g a).images (desk g p).images (sym are.0 ∙ are.1)
+      (λ k low. subst (λ (ks : List ℕ). get (desk g a).images (get_or ks k 0) ≡ get (desk g p).images (get_or ks k 0)) are.0 (are.2 k (omega (arith, low, end, ap length are.0)))))

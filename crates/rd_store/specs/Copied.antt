@@ -1,7 +1,7 @@
 -- A desk that is copied into a database without tables.
 use Rattle.std.specs.Prelude.{◌≡◌, ◌⊎◌, ℕ, Bool, IfOk, IsTrue, map, MatchBool, Result, Some, ⊤}
 use Rattle.sqlite.specs.declared.types.Value.{Value}
-use Rattle.sqlite.specs.declared.types.Value.TheVariants.{Null, Int, Real, Text, Blob}
+use Rattle.sqlite.specs.declared.types.Value.TheVariants.{Real}
 use Rattle.std.specs.FinMap.{FinMap, entries, get}
 use Rattle.std.specs.Ordering.{nat_cmp}
 use Rattle.sqlite.specs.Store.{Ghosts}
@@ -99,19 +99,12 @@ pub record Compares {S T X : Type 0} (g : Ghosts S) (one_old one_new other_old o
 
 -- a value is no number with a fraction, which no desk has
 abbrev pub IsWhole : Value → Type 0
-IsWhole Null = ⊤
-IsWhole (Int number) = ⊤
 IsWhole (Real number) = ⊥
-IsWhole (Text text) = ⊤
-IsWhole (Blob bytes) = ⊤
+IsWhole value = ⊤
 
 -- what is told to be the same is
 abbrev pub TellsSame : {A : Type 0} → A → A → Bool → Type 0
 TellsSame one other told = IsTrue told → one ≡ other
-
--- the same of two pairs
-abbrev pub TellsSameBoth : {A B : Type 0} → A → A → B → B → Bool → Type 0
-TellsSameBoth one other second last told = IsTrue told → (one ≡ other) × (second ≡ last)
 
 -- A copy has the same desk as the connection that was read, where both are open.
 pub record IsSameCopy {S : Type 0} (g : Ghosts S) (copy from read new : Held S) : Type 0 where

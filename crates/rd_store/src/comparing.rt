@@ -4,7 +4,7 @@ ghost use Rattle.std.specs.Prelude.{◌≡◌, ◌≢◌, ◌<◌, false, length
 ghost use Rattle.std.specs.FinMap.{get};
 ghost use Rattle.sqlite.specs.Order.{column};
 ghost use Rattle.sqlite_value.specs.Value.{owned};
-ghost use Rattle.rd_store.specs.Copied.{Compares, IsWhole, TellsSame, TellsSameBoth};
+ghost use Rattle.rd_store.specs.Copied.{Compares, IsWhole, TellsSame};
 ghost use Rattle.rd_store.specs.Held.{desk};
 
 use crate::faults::StoreFault;
@@ -173,30 +173,6 @@ fn has_same_images<S: Alter>(
     Ok(true)
 }
 
-/// Whether two desks have the same deeds and the same rules.
-fn has_same_terms<S: Alter>(one: &mut Store<S>, other: &mut Store<S>) -> Result<bool, StoreFault>
-    ensures compares { Compares S.Store one.old one.new other.old other.new result
-        (TellsSameBoth (desk S.Store one.old).deeds (desk S.Store other.old).deeds (desk S.Store one.old).rules (desk S.Store other.old).rules) }
-{
-    let has_same = has_same_deeds(one, other)?;
-    if !has_same {
-        return Ok(false);
-    }
-    has_same_rules(one, other)
-}
-
-/// Whether two desks have the same keys and the same checks.
-fn has_same_notes<S: Alter>(one: &mut Store<S>, other: &mut Store<S>) -> Result<bool, StoreFault>
-    ensures compares { Compares S.Store one.old one.new other.old other.new result
-        (TellsSameBoth (desk S.Store one.old).keys (desk S.Store other.old).keys (desk S.Store one.old).checks (desk S.Store other.old).checks) }
-{
-    let has_same = has_same_keys(one, other)?;
-    if !has_same {
-        return Ok(false);
-    }
-    has_same_checks(one, other)
-}
-
 /// Whether two stores have the same desk. It reads each row and each image of both.
 pub(crate) fn is_same_desk<S: Alter>(
     alloc: Global,
@@ -206,12 +182,20 @@ pub(crate) fn is_same_desk<S: Alter>(
     ensures compares { Compares S.Store one.old one.new other.old other.new result
         (TellsSame (desk S.Store one.old) (desk S.Store other.old)) }
 {
-    let has_terms = has_same_terms(one, other)?;
-    if !has_terms {
+    let has_deeds = has_same_deeds(one, other)?;
+    if !has_deeds {
         return Ok(false);
     }
-    let has_notes = has_same_notes(one, other)?;
-    if !has_notes {
+    let has_rules = has_same_rules(one, other)?;
+    if !has_rules {
+        return Ok(false);
+    }
+    let has_keys = has_same_keys(one, other)?;
+    if !has_keys {
+        return Ok(false);
+    }
+    let has_checks = has_same_checks(one, other)?;
+    if !has_checks {
         return Ok(false);
     }
     has_same_images(alloc, one, other)
