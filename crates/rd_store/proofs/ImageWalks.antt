@@ -1,5 +1,5 @@
 -- What a walk over the images finds.
-use Rattle.rd_store.proofs.Common.{some_got, and_true, from_map, in_map, map_map, ◌≡◌, inl, inr, ℕ, ◌-◌, pos, List, [], ◌∷◌, ◌++◌, map, filter, length, take, All, Bool, true, false, Option, Some, None, IsSome, option_map, slice_get, Result, Ok, Err, refl, sym, ap, ap₂, subst, ◌∙◌, arith, nat_cmp, MatchBool, IsErrAnd, FinMap, entries, get, keys, length_push, map-append, All-from_recursion, All-weaker, Int, Database, IsDatabase, Held, state, Row, column, Ghosts, Table, Trees, id_in, Has, has_either, Length, TypeOf, AreRising, IsListed, greater, all_images_query, all_marks_query, desk_with, IsSpelled, Spells, entry_of, map_of, natural, entry_got, got_entry, all_in, row_got, rows_lawful, greater_int, OpenFault, Heading, ImageRow, HasErrorBytes, IsImageRow, IsMarksRow, is_number, is_one_of, IsScope, IsClean, IsOpen, Stays, AreFiledUnder, AreKeys, AreListed, HaveAccessions, HaveFiles, IsConsistent, IsConsistentAs, IsImageOf, JudgedPart, LawfulCommon, LawfulImages, LawfulMarks, TestsPart, is_among, entry_in, number_of, register_of, as_row, HasVersion, deed_spelling, image_spelling, images_of, marks_spelling, unmarked, AreBatchOf, AreFiledOf, AreNextOf, AreReadNext, HasFilesOnce, IsJudgedImage, IsLawfulAt, IsReadOf, IsWalk, IsWalkTo, LawfulGivenWalk, LawfulWalk, SpellMarksIf, StandsOnce, image_read, image_columns, last_number}
+use Rattle.rd_store.proofs.Common.{some_got, and_true, from_map, in_map, map_map, ◌≡◌, inl, inr, ℕ, ◌-◌, pos, List, [], ◌∷◌, ◌++◌, map, filter, length, take, All, true, Option, Some, None, IsSome, option_map, slice_get, Result, Ok, Err, refl, sym, ap, ap₂, subst, ◌∙◌, arith, nat_cmp, IsErrAnd, FinMap, entries, get, keys, length_push, map-append, All-from_recursion, All-weaker, Int, Database, IsDatabase, Held, state, Row, column, Ghosts, Table, Trees, id_in, Has, has_either, Length, TypeOf, AreRising, IsListed, greater, all_images_query, all_marks_query, desk_with, IsSpelled, Spells, entry_of, map_of, natural, entry_got, got_entry, all_in, row_got, rows_lawful, greater_int, OpenFault, Heading, ImageRow, HasErrorBytes, IsImageRow, IsMarksRow, is_number, is_one_of, IsScope, IsClean, IsOpen, Stays, AreFiledUnder, AreKeys, AreListed, HaveAccessions, HaveFiles, IsConsistent, IsConsistentAs, IsImageOf, JudgedPart, LawfulCommon, LawfulImages, LawfulMarks, TestsPart, is_among, entry_in, number_of, register_of, as_row, HasVersion, deed_spelling, image_spelling, images_of, marks_spelling, unmarked, AreBatchOf, AreFiledOf, AreNextOf, AreReadNext, HasFilesOnce, IsJudgedImage, IsLawfulAt, IsReadOf, IsWalk, IsWalkTo, LawfulGivenWalk, LawfulWalk, SpellMarksIf, StandsOnce, image_read, image_columns, last_number, Inconsistent}
 use Rattle.sqlite_sql.specs.Ops.{unary}
 use Rattle.rd_tables.specs.Walks.{AreNext, ComesNext, IsWalked, is_after}
 use Rattle.rd_tables.proofs.RowWalks.{all_walked, comes_from, each_next, none_next, walk_goes_on, walk_starts}
@@ -16,10 +16,10 @@ use Rattle.rd_store.proofs.RowTests.{accession_numbers, images_told, marked_numb
 
 -- ---- one test after another
 
--- a test after a query
-module _ {S : Type 0} (g : Ghosts S) (a b c : Held S) (stays : Stays g a b) (opens : IsClean g b → IsOpen g b) where
-  pub then_part : {T : Type 0} (r : Result T OpenFault) (Part P : Trees → Type 0) → TestsPart g b c r Part P → TestsPart g a c r Part P
-  then_part r Part P next = record {
+module _ {S : Type 0} (g : Ghosts S) where
+  -- a test after a query
+  pub then_part : {T : Type 0} {a b c : Held S} {r : Result T OpenFault} {Part P : Trees → Type 0} → Stays g a b → (IsClean g b → IsOpen g b) → TestsPart g b c r Part P → TestsPart g a c r Part P
+  then_part {a} {b} {c} {r} {Part} {P} stays opens next = record {
     stays = stays_then g a b c stays opens next.stays;
     judges = λ o. subst (λ (db : Database). JudgedPart (Part db.trees) (P db.trees) r) (stays.now (next.stays.lasts.was_open o)) (next.judges o);
     ends_open = next.ends_open;
@@ -27,14 +27,14 @@ module _ {S : Type 0} (g : Ghosts S) (a b c : Held S) (stays : Stays g a b) (ope
     named = next.named;
   }
 
--- a test whose result tells more, or less
-module _ {S : Type 0} (g : Ghosts S) (a b : Held S) {T U : Type 0} (Part P More Q : Trees → Type 0) where
-  pub part_ok : (value : T) (other : U) → (IsOpen g b → Part (state g a).now.trees → More (state g a).now.trees) → TestsPart g a b (Ok value) Part P → TestsPart g a b (Ok other) More Q
-  part_ok value other more tests = record { stays = tests.stays; judges = λ o. more o (tests.judges o); ends_open = tests.ends_open; refuses = tt; named = tt }
+  -- a test whose result tells more, or less
+  pub part_ok : {T U : Type 0} {a b : Held S} {Part P More Q : Trees → Type 0} {value : T} {other : U} → (IsOpen g b → Part (state g a).now.trees → More (state g a).now.trees) → TestsPart g a b (Ok value) Part P → TestsPart g a b (Ok other) More Q
+  part_ok more tests = record { stays = tests.stays; judges = λ o. more o (tests.judges o); ends_open = tests.ends_open; refuses = tt; named = tt }
 
-  pub part_refused : (fault : OpenFault) (q : Result U OpenFault) → IsErrAnd q (λ other. other ≡ fault) → (IsOpen g b → Q (state g a).now.trees → P (state g a).now.trees) → TestsPart {T = T} g a b (Err fault) Part P → TestsPart g a b q More Q
-  part_refused fault (Ok value) is from tests = absurd is
-  part_refused fault (Err other) is from tests = subst (λ e. TestsPart {T = U} g a b (Err e) More Q) (sym is) (record {
+  pub part_refused : {T U : Type 0} {a b : Held S} {Part P More Q : Trees → Type 0} {fault : OpenFault} (q : Result U OpenFault) → IsErrAnd q (λ other. other ≡ fault) → (IsOpen g b → Q (state g a).now.trees → P (state g a).now.trees) → TestsPart {T = T} g a b (Err fault) Part P
+      → TestsPart g a b q More Q
+  part_refused (Ok value) is from tests = absurd is
+  part_refused {U} {a} {b} {P} {More} {Q} {fault} (Err other) is from tests = subst (λ e. TestsPart {T = U} g a b (Err e) More Q) (sym is) (record {
     stays = tests.stays;
     judges = λ o. denied_part (P (state g a).now.trees) (Q (state g a).now.trees) fault (from o) (tests.judges o);
     ends_open = λ clean. tt;
@@ -42,16 +42,20 @@ module _ {S : Type 0} (g : Ghosts S) (a b : Held S) {T U : Type 0} (Part P More 
     named = tests.named;
   })
 
--- a refusal that tells nothing
-pub sql_part : {S U : Type 0} (g : Ghosts S) (a b : Held S) → Stays g a b → (Part P : Trees → Type 0) (fault : OpenFault) (q : Result U OpenFault) → IsErrAnd q (λ other. other ≡ fault) → fault ≡ Sql → TestsPart g a b q Part P
-sql_part g a b stays Part P fault (Ok value) is sql = absurd is
-sql_part {S} {U} g a b stays Part P fault (Err other) is sql = subst (λ e. TestsPart {T = U} g a b (Err e) Part P) (sym (is ∙ sql)) (record {
-  stays = stays;
-  judges = λ o. tt;
-  ends_open = λ clean. tt;
-  refuses = λ not_desk not_sql clean. absurd (not_sql refl);
-  named = λ e. absurd cc;
-})
+  -- after it something is refused
+  pub part_denied : {T U : Type 0} {a b : Held S} {Part P More Q : Trees → Type 0} {value : T} → (IsOpen g b → Part (state g a).now.trees → ¬ Q (state g a).now.trees) → TestsPart g a b (Ok value) Part P → TestsPart {T = U} g a b (Err Inconsistent) More Q
+  part_denied denied tests = record { stays = tests.stays; judges = λ o. denied o (tests.judges o); ends_open = λ clean. tt; refuses = λ not_desk not_sql clean. tests.ends_open clean; named = λ is. absurd cc }
+
+  -- a refusal that tells nothing
+  pub sql_part : {U : Type 0} {a b : Held S} {Part P : Trees → Type 0} {fault : OpenFault} → Stays g a b → (q : Result U OpenFault) → IsErrAnd q (λ other. other ≡ fault) → fault ≡ Sql → TestsPart g a b q Part P
+  sql_part stays (Ok value) is sql = absurd is
+  sql_part {U} {a} {b} {Part} {P} stays (Err other) is sql = subst (λ e. TestsPart {T = U} g a b (Err e) Part P) (sym (is ∙ sql)) (record {
+    stays = stays;
+    judges = λ o. tt;
+    ends_open = λ clean. tt;
+    refuses = λ not_desk not_sql clean. absurd (not_sql refl);
+    named = λ e. absurd cc;
+  })
 
 -- ---- what is read
 
@@ -288,8 +292,3 @@ module _ (trees : Trees) (accessions : List ℕ) (listed : List (ℕ × Heading)
       let are = walked_keys [] accessions trees listed walk same in
       let have = walked_files [] accessions trees listed walk same common.given.1.spells (λ acc there. absurd cc) (have_accessions accessions trees filed) in
       consistent_first trees accessions version common (lawful_files [] accessions trees are filed have files.0 files.1 more db is schema sound)
-
--- numbers that ascend
-pub truth_of : (b : Bool) (P Q : Type 0) → MatchBool b P Q → b ≡ true → P
-truth_of true P Q holds is = holds
-truth_of false P Q holds is = absurd cc

@@ -259,23 +259,8 @@ fn check_common<S: Alter>(
     Ok((accessions, register))
 }
 
-/// The rows of error bytes, if each has as many as a 1541 disk has blocks, of an accession. Whether that accession
-/// stands is judged once all are known.
-fn marks_listed<S: Alter>(conn: &mut Connection<S>) -> Result<Vec<Row>, OpenFault>
-    requires tables { HoldsTables (state S.Store conn.old) }
-    ensures tests { TestsPart S.Store conn.old conn.new result (λ trees. ⊤) IsConsistent }
-    ensures listed { IsOpen S.Store conn.new → IfOk result (λ rows.
-        IsListed (listing_query TableListing.Marks) ((state S.Store conn.old).now.trees 11) rows.items) }
-    ensures rising { IfOk result (λ rows. AreRising rows.items) }
-{
-    let rows = read_listing(conn, TableListing::Marks)?;
-    if !have_error_bytes(&rows) {
-        return Err(OpenFault::Inconsistent);
-    }
-    Ok(rows)
-}
-
-/// The rows of error bytes, and the accessions in them, ascending.
+/// The rows of error bytes, if each has as many as a 1541 disk has blocks, and the accessions in them, ascending. Whether
+/// these accessions stand is judged once all are known.
 fn read_marks<S: Alter>(
     alloc: Global,
     conn: &mut Connection<S>,
@@ -287,7 +272,10 @@ fn read_marks<S: Alter>(
     ensures numbers { IfOk result (λ marks. marks.1.items ≡ map (λ row. natural (column row 0)) marks.0.items) }
     ensures ascending { IfOk result (λ marks. IsNonDecreasing marks.1.items) }
 {
-    let rows = marks_listed(conn)?;
+    let rows = read_listing(conn, TableListing::Marks)?;
+    if !have_error_bytes(&rows) {
+        return Err(OpenFault::Inconsistent);
+    }
     match read_numbers(alloc, &rows) {
         Ok(numbers) => Ok((rows, numbers)),
         Err(_) => Err(OpenFault::Sql),

@@ -1,4 +1,4 @@
-use Rattle.rd_store.proofs.Common.{◌∷◌, [], List, pos, sym, subst, subst₂, MatchBool, Int, Database, state, Row, AreFounds, Found, IsPicked, files_query, ShowFiles, AreFilesIn, image_if, HasDiskOnce, HasFilesOnce, IsLawfulAt, IsLawfulDisk, ImageRow}
+use Rattle.rd_store.proofs.Common.{◌∷◌, [], List, pos, sym, subst, subst₂, MatchBool, Int, Database, state, Row, AreFounds, Found, IsPicked, files_query, ShowFiles, AreFilesIn, image_if, ImageRow}
 use Rattle.rd_store.proofs.IndexTests.{has_files, shows_files}
 use Rattle.rd_store.proofs.Laws.{stays_common, stays_then}
 use Rattle.rd_store.proofs.ImageWalks.{part_refused}
@@ -9,10 +9,7 @@ file_rows-requires g c = record { tables = stays_common g.S.Store c.args.conn.no
 
 -- the image is not what the tables of a desk have there
 pub returns-in_err-image : goal.returns-in_err-image
-returns-in_err-image g c = record {
-  tests = part_refused g.S.Store c.args.conn.now c.whole_image.new.conn (HasDiskOnce c.args.is_marked c.args.acc) (IsLawfulDisk c.args.is_marked c.args.acc) (HasFilesOnce c.args.is_marked c.args.acc) (IsLawfulAt c.args.is_marked c.args.acc)
-      c.in_err-image.field-0.0 c.from_residual.result c.from_residual.ensures.1 (λ is_open lawful. (lawful.0, lawful.2.disk)) c.in_err-image.ensures.tests;
-}
+returns-in_err-image g c = record { tests = part_refused g.S.Store c.from_residual.result c.from_residual.ensures.1 (λ is_open lawful. (lawful.0, lawful.2.disk)) c.in_err-image.ensures.tests }
 
 pub returns-then-branch : goal.returns-then-branch
 returns-then-branch g c = record {

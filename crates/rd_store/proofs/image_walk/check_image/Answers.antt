@@ -1,4 +1,4 @@
-use Rattle.rd_store.proofs.Common.{◌≡◌, ◌∙◌, ℕ, ap, subst, subst₂, sym, state, column, natural, Heading, HoldsMarksIf, HasFilesOnce, IsJudgedImage, IsLawfulAt, LawfulWalk, StandsOnce}
+use Rattle.rd_store.proofs.Common.{◌≡◌, ◌∙◌, ℕ, ap, subst, subst₂, sym, state, column, natural, Heading, HoldsMarksIf, HasFilesOnce, IsLawfulAt, StandsOnce}
 use Rattle.rd_store.proofs.Laws.{stays_here}
 use Rattle.rd_store.proofs.ImageWalks.{among_read, lawful_at, lawful_read, part_ok, part_refused, read_once, sql_part}
 use Rattle.rd_store.proofs.image_walk.check_image.Goals as goal
@@ -14,8 +14,7 @@ returns-then-not-is_image-clause-tests g c = record {
 
 pub returns-in_err-entry-clause-tests : goal.returns-in_err-entry-clause-tests
 returns-in_err-entry-clause-tests g c =
-    sql_part g.S.Store c.args.conn.now c.args.conn.now (stays_here g.S.Store c.args.conn.now (λ is_open. (c.requires.tables is_open).rests.autocommit)) (IsJudgedImage c.args.deeds.now c.args.marked.now c.args.row.now) (LawfulWalk c.args.deeds.now c.args.marked.now)
-    c.in_err-entry.field-0.0 c.from_residual.result c.from_residual.ensures.1 c.in_err-entry.ensures.fault
+    sql_part g.S.Store (stays_here g.S.Store c.args.conn.now (λ is_open. (c.requires.tables is_open).rests.autocommit)) c.from_residual.result c.from_residual.ensures.1 c.in_err-entry.ensures.fault
 
 pub check_files-requires-clause-marks : goal.check_files-requires-clause-marks
 check_files-requires-clause-marks g c =
@@ -29,25 +28,17 @@ check_files-requires-clause-row g c is_open =
 
 pub returns-in_err-check_files-clause-tests : goal.returns-in_err-check_files-clause-tests
 returns-in_err-check_files-clause-tests g c =
-    let deeds = c.args.deeds.now in
-    let marked = c.args.marked.now in
     let row = c.args.row.now in
     let trees = (state g.S.Store c.args.conn.now).now.trees in
     let number : c.in_ok-entry.entry.0 ≡ natural (column row 0) = ap (λ (e : ℕ × Heading). e.0) c.in_ok-entry.ensures.entry in
-    let among = c.has_one_of.ensures ∙ among_read deeds marked row c.if-not-is_image.ensures in
-    part_refused g.S.Store c.args.conn.now c.check_files.new.conn (HasFilesOnce c.has_one_of.result c.in_ok-entry.entry.0) (IsLawfulAt c.has_one_of.result c.in_ok-entry.entry.0) (IsJudgedImage deeds marked row) (LawfulWalk deeds marked)
-    c.in_err-check_files.field-0.0 c.from_residual-in_err-check_files.result c.from_residual-in_err-check_files.ensures.1
-    (λ is_open lawful. subst₂ (λ b n. IsLawfulAt b n trees) (sym among) (sym number) (lawful_at deeds marked trees row (c.requires.row (c.check_files.ensures.tests.stays.lasts.was_open is_open)) lawful))
+    let among = c.has_one_of.ensures ∙ among_read c.args.deeds.now c.args.marked.now row c.if-not-is_image.ensures in
+    part_refused g.S.Store c.from_residual-in_err-check_files.result c.from_residual-in_err-check_files.ensures.1
+    (λ is_open lawful. subst₂ (λ b n. IsLawfulAt b n trees) (sym among) (sym number) (lawful_at c.args.deeds.now c.args.marked.now trees row (c.requires.row (c.check_files.ensures.tests.stays.lasts.was_open is_open)) lawful))
     c.in_err-check_files.ensures.tests
 
 pub returns-clause-tests : goal.returns-clause-tests
 returns-clause-tests g c =
-    let deeds = c.args.deeds.now in
-    let marked = c.args.marked.now in
     let row = c.args.row.now in
-    let trees = (state g.S.Store c.args.conn.now).now.trees in
     let number : c.in_ok-entry.entry.0 ≡ natural (column row 0) = ap (λ (e : ℕ × Heading). e.0) c.in_ok-entry.ensures.entry in
-    let among = c.has_one_of.ensures ∙ among_read deeds marked row c.if-not-is_image.ensures in
-    part_ok g.S.Store c.args.conn.now c.check_files.new.conn (HasFilesOnce c.has_one_of.result c.in_ok-entry.entry.0) (IsLawfulAt c.has_one_of.result c.in_ok-entry.entry.0) (IsJudgedImage deeds marked row) (LawfulWalk deeds marked) _ _
-    (λ is_open files. (c.if-not-is_image.ensures, subst₂ (λ b n. HasFilesOnce b n trees) among number files))
-    c.in_ok-check_files.ensures.tests
+    let among = c.has_one_of.ensures ∙ among_read c.args.deeds.now c.args.marked.now row c.if-not-is_image.ensures in
+    part_ok g.S.Store (λ is_open files. (c.if-not-is_image.ensures, subst₂ (λ b n. HasFilesOnce b n (state g.S.Store c.args.conn.now).now.trees) among number files)) c.in_ok-check_files.ensures.tests

@@ -1,4 +1,4 @@
-use Rattle.rd_store.proofs.Common.{◌≡◌, ◌∙◌, List, Option, ℕ, ap, eqb-true, length, rules, subst, sym, vec_len, ⊤, Database, state, empty_by_length, Heading, LawfulImages, AreBatchOf, AreReadNext, IsWalkTo, LawfulWalk, last_number}
+use Rattle.rd_store.proofs.Common.{◌≡◌, ◌∙◌, List, Option, ℕ, ap, eqb-true, length, rules, subst, sym, vec_len, Database, state, empty_by_length, Heading, AreBatchOf, AreReadNext, IsWalkTo, last_number}
 use Rattle.rd_store.proofs.Laws.{stays_common, stays_here, stays_marks, stays_then}
 use Rattle.rd_store.proofs.ImageWalks.{part_refused, sql_part, starts_to, then_part, walked_all, walked_lawful}
 use Rattle.rd_store.proofs.image_walk.walk_images.Goals as goal
@@ -17,8 +17,7 @@ next_images-requires g c = record { tables = stays_common g.S.Store c.args.conn.
 
 pub returns-in_err-rows-clause-tests : goal.returns-in_err-rows-clause-tests
 returns-in_err-rows-clause-tests g c =
-    sql_part g.S.Store c.args.conn.now c.next_images.new.conn (stays_then g.S.Store c.args.conn.now c.loop.conn c.next_images.new.conn c.loop.invariant.0 c.loop.invariant.1 c.next_images.ensures.asks.stays)
-    (LawfulImages c.args.deeds.now) (LawfulWalk c.args.deeds.now c.args.marked.now) c.in_err-rows.field-0.0 c.from_residual.result c.from_residual.ensures.1 c.in_err-rows.ensures.asks.fault
+    sql_part g.S.Store (stays_then g.S.Store c.args.conn.now c.loop.conn c.next_images.new.conn c.loop.invariant.0 c.loop.invariant.1 c.next_images.ensures.asks.stays) c.from_residual.result c.from_residual.ensures.1 c.in_err-rows.ensures.asks.fault
 
 pub returns-then-is_empty-clause-tests : goal.returns-then-is_empty-clause-tests
 returns-then-is_empty-clause-tests g c = record {
@@ -72,11 +71,8 @@ walk_rows-requires-clause-rows g c is_open =
 
 pub returns-in_err-walk_rows-clause-tests : goal.returns-in_err-walk_rows-clause-tests
 returns-in_err-walk_rows-clause-tests g c =
-    let lawful = LawfulWalk c.args.deeds.now c.args.marked.now in
-    let q = c.from_residual-in_err-walk_rows.result in
     let stays = stays_then g.S.Store c.args.conn.now c.loop.conn c.next_images.new.conn c.loop.invariant.0 c.loop.invariant.1 c.next_images.ensures.asks.stays in
-    then_part g.S.Store c.args.conn.now c.next_images.new.conn c.walk_rows.new.conn stays c.in_ok-rows.ensures.asks.ends_open q (LawfulImages c.args.deeds.now) lawful
-    (part_refused g.S.Store c.next_images.new.conn c.walk_rows.new.conn (λ trees. ⊤) lawful (LawfulImages c.args.deeds.now) lawful c.in_err-walk_rows.field-0.0 q c.from_residual-in_err-walk_rows.ensures.1 (λ is_open all. all) c.in_err-walk_rows.ensures.tests)
+    part_refused g.S.Store c.from_residual-in_err-walk_rows.result c.from_residual-in_err-walk_rows.ensures.1 (λ is_open all. all) (then_part g.S.Store stays c.in_ok-rows.ensures.asks.ends_open c.in_err-walk_rows.ensures.tests)
 
 pub loop-preserved : goal.loop-preserved
 loop-preserved g c =

@@ -1,4 +1,4 @@
-use Rattle.rd_store.proofs.Common.{◌≡◌, ◌∙◌, ◌∷◌, ◌+◌, List, ℕ, ap, arith, drop, subst, sym, ⊤, drop_more, Database, state, Row, Heading, AreReadNext, IsJudgedImage, IsReadOf, IsWalkTo, LawfulWalk, last_number}
+use Rattle.rd_store.proofs.Common.{◌≡◌, ◌∙◌, ◌∷◌, ◌+◌, List, ℕ, ap, arith, drop, subst, sym, drop_more, Database, state, Row, Heading, AreReadNext, IsJudgedImage, IsReadOf, IsWalkTo, last_number}
 use Rattle.rd_store.proofs.Laws.{stays_common, stays_here, stays_marks, stays_then}
 use Rattle.rd_store.proofs.ImageWalks.{goes_on, next_entry, part_refused, read_of, rest_next, sql_part, then_part}
 use Rattle.rd_store.proofs.image_walk.walk_rows.Goals as goal
@@ -30,16 +30,11 @@ check_image-requires-clause-row g c is_open =
 
 pub returns-in_err-entry-clause-tests : goal.returns-in_err-entry-clause-tests
 returns-in_err-entry-clause-tests g c =
-    let judged = IsJudgedImage c.args.deeds.now c.args.marked.now c.row-item.result in
-    let lawful = LawfulWalk c.args.deeds.now c.args.marked.now in
-    let q = c.from_residual.result in
-    then_part g.S.Store c.args.conn.now c.loop-row.conn c.check_image.new.conn c.loop-row.invariant.stays c.loop-row.invariant.open_if_clean q (λ trees. ⊤) lawful
-    (part_refused g.S.Store c.loop-row.conn c.check_image.new.conn judged lawful (λ trees. ⊤) lawful c.in_err-entry.field-0.0 q c.from_residual.ensures.1 (λ is_open all. all) c.in_err-entry.ensures.tests)
+    part_refused g.S.Store c.from_residual.result c.from_residual.ensures.1 (λ is_open all. all) (then_part g.S.Store c.loop-row.invariant.stays c.loop-row.invariant.open_if_clean c.in_err-entry.ensures.tests)
 
 pub returns-in_err-add_entry-clause-tests : goal.returns-in_err-add_entry-clause-tests
 returns-in_err-add_entry-clause-tests g c =
-    sql_part g.S.Store c.args.conn.now c.check_image.new.conn (stays_then g.S.Store c.args.conn.now c.loop-row.conn c.check_image.new.conn c.loop-row.invariant.stays c.loop-row.invariant.open_if_clean c.check_image.ensures.tests.stays)
-    (λ trees. ⊤) (LawfulWalk c.args.deeds.now c.args.marked.now) c.in_err-add_entry.field-0.0 c.from_residual-in_err-add_entry.result c.from_residual-in_err-add_entry.ensures.1 c.in_err-add_entry.ensures.fault
+    sql_part g.S.Store (stays_then g.S.Store c.args.conn.now c.loop-row.conn c.check_image.new.conn c.loop-row.invariant.stays c.loop-row.invariant.open_if_clean c.check_image.ensures.tests.stays) c.from_residual-in_err-add_entry.result c.from_residual-in_err-add_entry.ensures.1 c.in_err-add_entry.ensures.fault
 
 pub loop-row-preserved : goal.loop-row-preserved
 loop-row-preserved g c =
