@@ -118,10 +118,6 @@ pub hold_ok : {T X : Type 0} (r : Result T X) (O P Q : Type 0) → (O → IfOk r
 hold_ok (Ok value) O P Q holds from = λ o. from o (holds o)
 hold_ok (Err e) O P Q holds from = tt
 
-pub ok_any : {T X : Type 0} (r : Result T X) (P : Type 0) → P → IfOk r (λ _. P)
-ok_any (Ok value) P holds = holds
-ok_any (Err e) P holds = tt
-
 -- what is told of the version
 pub other_version : (rows : List Row) → HasVersion 1 rows → ¬ HasVersion 2 rows
 other_version rows one two = let e : 1 ≡ 2 = ap (λ (shown : List Row). natural (column (get_or shown 0 []) 1)) (sym one ∙ two) in absurd (omega (arith, e))

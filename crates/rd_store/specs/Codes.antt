@@ -1,7 +1,7 @@
 -- The numbers and texts by which columns stand for values.
 use Rattle.std.specs.Prelude.{ℕ, zero, suc, ◌+◌, ◌*◌, ◌/◌, ◌%◌, ◌==◌, ℤ, List, [], ◌∷◌, Bool, cond, flat_map, Option, Some, None}
 use Rattle.sqlite.specs.declared.types.Value.{Value}
-use Rattle.sqlite.specs.declared.types.Value.TheVariants.{Null, Int, Real, Text, Blob}
+use Rattle.sqlite.specs.declared.types.Value.TheVariants.{Int}
 use Rattle.rd_tables.specs.Spellings.{natural_of}
 use Rattle.rd_geometry.specs.declared.kind.Kind.{Kind}
 use Rattle.rd_geometry.specs.declared.kind.Kind.TheVariants.{Cpm8, D64, D64e}
@@ -113,21 +113,15 @@ select_in (suc (suc (suc (suc how)))) number word = OfKind word
 
 -- a whole number is a day, and NULL, or any other value, is none
 abbrev pub day_in : Value → Option ℤ
-day_in Null = None
 day_in (Int day) = Some day
-day_in (Real x) = None
-day_in (Text text) = None
-day_in (Blob bytes) = None
+day_in value = None
 
 -- ---- a number that may be absent
 
 -- a whole number is itself, and 0 where it is negative; NULL, or any other value, is none
 abbrev pub number_in : Value → Option ℕ
-number_in Null = None
 number_in (Int number) = Some (natural_of number)
-number_in (Real x) = None
-number_in (Text text) = None
-number_in (Blob bytes) = None
+number_in value = None
 
 -- ---- the units of a file are two bytes each, the high byte first
 

@@ -164,10 +164,8 @@ IsJudged IsThere Conflicts (Err Sql) = ⊤
 
 -- an answer of the desk, and not of the database
 abbrev pub IsAnswered : {T : Type 0} → Result T StoreFault → Type 0 → Type 0
-IsAnswered (Ok value) P = P
-IsAnswered (Err Missing) P = P
-IsAnswered (Err Conflict) P = P
 IsAnswered (Err Sql) P = ⊤
+IsAnswered result P = P
 
 -- Why a call is refused, where the connection is open at the end; and after such an answer it is open, where the disk
 -- has returned what was written. Sql may be answered at any time, and says nothing of why.

@@ -117,10 +117,9 @@ IsSoundAt s = IsTrue s.is_open → IsDatabase s.now
 
 -- what each refusal by a test of rows says: after Inconsistent it does not hold
 abbrev pub Denied : Type 0 → OpenFault → Type 0
-Denied P NotADesk = ⊥
-Denied P OtherVersion = ⊥
 Denied P Inconsistent = ¬ P
 Denied P Sql = ⊤
+Denied P fault = ⊥
 
 -- after Inconsistent what was tested does not hold, and after Ok a part of it holds; no other refusal but Sql is given
 abbrev pub JudgedPart : {T : Type 0} → Type 0 → Type 0 → Result T OpenFault → Type 0
@@ -163,9 +162,8 @@ IsNamed schema = (has_desk_columns schema ≡ true) × (has_foreign_desk schema 
 -- there is none, or one whose columns are not told
 abbrev pub IsNoDesk : OpenFault → Schema → Type 0
 IsNoDesk NotADesk schema = may_be_desk schema ≡ false
-IsNoDesk OtherVersion schema = ⊥
-IsNoDesk Inconsistent schema = ⊥
 IsNoDesk Sql schema = has_foreign_desk schema ≡ true
+IsNoDesk fault schema = ⊥
 
 -- What the test of a database tells of the table `desk`.
 pub record NamesDesk {S T : Type 0} (old new : Held S) (result : Result T OpenFault) : Type 0 where
@@ -215,12 +213,8 @@ listing_tree all.Marks = 11
 
 -- the tables that must be there for a listing
 abbrev pub HoldsListed : TableListing → State → Type 0
-HoldsListed all.Deeds = HoldsCommonTables
-HoldsListed all.Rules = HoldsCommonTables
-HoldsListed all.Keys = HoldsCommonTables
-HoldsListed all.Checks = HoldsCommonTables
-HoldsListed all.Files = HoldsCommonTables
 HoldsListed all.Marks = HoldsTables
+HoldsListed table = HoldsCommonTables
 
 -- ---- the rows of one table spell lawful entries
 
