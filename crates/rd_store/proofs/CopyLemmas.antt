@@ -1,9 +1,9 @@
 -- A desk that is copied entry by entry, inside one transaction.
-use Rattle.rd_store.proofs.Common.{apart_if_less, IsKeyOrder, halves, ◌≡◌, ◌⊎◌, ◌∙◌, inl, inr, ℕ, zero, suc, ◌+◌, ◌<◌, ◌++◌, List, [], ◌∷◌, length, get_or, take, Bool, false, cond, T, Some, None, Result, Ok, Err, Ordering, ap, arith, refl, subst, sym, is_lt, IfOk, IsErr, IsTrue, MatchBool, OnOk, true≢false, map, FinMap, entries, entries_sorted, from_entries, from_entries_push, get, get-entries, get-from_entries, insert, same_map, below_all, find, is_sorted, eq_by_cmp, eq_by_cmp_equiv, take_all, take_more, get_or-map, length-map, Ghosts, Database, Held, state, Error, Desk, IsBlank, has_desk, AndClean, IsCopied, IsNotCopied, KeepsOrStays, LeavesCopy, OpensCopy, LeavesOldOrNew, RestsIn, Turns, OpenFault, IsNotOpened, IsOpened, Holds, IsAtRest, IsClean, IsLeft, IsOpen, Keeps, Lasts, LeavesOpen, Moves, Reads, desk, IsOf}
+use Rattle.rd_store.proofs.Common.{apart_if_less, IsKeyOrder, halves, ◌≡◌, ◌⊎◌, ◌∙◌, inl, inr, ℕ, zero, suc, ◌+◌, ◌<◌, ◌++◌, List, [], ◌∷◌, length, get_or, take, Bool, false, cond, T, Some, None, Result, Ok, Err, Ordering, ap, arith, refl, subst, sym, is_lt, IfOk, IsErr, IsTrue, MatchBool, OnOk, true≢false, map, FinMap, entries, entries_sorted, from_entries, from_entries_push, get, get-entries, get-from_entries, insert, same_map, below_all, find, is_sorted, eq_by_cmp, eq_by_cmp_equiv, take_all, take_more, get_or-map, length-map, Ghosts, Database, Held, state, Error, Desk, IsBlank, has_desk, AndClean, IsCopied, IsNotCopied, KeepsOrStays, LeavesCopy, OpensCopy, LeavesOldOrNew, RestsIn, Turns, OpenFault, IsNotOpened, IsOpened, Holds, IsAtRest, IsClean, IsLeft, IsOpen, Keeps, Lasts, LeavesOpen, Moves, Reads, desk, IsOf, true}
 use Rattle.rd_store.specs.declared.faults.CreateFault.{CreateFault}
 use Rattle.rd_store.specs.declared.faults.CreateFault.TheVariants.{Exists, Sql}
 use Rattle.rd_store.proofs.Laws.{lasts_still, lasts_then, left_is}
-use Rattle.rd_store.proofs.TransactionSteps.{and_then, stopped}
+use Rattle.rd_store.proofs.TransactionSteps.{and_then, stopped, then_told}
 
 -- ---- the first entries of a finite map
 
@@ -45,11 +45,6 @@ module _ {K X : Type 0} (cmp : K → K → Ordering) where
 
 -- ---- steps of a transaction
 
--- a step after others
-pub goes_on : {S U : Type 0} (g : Ghosts S) (a b c : Held S) (P Q R : Database → Type 0) → Moves {T = Unit {0}} {X = Error} g a b P Q (Ok tt) → (u : U) → Moves {X = Error} g b c Q R (Ok u)
-    → Moves {T = Unit {0}} {X = Error} g a c P R (Ok tt)
-goes_on g a b c P Q R first u next = let all = and_then g a b c P Q R tt first (Ok u) next in record { quiet = all.quiet; kept = all.kept; ok = all.ok }
-
 -- no step
 pub moves_none : {S : Type 0} (g : Ghosts S) (h : Held S) (P : Database → Type 0) → Moves {T = Unit {0}} {X = Error} g h h P P (Ok tt)
 moves_none g h P = record {
@@ -59,12 +54,9 @@ moves_none g h P = record {
 }
 
 -- a failure before any step
-pub unmoved : {S U X : Type 0} (g : Ghosts S) (h : Held S) (P Q : Database → Type 0) (e : X) → Moves {T = U} g h h P Q (Err e)
-unmoved g h P Q e = let none = moves_none g h P in record { quiet = none.quiet; kept = none.kept; ok = λ clean is_open inside held. tt }
-
-pub unmoved_then : {S U X : Type 0} (g : Ghosts S) (h : Held S) (P Q : Database → Type 0) (r : Result U X) → IsErr r → Moves g h h P Q r
-unmoved_then g h P Q (Err e) failed = unmoved g h P Q e
-unmoved_then g h P Q (Ok u) failed = absurd (true≢false (sym failed))
+pub unmoved : {S U X : Type 0} (g : Ghosts S) (h : Held S) (P Q : Database → Type 0) (r : Result U X) → IsErr r → Moves g h h P Q r
+unmoved g h P Q (Err e) failed = let none = moves_none g h P in record { quiet = none.quiet; kept = none.kept; ok = λ clean is_open inside held. tt }
+unmoved g h P Q (Ok u) failed = absurd (true≢false (sym failed))
 
 -- ---- entries that are copied one by one
 
@@ -81,48 +73,34 @@ at_shown {E} {A} shown back there es items at item are low is =
       sym (there (get_or es at (back item))) ∙ ap back (sym (get_or-map shown es at (back item) item within) ∙ ap (λ (xs : List A). get_or xs at item) (sym are) ∙ sym is),
     )
 
-module _ {S K X : Type 0} (g : Ghosts S) (cmp : K → K → Ordering) (order : IsKeyOrder cmp) (before : Desk) (all : FinMap cmp X) (with_all : FinMap cmp X → Desk → Desk) (old mid : Held S) (at : ℕ)
+module _ {S K X : Type 0} (g : Ghosts S) {cmp : K → K → Ordering} (order : IsKeyOrder cmp) (before : Desk) (all : FinMap cmp X) (with_all : FinMap cmp X → Desk → Desk) {old mid : Held S} (at : ℕ)
     (come : Moves {T = Unit {0}} {X = Error} g old mid (IsOf before) (IsOf (with_all (first_of cmp at all) before)) (Ok tt)) where
-  module _ (new : Held S) (e : K × X) (low : at < length (entries all)) (is : get_or (entries all) at e ≡ e) where
+  module _ (e : K × X) (here : (at < length (entries all)) × (get_or (entries all) at e ≡ e)) where
     abbrev Next : Database → Type 0
     Next = IsOf (with_all (insert (first_of cmp at all) e.0 e.1) before)
 
     -- one more is put
-    pub one_copied : {n : ℕ} → Moves {X = Error} g mid new (IsOf (with_all (first_of cmp at all) before)) Next (Ok n) → Moves {T = Unit {0}} {X = Error} g old new (IsOf before) (IsOf (with_all (first_of cmp (at + 1) all) before)) (Ok tt)
-    one_copied {n} put =
-        subst (λ (m : FinMap cmp X). Moves {T = Unit {0}} {X = Error} g old new (IsOf before) (IsOf (with_all m before)) (Ok tt)) (next_put cmp order all at e low is)
-        (goes_on g old mid new (IsOf before) (IsOf (with_all (first_of cmp at all) before)) Next come n put)
+    pub one_copied : {new : Held S} {n : ℕ} → (get (first_of cmp at all) e.0 ≡ None → Moves {X = Error} g mid new (IsOf (with_all (first_of cmp at all) before)) Next (Ok n)) → Moves {T = Unit {0}} {X = Error} g old new (IsOf before) (IsOf (with_all (first_of cmp (at + 1) all) before)) (Ok tt)
+    one_copied {new} put =
+        subst (λ (m : FinMap cmp X). Moves {T = Unit {0}} {X = Error} g old new (IsOf before) (IsOf (with_all m before)) (Ok tt)) (next_put cmp order all at e here.0 here.1) (then_told g come (put (next_free cmp order all at e here.0 here.1)))
 
     -- or it fails
-    pub none_copied : {x : Error} {U Y : Type 0} (q : Result U Y) → IsErr q → Moves {T = ℕ} g mid new (IsOf (with_all (first_of cmp at all) before)) Next (Err x) → Moves g old new (IsOf before) (IsOf (with_all all before)) q
-    none_copied {x} q failed put =
-        stopped g old new (IsOf before) Next (IsOf (with_all all before)) x q failed (and_then g old mid new (IsOf before) (IsOf (with_all (first_of cmp at all) before)) Next tt come (Err x) put)
+    pub none_copied : {new : Held S} {x : Error} {U Y : Type 0} (q : Result U Y) → IsErr q → (get (first_of cmp at all) e.0 ≡ None → Moves {T = ℕ} g mid new (IsOf (with_all (first_of cmp at all) before)) Next (Err x)) → Moves g old new (IsOf before) (IsOf (with_all all before)) q
+    none_copied q failed put = stopped g q failed (and_then g come (put (next_free cmp order all at e here.0 here.1)))
 
   -- all are put
   pub all_copied : at ≡ length (entries all) → Moves {T = Unit {0}} {X = Error} g old mid (IsOf before) (IsOf (with_all all before)) (Ok tt)
   all_copied end = subst (λ (m : FinMap cmp X). Moves {T = Unit {0}} {X = Error} g old mid (IsOf before) (IsOf (with_all m before)) (Ok tt)) (first_all cmp order all at end) come
 
 -- where the disk of another connection has returned what was written
-module _ {S U : Type 0} (g : Ghosts S) (a b : Held S) (P Q : Database → Type 0) (r : Result U Error) where
+module _ {S U : Type 0} (g : Ghosts S) {a b : Held S} {P Q : Database → Type 0} {r : Result U Error} where
   -- a step that reads nothing of it
   pub and_clean : (read : Held S) → Moves g a b P Q r → Moves g a b (AndClean g read P) Q r
   and_clean read step = record { quiet = step.quiet; kept = step.kept; ok = λ clean is_open inside held. step.ok clean is_open inside held.1 }
 
-  -- the same while it goes on
-  pub both_clean : (read : Held S) → Moves g a b P Q r → Moves g a b (AndClean g read P) (AndClean g read Q) r
-  both_clean read step = record { quiet = step.quiet; kept = step.kept; ok = λ clean is_open inside held. with_clean r held.0 (step.ok clean is_open inside held.1) }
-    where
-      with_clean : (q : Result U Error) → IsClean g read → OnOk q (IsOpen g b × IsTrue b.in_transaction × Q (state g b).now)
-          → OnOk q (IsOpen g b × IsTrue b.in_transaction × (IsClean g read × Q (state g b).now))
-      with_clean (Ok u) clean all = (all.0, all.1, (clean, all.2))
-      with_clean (Err e) clean all = tt
-
-  -- and what it was read then, where it is still so later
-  pub earlier_clean : (read later : Held S) → (IsClean g later → IsClean g read) → Moves g a b (AndClean g read P) Q r → Moves g a b (AndClean g later P) Q r
-  earlier_clean read later was step = record { quiet = step.quiet; kept = step.kept; ok = λ clean is_open inside held. step.ok clean is_open inside (was held.0, held.1) }
-
-  pub earlier_both : (read later : Held S) → (IsClean g later → IsClean g read) → Moves g a b (AndClean g read P) Q r → Moves g a b (AndClean g later P) (AndClean g later Q) r
-  earlier_both read later was step = record { quiet = step.quiet; kept = step.kept; ok = λ clean is_open inside held. with_clean r held.0 (step.ok clean is_open inside (was held.0, held.1)) }
+  -- the same while it goes on, and where it is still so later
+  pub both_clean : (read later : Held S) → (IsClean g later → IsClean g read) → Moves g a b (AndClean g read P) Q r → Moves g a b (AndClean g later P) (AndClean g later Q) r
+  both_clean read later was step = record { quiet = step.quiet; kept = step.kept; ok = λ clean is_open inside held. with_clean r held.0 (step.ok clean is_open inside (was held.0, held.1)) }
     where
       with_clean : (q : Result U Error) → IsClean g later → OnOk q (IsOpen g b × IsTrue b.in_transaction × Q (state g b).now)
           → OnOk q (IsOpen g b × IsTrue b.in_transaction × (IsClean g later × Q (state g b).now))
@@ -278,9 +256,8 @@ pub some_same : {A : Type 0} {x y : A} → Some x ≡ Some y → x ≡ y
 some_same is = cc is
 
 -- a step whose end is told in another way
-pub of_told : {S U A : Type 0} (g : Ghosts S) (a b : Held S) (P R : Database → Type 0) (r : Result U Error) (Q : A → Database → Type 0) (x y : A) → ((db : Database) → R db → P db × (x ≡ y))
-    → Moves g a b P (Q x) r → Moves g a b R (Q y) r
-of_told {S} {U} g a b P R r Q x y told step = record {
+pub of_told : {S U A : Type 0} (g : Ghosts S) {a b : Held S} {P R : Database → Type 0} {r : Result U Error} (Q : A → Database → Type 0) {x y : A} → ((db : Database) → R db → P db × (x ≡ y)) → Moves g a b P (Q x) r → Moves g a b R (Q y) r
+of_told g {a} {b} {r} Q told step = record {
   quiet = step.quiet;
   kept = step.kept;
   ok = λ clean is_open inside held.

@@ -1,5 +1,6 @@
 -- A transaction that puts an image and its files.
 use Rattle.rd_store.proofs.Common.{◌≡◌, ◌⊎◌, ℕ, None, IsSome, OnOk, Result, Option, sym, subst, ap, get, Ghosts, Held, state, ImageRow, RestsIn, Turns, Changes, HoldsDesk, IsLeft, IsOf, IsOpen, LacksImage, desk, IsImage, Desk, put_or_kept, with_image, with_new_image, lawful_insert}
+use Rattle.rd_store.proofs.StatementCalls.{LeavesDesk}
 use Rattle.rd_store.proofs.Laws.{Laws}
 use Rattle.rd_store.proofs.Transactions.{starts, changes}
 
@@ -14,12 +15,11 @@ changes_as g old new after other r same h = record {
   durable = h.durable;
 }
 
-module _ {S : Type 0} (g : Ghosts S) (laws : Laws g) (old last : Held S) (holds : HoldsDesk (state g old)) (acc : ℕ) (image : ImageRow) (free : IsOpen g old → get (desk g old).images acc ≡ None) where
+module _ {S : Type 0} (g : Ghosts S) (laws : Laws g) (old : Held S) (holds : HoldsDesk (state g old)) (acc : ℕ) (image : ImageRow) (free : IsOpen g old → get (desk g old).images acc ≡ None) where
   pub lacks : IsOpen g old → RestsIn (LacksImage acc (desk g old)) (state g old)
-  lacks was = let at = starts g old last holds was in record { settled = at.settled; autocommit = at.autocommit; holds = (at.holds, free was) }
+  lacks was = let at = starts g old holds was in record { settled = at.settled; autocommit = at.autocommit; holds = (at.holds, free was) }
 
-  pub deposited : {T X : Type 0} (r : Result T X) → IsImage acc image → (IsOpen g old → IsSome (get (desk g old).deeds image.deed)) → Turns g old last (IsOf (with_new_image acc image (desk g old))) r
-      → HoldsDesk (state g last) × Changes g old last (with_image acc image (desk g old)) r
-  deposited r is deed turns =
-      let all = changes g old last holds laws (with_new_image acc image (desk g old)) (λ was. lawful_insert acc image (desk g old) is (deed was)) r turns in
-      (all.0, changes_as g old last (with_new_image acc image (desk g old)) (with_image acc image (desk g old)) r (λ was. sym (ap (λ (found : Option ImageRow). put_or_kept found acc image (desk g old)) (free was))) all.1)
+  pub deposited : {T X : Type 0} {last : Held S} (r : Result T X) → IsImage acc image → (IsOpen g old → IsSome (get (desk g old).deeds image.deed)) → Turns g old last (IsOf (with_new_image acc image (desk g old))) r → LeavesDesk g old last (with_image acc image (desk g old)) r
+  deposited {last} r is deed turns =
+      let all = changes g laws old last holds (λ was. lawful_insert acc image (desk g old) is (deed was)) r turns in
+      record { kept = all.kept; changes = changes_as g old last (with_new_image acc image (desk g old)) (with_image acc image (desk g old)) r (λ was. sym (ap (λ (found : Option ImageRow). put_or_kept found acc image (desk g old)) (free was))) all.changes }

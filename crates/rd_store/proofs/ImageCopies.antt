@@ -1,9 +1,9 @@
 -- Images that are copied one by one, inside one transaction, from the desk of another connection.
 use Rattle.rd_store.proofs.Common.{◌≡◌, ◌∙◌, ℕ, ◌+◌, ◌<◌, List, [], length, get_or, Some, None, Result, Ok, Err, ap, subst, sym, IsErr, nat_cmp, FinMap, entries, from_entries, get, insert, keys, get_or-map, length-map, Ghosts, Database, Held, Error, D64, entry_got, Desk, ImageRow, AndClean, TakesImage, with_images, IsClean, IsOf, Moves, desk, with_new_image}
 use Rattle.rd_store.proofs.Listings.{any_default, has_at}
-use Rattle.rd_store.proofs.CopyLemmas.{earlier_both, first_all, first_of, goes_on, moves_none, next_free, next_put}
+use Rattle.rd_store.proofs.CopyLemmas.{both_clean, first_all, first_of, moves_none, next_free, next_put}
 use Rattle.rd_store.proofs.Orders.{number_order}
-use Rattle.rd_store.proofs.TransactionSteps.{and_then, moves_to, stopped}
+use Rattle.rd_store.proofs.TransactionSteps.{and_then, moves_to, stopped, then_told}
 
 -- the entry at a place, of a map whose keys these are
 module _ {X : Type 0} (m : FinMap nat_cmp X) (numbers : List ℕ) (at number : ℕ) (none : ℕ × X) (are : numbers ≡ keys m) (low : at < length numbers) (is : number ≡ get_or numbers at number) where
@@ -42,14 +42,12 @@ module _ {S : Type 0} (g : Ghosts S) (old : Held S) (before : Desk) (images : Fi
 
   pub puts_none : (read : Held S) → before.images ≡ from_entries [] → PutsFirst 0 read old
   puts_none read none =
-      moves_to g old old (AndClean g read (IsOf before)) (AndClean g read (IsOf before)) (AndClean g read (IsOf (with_first 0))) (Ok tt)
-      (λ db held. (held.0, subst (λ (all : FinMap nat_cmp ImageRow). IsOf (with_images all before) db) none held.1)) (moves_none g old (AndClean g read (IsOf before)))
+      moves_to g {Q = AndClean g read (IsOf before)} (λ db held. (held.0, subst (λ (all : FinMap nat_cmp ImageRow). IsOf (with_images all before) db) none held.1)) (moves_none g old (AndClean g read (IsOf before)))
 
   pub puts_all : (read new : Held S) (numbers : List ℕ) (at : ℕ) → (IsClean g read → numbers ≡ keys images) → at ≡ length numbers → PutsFirst at read new
       → Moves {T = Unit {0}} {X = Error} g old new (AndClean g read (IsOf before)) (IsOf (with_images images before)) (Ok tt)
   puts_all read new numbers at are end puts =
-      moves_to g old new (AndClean g read (IsOf before)) (AndClean g read (IsOf (with_first at))) (IsOf (with_images images before)) (Ok tt)
-      (λ db held. subst (λ (all : FinMap nat_cmp ImageRow). IsOf (with_images all before) db) (first_all nat_cmp number_order images at (end ∙ ap length (are held.0) ∙ length-map (entries images) (λ (x : ℕ × ImageRow). x.0))) held.1) puts
+      moves_to g {Q = AndClean g read (IsOf (with_first at))} (λ db held. subst (λ (all : FinMap nat_cmp ImageRow). IsOf (with_images all before) db) (first_all nat_cmp number_order images at (end ∙ ap length (are held.0) ∙ length-map (entries images) (λ (x : ℕ × ImageRow). x.0))) held.1) puts
 
   -- one more is put
   module _ (read later mid new : Held S) (was : IsClean g later → IsClean g read) (numbers : List ℕ) (at acc : ℕ) (are : IsClean g later → numbers ≡ keys images) (same : IsClean g later → (desk g read).images ≡ images)
@@ -66,23 +64,17 @@ module _ {S : Type 0} (g : Ghosts S) (old : Held S) (before : Desk) (images : Fi
     -- what stands before the step is what the step takes
     takes : Moves {T = Unit {0}} {X = Error} g old mid (AndClean g later (IsOf before)) (AndClean g later Takes) (Ok tt)
     takes =
-        moves_to g old mid (AndClean g later (IsOf before)) (AndClean g later (IsOf (with_first at))) (AndClean g later Takes) (Ok tt)
-        (λ db held.
+        moves_to g {Q = AndClean g later (IsOf (with_first at))} (λ db held.
         let got : get (desk g read).images acc ≡ Some image_at = ap (λ (all : FinMap nat_cmp ImageRow). get all acc) (same held.0) ∙ value_got images numbers at acc no_entry (are held.0) low is in
         (held.0, (got, (held.1, value_free images numbers at acc no_entry (are held.0) low is))))
-        (earlier_both g old mid (IsOf before) (IsOf (with_first at)) (Ok tt) read later was
-        (moves_to g old mid (AndClean g read (IsOf before)) (AndClean g read (IsOf (with_first at))) (IsOf (with_first at)) (Ok tt) (λ db held. held.1) puts))
+        (both_clean g read later was (moves_to g {Q = AndClean g read (IsOf (with_first at))} (λ db held. held.1) puts))
 
     pub puts_next : {U : Type 0} (u : U) → Moves {X = Error} g mid new (AndClean g later Takes) (IsOf next) (Ok u)
         → Moves {T = Unit {0}} {X = Error} g old new (AndClean g later (IsOf before)) (AndClean g later (IsOf (with_first (at + 1)))) (Ok tt)
     puts_next u step =
-        moves_to g old new (AndClean g later (IsOf before)) (AndClean g later (IsOf next)) (AndClean g later (IsOf (with_first (at + 1)))) (Ok tt)
-        (λ db held. (held.0, subst (λ (all : FinMap nat_cmp ImageRow). IsOf (with_images all before) db) (value_put images numbers at acc no_entry (are held.0) low is) held.1))
-        (goes_on g old mid new (AndClean g later (IsOf before)) (AndClean g later Takes) (AndClean g later (IsOf next)) takes u
-        (earlier_both g mid new Takes (IsOf next) (Ok u) later later (λ clean. clean) step))
+        moves_to g {Q = AndClean g later (IsOf next)} (λ db held. (held.0, subst (λ (all : FinMap nat_cmp ImageRow). IsOf (with_images all before) db) (value_put images numbers at acc no_entry (are held.0) low is) held.1))
+        (then_told g takes (both_clean g later later (λ clean. clean) step))
 
     pub puts_stop : {U V : Type 0} (e : Error) → Moves {T = V} g mid new (AndClean g later Takes) (IsOf next) (Err e) → (q : Result U Error) → IsErr q
         → Moves {X = Error} g old new (AndClean g later (IsOf before)) (IsOf (with_images images before)) q
-    puts_stop e step q failed =
-        stopped g old new (AndClean g later (IsOf before)) (IsOf next) (IsOf (with_images images before)) e q failed
-        (and_then g old mid new (AndClean g later (IsOf before)) (AndClean g later Takes) (IsOf next) tt takes (Err e) step)
+    puts_stop e step q failed = stopped g q failed (and_then g takes step)

@@ -1,5 +1,5 @@
 -- A call that is one statement outside a transaction, from what the statement makes of a desk.
-use Rattle.rd_store.proofs.Common.{◌≡◌, inl, inr, ℕ, List, false, Result, Ok, Err, is_ok, true≢false, OnOk, OnErr, sym, ap, subst, ◌∙◌, IsTrue, Row, Ghosts, Command, Database, Error, State, Executes, Survives, CommitsBy, Held, state, desk_schema, IsWrite, Makes, write_fails, was_open, done_was_open, ran, committed, Desk, IsLawful, desk_of, IsOf, Holds, IsDeskAt, HoldsDesk, Changes, IsOpen, IsClean, desk}
+use Rattle.rd_store.proofs.Common.{◌≡◌, inl, inr, ℕ, List, false, Result, Ok, Err, OnOk, OnErr, sym, ap, subst, ◌∙◌, IsTrue, Row, Ghosts, Command, Database, Error, State, Executes, Survives, CommitsBy, Held, state, desk_schema, IsWrite, Makes, write_fails, was_open, done_was_open, ran, committed, Desk, IsLawful, desk_of, IsOf, Holds, IsDeskAt, HoldsDesk, Changes, IsOpen, IsClean, desk}
 use Rattle.rd_store.proofs.Laws.{Laws, clean_at, lasts_of, leaves_only, left_is}
 
 -- ---- a connection that rests on a database of a desk
@@ -23,9 +23,13 @@ failed text params old new e at is_open h = elim (write_fails text params old ne
       (rests_as old new at now (undone.1 ∙ sym undone.0) back.autocommit, now)
 ]
 
+-- what a call that changes the desk leaves of it
+abbrev pub LeavesDesk : {S T X : Type 0} → Ghosts S → Held S → Held S → Desk → Result T X → Type 0
+LeavesDesk g old new after r = record { kept : HoldsDesk (state g new); changes : Changes g old new after r }
+
 -- ---- one statement
 
-module _ {S : Type 0} (g : Ghosts S) (laws : Laws g) (text : List ℕ) (command : Command) (write : IsWrite desk_schema text command) (params : Row) (after : Desk) (old new : Held S) (outside : old.in_transaction ≡ false) (holds : HoldsDesk (state g old))
+module _ {S : Type 0} (g : Ghosts S) (laws : Laws g) {text : List ℕ} {command : Command} (write : IsWrite desk_schema text command) (params : Row) (after : Desk) (old new : Held S) (outside : old.in_transaction ≡ false) (holds : HoldsDesk (state g old))
     (makes : IsOpen g old → Makes desk_schema text command write params (IsOf (desk g old)) (IsOf after)) (lawful : IsOpen g old → IsLawful (desk g old) → IsLawful after) where
   Now : Result ℕ Error → Type 0
   Now (Ok count) = desk g new ≡ after
@@ -63,10 +67,10 @@ module _ {S : Type 0} (g : Ghosts S) (laws : Laws g) (text : List ℕ) (command 
   left_as (Ok count) h = tt
   left_as (Err e) h = ap (λ (db : Database). desk_of db.trees) h
 
-  pub single : (r : Result ℕ Error) → (IsClean g new → Executes text params (state g old) (state g new) r) → Survives (state g old) (state g new) (CommitsBy text params (state g old)) → HoldsDesk (state g new) × Changes g old new after r
-  single r runs survives = (
-    λ is_open. (now r runs is_open).0,
-    record {
+  pub single : (r : Result ℕ Error) → (IsClean g new → Executes text params (state g old) (state g new) r) → Survives (state g old) (state g new) (CommitsBy text params (state g old)) → LeavesDesk g old new after r
+  single r runs survives = record {
+    kept = λ is_open. (now r runs is_open).0;
+    changes = record {
       lasts = lasts_of g old new (CommitsBy text params (state g old)) survives (λ is_open. was_open text params (state g old) (state g new) r (runs (clean_at g laws new is_open)) is_open);
       ok = λ is_open. done r (now r runs is_open).1;
       err = λ is_open. left_as r (now r runs is_open).1;
@@ -79,12 +83,5 @@ module _ {S : Type 0} (g : Ghosts S) (laws : Laws g) (text : List ℕ) (command 
             inr (left_is after it.0 left (record { of = it.1; lawful = lawful was at.holds.lawful }) it.2)
       ];
       durable = λ is_open. leaves_only g laws new (λ o. (now r runs o).0) is_open;
-    },
-  )
-
--- the same of a result that tells less
-pub by_other_result : {S T X Y Z : Type 0} (g : Ghosts S) (old new : Held S) (after : Desk) (r : Result T X) (q : Result Y Z) → is_ok r ≡ is_ok q → Changes g old new after r → Changes g old new after q
-by_other_result g old new after (Ok a) (Ok b) e h = record { lasts = h.lasts; ends_open = h.ends_open; ok = h.ok; err = h.err; crash = h.crash; durable = h.durable }
-by_other_result g old new after (Err a) (Err b) e h = record { lasts = h.lasts; ends_open = h.ends_open; ok = h.ok; err = h.err; crash = h.crash; durable = h.durable }
-by_other_result g old new after (Ok a) (Err b) e h = absurd (true≢false e)
-by_other_result g old new after (Err a) (Ok b) e h = absurd (true≢false (sym e))
+    };
+  }

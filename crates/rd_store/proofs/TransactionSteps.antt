@@ -6,7 +6,7 @@ use Rattle.rd_store.proofs.Laws.{lasts_of}
 
 -- ---- one statement
 
-module _ (schema : Schema) (text : List ℕ) (command : Command) (write : IsWrite schema text command) (params : Row) (Before After : Database → Type 0) (over : (db : Database) → Before db → db.schema ≡ schema)
+module _ {schema : Schema} {text : List ℕ} {command : Command} (write : IsWrite schema text command) (params : Row) {Before After : Database → Type 0} (over : (db : Database) → Before db → db.schema ≡ schema)
     (makes : Makes schema text command write params Before After) {S : Type 0} (g : Ghosts S) (old new : Held S) where
   pub moves : (r : Result ℕ Error) → (old.in_transaction ≡ false → (r ≡ Err (SqliteFailure TransactionState)) × (new ≡ old)) → (IsClean g new → IsTrue old.in_transaction → ExecutesInside 0 text params (state g old) (state g new) r)
       → Survives (state g old) (state g new) (λ _. ⊥) → Moves g old new Before After r
@@ -27,8 +27,8 @@ module _ (schema : Schema) (text : List ℕ) (command : Command) (write : IsWrit
 
 -- ---- one after another
 
-pub and_then : {S T U X Y : Type 0} (g : Ghosts S) (a b c : Held S) (P Q R : Database → Type 0) (x : T) → Moves {X = X} g a b P Q (Ok x) → (r : Result U Y) → Moves g b c Q R r → Moves g a c P R r
-and_then g a b c P Q R x first r next = record {
+pub and_then : {S T U X Y : Type 0} (g : Ghosts S) {a b c : Held S} {P Q R : Database → Type 0} {x : T} → Moves {X = X} g a b P Q (Ok x) → {r : Result U Y} → Moves g b c Q R r → Moves g a c P R r
+and_then g {a} {b} {c} first next = record {
   quiet = survives_then (state g a) (state g b) (state g c) (λ _. ⊥) (λ _. ⊥) (λ _. ⊥) (λ _ trees none. none) (λ _ trees none. none) first.quiet next.quiet;
   kept = λ clean.
       let k = first.kept (early clean) in
@@ -40,17 +40,21 @@ and_then g a b c P Q R x first r next = record {
     early : IsClean g c → IsClean g b
     early clean = omega (arith, next.quiet.clean)
 
+-- the last of them tells another value
+pub then_told : {S T U V X Y : Type 0} (g : Ghosts S) {a b c : Held S} {P Q R : Database → Type 0} {x : T} {u : U} {v : V} → Moves {X = X} g a b P Q (Ok x) → Moves {X = Y} g b c Q R (Ok u) → Moves {X = Y} g a c P R (Ok v)
+then_told g first next = let all = and_then g first next in record { quiet = all.quiet; kept = all.kept; ok = all.ok }
+
 -- a step after which more is known
-pub moves_to : {S T X : Type 0} (g : Ghosts S) (old new : Held S) (P Q R : Database → Type 0) (r : Result T X) → ((db : Database) → Q db → R db) → Moves g old new P Q r → Moves g old new P R r
-moves_to {S} {T} {X} g old new P Q R r more h = record { quiet = h.quiet; kept = h.kept; ok = λ clean is_open inside held. go r (h.ok clean is_open inside held) }
+pub moves_to : {S T X : Type 0} (g : Ghosts S) {old new : Held S} {P Q R : Database → Type 0} {r : Result T X} → ((db : Database) → Q db → R db) → Moves g old new P Q r → Moves g old new P R r
+moves_to {S} {T} {X} g {old} {new} {P} {Q} {R} {r} more h = record { quiet = h.quiet; kept = h.kept; ok = λ clean is_open inside held. go r (h.ok clean is_open inside held) }
   where
     go : (q : Result T X) → OnOk q (IsOpen g new × IsTrue new.in_transaction × Q (state g new).now) → OnOk q (IsOpen g new × IsTrue new.in_transaction × R (state g new).now)
     go (Ok value) at = (at.0, at.1, more (state g new).now at.2)
     go (Err e) at = tt
 
-pub stopped : {S T U X Y : Type 0} (g : Ghosts S) (old new : Held S) (P Q R : Database → Type 0) (e : X) (q : Result U Y) → IsErr q → Moves {T = T} g old new P Q (Err e) → Moves g old new P R q
-stopped g old new P Q R e (Err b) is h = record { quiet = h.quiet; kept = h.kept; ok = h.ok }
-stopped g old new P Q R e (Ok b) is h = absurd (true≢false (sym is))
+pub stopped : {S T U X Y : Type 0} (g : Ghosts S) {old new : Held S} {P Q R : Database → Type 0} {e : X} (q : Result U Y) → IsErr q → Moves {T = T} g old new P Q (Err e) → Moves g old new P R q
+stopped g (Err b) is h = record { quiet = h.quiet; kept = h.kept; ok = h.ok }
+stopped g (Ok b) is h = absurd (true≢false (sym is))
 
 -- ---- the whole
 
@@ -59,8 +63,8 @@ begun h = record h { in_transaction = true }
 
 module _ {S : Type 0} (g : Ghosts S) (clean_at : (h : Held S) → IsOpen g h → IsClean g h) (old mid last : Held S) (Before After : Database → Type 0) (start : IsOpen g old → RestsIn Before (state g old)) where
   -- a last step undoes all
-  pub undoes : {U Y V Z : Type 0} (q : Result U Y) → Moves g (begun old) mid Before After q → (IsClean g last → IsRolledBack (state g mid) (state g last)) → Survives (state g mid) (state g last) (λ _. ⊥) → (r : Result V Z) → IsErr r → Turns g old last After r
-  undoes q inside undone ended r failed = record {
+  pub undoes : {U Y V Z : Type 0} {q : Result U Y} → Moves g (begun old) mid Before After q → (IsClean g last → IsRolledBack (state g mid) (state g last)) → Survives (state g mid) (state g last) (λ _. ⊥) → (r : Result V Z) → IsErr r → Turns g old last After r
+  undoes inside undone ended r failed = record {
     lasts = lasts_of g old last (λ _. ⊥) all was;
     ok = λ is_open. never r failed;
     err = λ is_open. on r (now is_open);

@@ -13,14 +13,14 @@ ghost use Rattle.rd_holdings.specs.declared.rows.Finding.{Finding as CheckFindin
 ghost use Rattle.rd_holdings.specs.declared.rows.ImageRow.{ImageRow as Image};
 ghost use Rattle.rd_holdings.specs.declared.rows.Outcome.{Outcome};
 ghost use Rattle.rd_store.specs.Copied.{AndClean, AreHoldingsOf, IsCopied, IsNotCopied, IsSameCopy, KeepsOrStays, LeavesCopy, OpensCopy, TakesImage, numbered_check, with_checks, with_deeds, with_images, with_keys, with_rules};
-ghost use Rattle.rd_store.specs.Created.{HasFirstTables, RestsIn, Turns, empty_desk};
+ghost use Rattle.rd_store.specs.Created.{HasFirstTables, RestsIn, Turns};
 ghost use Rattle.rd_store.specs.Held.{Holds, IsClean, IsOf, IsOpen, Keeps, LacksImage, LeavesOpen, Moves, Reads, desk};
 ghost use Rattle.rd_store.specs.Index.{with_new_image};
 ghost use Rattle.rd_store.specs.Shown.{image_with};
 
 use crate::checks::insert_check;
 use crate::comparing::is_same_desk;
-use crate::create::{insert_version, make_tables};
+use crate::create::make_empty;
 use crate::deeds::insert_deed_in;
 use crate::faults::{CreateFault, Refused, StoreFault};
 use crate::files::insert_files;
@@ -62,15 +62,6 @@ fn read_holdings<S: Alter>(alloc: Global, from: &mut Store<S>) -> Result<Holding
         keys,
         checks,
     })
-}
-
-/// Makes the tables of a desk that holds nothing.
-fn make_empty<S: Alter>(tx: &mut Transaction<'_, S>) -> Result<usize, Error>
-    ensures same_reference { tx.new.conn.ghost_name ≡ tx.old.conn.ghost_name }
-    ensures moves { Moves S.Store tx.old.conn.now tx.new.conn.now (HasFirstTables 0) (IsOf empty_desk) result }
-{
-    make_tables(tx, 8)?;
-    insert_version(tx)
 }
 
 /// Puts a deed where none stands, inside a transaction.

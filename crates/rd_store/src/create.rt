@@ -54,11 +54,20 @@ pub(crate) fn make_tables<S: Alter>(tx: &mut Transaction<'_, S>, count: usize) -
 }
 
 /// Writes the version of the tables.
-pub(crate) fn insert_version<S: Alter>(tx: &mut Transaction<'_, S>) -> Result<usize, Error>
+fn insert_version<S: Alter>(tx: &mut Transaction<'_, S>) -> Result<usize, Error>
     ensures same_reference { tx.new.conn.ghost_name ≡ tx.old.conn.ghost_name }
     ensures moves { Moves S.Store tx.old.conn.now tx.new.conn.now (HasFirstTables 8) (IsOf empty_desk) result }
 {
     tx.execute("INSERT INTO desk (id, version) VALUES (1, 2)", &[])
+}
+
+/// Makes the tables of a desk that holds nothing.
+pub(crate) fn make_empty<S: Alter>(tx: &mut Transaction<'_, S>) -> Result<usize, Error>
+    ensures same_reference { tx.new.conn.ghost_name ≡ tx.old.conn.ghost_name }
+    ensures moves { Moves S.Store tx.old.conn.now tx.new.conn.now (HasFirstTables 0) (IsOf empty_desk) result }
+{
+    make_tables(tx, 8)?;
+    insert_version(tx)
 }
 
 /// Makes a new desk in a blank database.
@@ -66,8 +75,7 @@ fn fill<S: Alter>(tx: &mut Transaction<'_, S>, staff: &[u8; 32]) -> Result<(), E
     ensures same_reference { tx.new.conn.ghost_name ≡ tx.old.conn.ghost_name }
     ensures moves { Moves S.Store tx.old.conn.now tx.new.conn.now (HasFirstTables 0) (IsOf (new_desk staff.now)) result }
 {
-    make_tables(tx, 8)?;
-    insert_version(tx)?;
+    make_empty(tx)?;
     insert_key(tx, staff, Audience::Staff)?;
     Ok(())
 }

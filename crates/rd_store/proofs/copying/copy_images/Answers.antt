@@ -1,10 +1,10 @@
-use Rattle.rd_store.proofs.Common.{◌≡◌, ◌∙◌, ap, arith, length, refl, Desk, desk}
+use Rattle.rd_store.proofs.Common.{◌∙◌, ap, arith, refl, Desk, desk, Err}
 use Rattle.rd_store.proofs.CopyLemmas.{keeps_then, unmoved}
 use Rattle.rd_store.proofs.ImageCopies.{puts_all, puts_next, puts_none, puts_stop}
 use Rattle.rd_store.proofs.copying.copy_images.Goals as goal
 
 pub returns-in_default-clause-moves : goal.returns-in_default-clause-moves
-returns-in_default-clause-moves g c before none = unmoved g.S.Store c.args.tx.now.conn.now _ _ _
+returns-in_default-clause-moves g c before none = unmoved g.S.Store c.args.tx.now.conn.now _ _ (Err _) refl
 
 pub loop-at-init : goal.loop-at-init
 loop-at-init g c = (
@@ -22,11 +22,8 @@ loop-at-preserved g c = (
   c.in_ok-copy_image.ensures.read_open,
   λ clean. c.loop-at.invariant.3 (c.copy_image.ensures.keeps.lasts.clean clean),
   λ before none.
-      let images = (desk g.S.Store c.args.from.now).images in
-      let read = c.loop-at.from in
-      let later = c.copy_image.new.from in
       let was = c.copy_image.ensures.keeps.lasts.clean in
-      puts_next g.S.Store c.args.tx.now.conn.now before images read later c.loop-at.tx.conn.now c.copy_image.new.tx.conn.now was c.in-Ok.accessions.items c.loop-at.at c.index.result.now
+      puts_next g.S.Store c.args.tx.now.conn.now before (desk g.S.Store c.args.from.now).images c.loop-at.from c.copy_image.new.from c.loop-at.tx.conn.now c.copy_image.new.tx.conn.now was c.in-Ok.accessions.items c.loop-at.at c.index.result.now
       (λ clean. c.loop-at.invariant.3 (was clean)) (λ clean. ap (λ (d : Desk). d.images) (c.loop-at.invariant.1.same (c.loop-at.invariant.2 (was clean)))) (omega (arith, c.loop-at-test.true)) c.index.ensures (c.loop-at.invariant.4 before none)
       c.in_ok-copy_image.field-0 (c.in_ok-copy_image.ensures.moves _ _),
 )
@@ -36,11 +33,8 @@ returns-in_err-copy_image-clause-keeps g c = keeps_then g.S.Store c.args.from.no
 
 pub returns-in_err-copy_image-clause-moves : goal.returns-in_err-copy_image-clause-moves
 returns-in_err-copy_image-clause-moves g c before none =
-    let images = (desk g.S.Store c.args.from.now).images in
-    let read = c.loop-at.from in
-    let later = c.copy_image.new.from in
     let was = c.copy_image.ensures.keeps.lasts.clean in
-    puts_stop g.S.Store c.args.tx.now.conn.now before images read later c.loop-at.tx.conn.now c.copy_image.new.tx.conn.now was c.in-Ok.accessions.items c.loop-at.at c.index.result.now
+    puts_stop g.S.Store c.args.tx.now.conn.now before (desk g.S.Store c.args.from.now).images c.loop-at.from c.copy_image.new.from c.loop-at.tx.conn.now c.copy_image.new.tx.conn.now was c.in-Ok.accessions.items c.loop-at.at c.index.result.now
     (λ clean. c.loop-at.invariant.3 (was clean)) (λ clean. ap (λ (d : Desk). d.images) (c.loop-at.invariant.1.same (c.loop-at.invariant.2 (was clean)))) (omega (arith, c.loop-at-test.true)) c.index.ensures (c.loop-at.invariant.4 before none)
     c.in_err-copy_image.field-0.0 (c.in_err-copy_image.ensures.moves _ _) c.from_residual.result c.from_residual.ensures.0
 
@@ -52,6 +46,4 @@ returns-clause-read_open g c = c.loop-at.invariant.2
 
 pub returns-clause-moves : goal.returns-clause-moves
 returns-clause-moves g c before none =
-    let images = (desk g.S.Store c.args.from.now).images in
-    let end : c.loop-at.at ≡ length c.in-Ok.accessions.items = omega (arith, c.loop-at-test.false, c.loop-at.auto.at-end) in
-    puts_all g.S.Store c.args.tx.now.conn.now before images c.loop-at.from c.loop-at.tx.conn.now c.in-Ok.accessions.items c.loop-at.at c.loop-at.invariant.3 end (c.loop-at.invariant.4 before none)
+    puts_all g.S.Store c.args.tx.now.conn.now before (desk g.S.Store c.args.from.now).images c.loop-at.from c.loop-at.tx.conn.now c.in-Ok.accessions.items c.loop-at.at c.loop-at.invariant.3 (omega (arith, c.loop-at-test.false, c.loop-at.auto.at-end)) (c.loop-at.invariant.4 before none)

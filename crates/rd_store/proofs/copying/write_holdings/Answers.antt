@@ -1,19 +1,12 @@
-use Rattle.rd_store.proofs.Common.{◌≡◌, rules, Ok, Err, HasFirstTables, IsOf, desk}
-use Rattle.rd_store.proofs.Laws.{Laws}
+use Rattle.rd_store.proofs.Common.{rules}
 use Rattle.rd_store.proofs.Transactions.{step_done, step_failed}
 use Rattle.rd_store.proofs.CopyLemmas.{of_clean}
 use Rattle.rd_store.proofs.copying.write_holdings.Goals as goal
 
 pub returns-in_err-fill-clause-turns : goal.returns-in_err-fill-clause-turns
 returns-in_err-fill-clause-turns g c was are =
-    let laws : Laws g.S.Store = record { settles = g.met.S.Store.settled; shuts = g.met.S.Store.shut_if_dirty } in
-    let after = IsOf (desk g.S.Store c.args.from.now) in
-    let same : c.drop-tx.new.self.0 ≡ c.conn-1.given.0 = search rules in
-    step_failed g.S.Store laws c.args.conn.now _ c.transaction-tx.ensures.begun (HasFirstTables 0) after c.requires.start _ _ _ same (Err c.in_err-fill.field-0.0) (of_clean g.S.Store _ _ (HasFirstTables 0) after (Err c.in_err-fill.field-0.0) c.fill.new.from was (c.in_err-fill.ensures.moves are)) c.drop-tx.ensures.undone c.drop-tx.ensures.survives c.from_residual.result c.from_residual.ensures.0
+    step_failed g.S.Store (record { settles = g.met.S.Store.settled; shuts = g.met.S.Store.shut_if_dirty }) c.args.conn.now _ c.transaction-tx.ensures.begun c.requires.start c.drop-tx.new.self.0 c.conn-1.given.0 (search rules) (of_clean g.S.Store c.fill.new.from was (c.in_err-fill.ensures.moves are)) c.drop-tx.ensures.undone c.drop-tx.ensures.survives c.from_residual.result c.from_residual.ensures.0
 
 pub returns-clause-turns : goal.returns-clause-turns
 returns-clause-turns g c was are =
-    let laws : Laws g.S.Store = record { settles = g.met.S.Store.settled; shuts = g.met.S.Store.shut_if_dirty } in
-    let after = IsOf (desk g.S.Store c.args.from.now) in
-    let same : c.commit.new.self.0 ≡ c.conn-2-1.given.0 = search rules in
-    step_done g.S.Store laws c.args.conn.now _ c.transaction-tx.ensures.begun (HasFirstTables 0) after c.requires.start _ _ _ same c.in_ok-fill.field-0 (of_clean g.S.Store _ _ (HasFirstTables 0) after (Ok c.in_ok-fill.field-0) c.fill.new.from was (c.in_ok-fill.ensures.moves are)) c.commit.ensures.survives c.commit.result c.commit.ensures.ok c.commit.ensures.err
+    step_done g.S.Store (record { settles = g.met.S.Store.settled; shuts = g.met.S.Store.shut_if_dirty }) c.args.conn.now _ c.transaction-tx.ensures.begun c.requires.start c.commit.new.self.0 c.conn-2-1.given.0 (search rules) (of_clean g.S.Store c.fill.new.from was (c.in_ok-fill.ensures.moves are)) c.commit.ensures.survives c.commit.result c.commit.ensures.ok c.commit.ensures.err

@@ -1,4 +1,5 @@
-use Rattle.rd_store.proofs.Common.{◌∙◌, ap, map, refl, subst, sym, IsNonDecreasing, column, natural, Err, Sql, All, HasErrorBytes, IsConsistent, state, ⊤}
+use Rattle.rd_store.proofs.Common.{◌∙◌, ap, map, refl, subst, sym, IsNonDecreasing, column, natural, Err, All, HasErrorBytes, IsConsistent, state, ⊤}
+use Rattle.rd_store.specs.declared.faults.OpenFault.TheVariants.{Sql}
 use Rattle.rd_store.proofs.Listings.{listing_fails, listing_passes}
 use Rattle.rd_store.proofs.BinarySearch.{numbers_ascend}
 use Rattle.rd_store.proofs.ImageWalks.{sql_part, each_has_error_bytes}
