@@ -1,5 +1,4 @@
-// The home of the page for readers: one search over titles, files and numbers, facets with their counts, an order, and
-// the disks as a list or as the screens of their machines. All that is chosen stands in the address.
+// The home of the page for readers: a search, facets with counts, an order, a list or screens, all in the address.
 import { welcome } from "./about.js";
 import { allDisks, allFiles, familyOf, found, kept, known, letterOf, mayRead, nameOfDisk } from "./room.lists.js";
 import { nameOfFile, plain, showsNow, wordsOf } from "./room.lists.js";

@@ -143,8 +143,7 @@ export const familyOf = (kind) => (kind === "cpm8" ? "cpm8" : "d64");
 const isOf = (kind, file, type) => file.type === type || (type === "picture" && isPicture(kind, file));
 const count = (counts, name) => counts.set(name, (counts.get(name) ?? 0) + 1);
 
-// The disks that have all words, and by disks the files that have those that their disk lacks, and one at least. The
-// counts are those of the other kinds and types with the same words.
+// The disks that have all words, by disks the files that have what their disk lacks, and counts of the other kinds.
 export async function found(disks, files, { q, type, kind, sort }) {
   const words = wordsOf(q);
   const counts = { kinds: new Map(), types: new Map(), all: 0, files: 0, read: 0 };
