@@ -5,10 +5,7 @@ use Rattle.sqlite.specs.Held.{Held}
 use Rattle.sqlite.specs.Store.{Ghosts}
 use Rattle.rd_store.specs.Migrated.{IsMigrated}
 use Rattle.rd_policy.specs.Days.{HasDay}
-use Rattle.rd_commands.specs.declared.done.Done.{Done}
-use Rattle.rd_commands.specs.declared.words.Ask.{Ask}
-use Rattle.rd_commands.specs.declared.words.Ask.TheVariants.{Import, OneQuestion}
-use Rattle.rd_program.specs.Asked.{IsClockDue, IsClockOn, IsOpenedToRead, IsStillOrRead, IsUnaskedBy}
+use Rattle.rd_program.specs.Asked.{IsClockDue, IsClockOn, IsOpenedToRead, IsStillOrRead}
 use Rattle.rd_commands.specs.declared.refusal.Refusal.{Refusal}
 use Rattle.rd_commands.specs.declared.refusal.Refusal.TheVariants.{Clock, NoMemory}
 use Rattle.rd_program.specs.Leaves.{moment_of}
@@ -69,20 +66,3 @@ opening_no_clock g dated moment old new refusal (inr (inr (inr (inr is)))) = sub
 pub no_clock_on : {S : Type 0} (g : Ghosts S) (dated : Bool) (moment : Option ℤ) (opened last : Held S) (refusal : Refusal) → refusal ≢ Clock → IsClockOn g dated moment opened last refusal
 no_clock_on g dated moment opened last Clock other = absurd (other refl)
 no_clock_on g dated moment opened last refusal other = tt
-
--- no day was found
-abbrev pub no_day : Refusal → Result ℤ Refusal
-no_day refusal = Err refusal
-
--- ---- by the words
-
--- the command asks at this moment
-abbrev pub IsAskedAt : Ask → Option ℤ → Type 0
-IsAskedAt (Import ask) moment = ask.when.seconds ≡ moment
-IsAskedAt (OneQuestion ask) moment = ask.when.seconds ≡ moment
-IsAskedAt ask moment = ⊥
-
-at_moment : (clock : Option ℤ) (ask : Ask) (result : Result Done Refusal) (moment : Option ℤ) → IsAskedAt ask moment → IsUnaskedBy clock ask result → IsUnasked (moment_of moment clock) result
-at_moment clock (Import ask) result moment at is = subst (λ m. IsUnasked (moment_of m clock) result) at is
-at_moment clock (OneQuestion ask) result moment at is = subst (λ m. IsUnasked (moment_of m clock) result) at is
-at_moment clock ask result moment at is = absurd at

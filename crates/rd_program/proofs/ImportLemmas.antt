@@ -1,5 +1,5 @@
 -- The lines of an import.
-use Rattle.std.proofs.Common.{◌≡◌, ◌≢◌, ℕ, List, [], ◌∷◌, ◌++◌, Option, Result, Ok, Err, IfErr, IfOk, OnOk, inl, inr, refl, subst, sym, arith, codes}
+use Rattle.std.proofs.Common.{◌≡◌, ◌≢◌, ◌⊎◌, ℕ, List, [], ◌∷◌, ◌++◌, Option, Result, Ok, Err, IfErr, IfOk, OnOk, inl, inr, refl, subst, sym, arith, codes}
 use Rattle.std.proofs.lemmas.List.Elements.{All-nil, All-push, All-weaker}
 use Rattle.std.proofs.lemmas.List.Folds.{concat-append}
 use Rattle.std.specs.List.{concat}
@@ -20,7 +20,7 @@ use Rattle.rd_commands.specs.declared.done.Done.TheVariants.{InPart, Whole}
 use Rattle.rd_commands.specs.declared.files.MachineFault.{MachineFault}
 use Rattle.rd_commands.specs.declared.files.MachineFault.TheVariants as machine_fault
 use Rattle.rd_commands.specs.declared.refusal.Refusal.{Refusal}
-use Rattle.rd_commands.specs.declared.refusal.Refusal.TheVariants.{Device, NoMemory}
+use Rattle.rd_commands.specs.declared.refusal.Refusal.TheVariants.{BadSheet, Device, NoMemory}
 use Rattle.rd_commands.specs.declared.words.Ask.{Ask}
 use Rattle.rd_commands.specs.declared.words.Ask.TheVariants.{Import, OneQuestion, Sift}
 use Rattle.rd_commands.proofs.WriterLemmas.{none_written, part_after, piece_more}
@@ -153,3 +153,8 @@ rows_tell ask tells = tells
 
 pub one_is_some : {n : ℕ} → n ≡ 1 → n ≢ 0
 one_is_some one = λ zero. omega (arith, one, zero)
+
+-- why a run over rows ends
+pub rows_why : (refusal : Refusal) (old new : Option (List ℕ)) → RefusesRows old new refusal → (refusal ≡ BadSheet) ⊎ IsRowRefusal refusal
+rows_why refusal old new (inl bad) = inl bad.0
+rows_why refusal old new (inr row) = inr row.0

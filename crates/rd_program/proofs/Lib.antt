@@ -26,3 +26,5 @@ pub mod BehindLemmas
 pub mod SiftLemmas
 pub mod ExtractLemmas
 pub mod FolderLemmas
+pub mod Frames
+pub mod Moments

@@ -139,9 +139,3 @@ module _ {S : Type 0} (g : Ghosts S) (old new : Option (Held S)) (opened last co
       go (Some seconds) on =
           ends_with g old new opened last conn (StoodOnTime g (day_number seconds zone)) is
           (λ before at is_open. (desk g opened, at.is (lasts.was_open is_open), on is_open)) same took
-
--- ---- by the words
-
--- no moment is named, and the clock is not trusted
-held : (moment : Option ℤ) (trusting : Bool) → moment ≡ None → trusting ≡ false → IsTrue (must_be_on_time moment trusting)
-held moment trusting none doubts = subst (λ m. IsTrue (must_be_on_time m trusting)) (sym none) (subst (λ t. IsTrue (must_be_on_time None t)) (sym doubts) refl)

@@ -1,5 +1,5 @@
 -- The operands that stand in files.
-use Rattle.std.proofs.Common.{◌≡◌, ◌≢◌, ◌≤◌, ◌∙◌, ℕ, IfSome, List, None, Option, Some, ap, arith, codes, length, subst, sym, take}
+use Rattle.std.proofs.Common.{◌≡◌, ◌≢◌, ◌≤◌, ◌∙◌, ℕ, IfSome, List, None, Option, Some, ap, arith, codes, length, subst, take}
 use Rattle.std.proofs.lemmas.List.{length-take, take_all}
 use Rattle.rd_operands.specs.KeyFiles.{key_of}
 use Rattle.rd_program.specs.Completing.{IsKeyAt, IsKeyIn}

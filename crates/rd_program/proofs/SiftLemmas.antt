@@ -1,5 +1,5 @@
 -- The rows of a sheet that are taken past files that cannot be read, or only tried.
-use Rattle.std.proofs.Common.{◌≡◌, ◌⊎◌, ◌+◌, ◌∙◌, ◌++◌, ◌∷◌, [], ℕ, ℤ, Bool, Err, IfNone, IfOk, IfSome, List, None, Ok, Option, Result, Some, ap, arith, codes, false, inl, inr, length, length-append, refl, subst, sym, true}
+use Rattle.std.proofs.Common.{◌≡◌, ◌⊎◌, ◌+◌, ◌∙◌, ◌++◌, ◌∷◌, [], ℕ, ℤ, Bool, Err, IfNone, IfOk, IfSome, List, None, Ok, Option, Result, Some, ap, arith, false, inl, inr, length, length-append, refl, subst, sym, true}
 use Rattle.std.specs.Borrow.{Bor}
 use Rattle.std.specs.Io.KnownBytes.{Appends}
 use Rattle.std.specs.List.{concat}

@@ -1,29 +1,20 @@
 -- The moment at which a command asks a desk.
-use Rattle.std.specs.Prelude.{◌≡◌, ◌⊎◌, ⊤, ℕ, ℤ, Bool, IfSome, List, Option, Result, false}
+use Rattle.std.specs.Prelude.{◌≡◌, ◌⊎◌, ⊤, ℤ, Bool, IfErr, IfSome, IsTrue, OnOk, Option, Result, false, true}
 use Rattle.sqlite.specs.Held.{Held}
 use Rattle.sqlite.specs.Store.{Ghosts}
 use Rattle.rd_policy.specs.Days.{HasDay}
-use Rattle.rd_store.specs.Held.{Keeps}
+use Rattle.rd_policy.specs.Zones.{day_number}
+use Rattle.rd_policy.specs.declared.zone.Zone.{Zone}
+use Rattle.rd_store.specs.Held.{IsOpen, Keeps, desk}
 use Rattle.rd_store.specs.Migrated.{IsMigrated}
-use Rattle.rd_commands.specs.Commands.{AsksCheck, AsksExport, AsksImport, AsksShow}
 use Rattle.rd_commands.specs.declared.done.Done.{Done}
 use Rattle.rd_commands.specs.declared.refusal.Refusal.{Refusal}
 use Rattle.rd_commands.specs.declared.refusal.Refusal.TheVariants.{Clock}
-use Rattle.rd_commands.specs.declared.words.Ask.{Ask}
-use Rattle.rd_commands.specs.declared.words.Ask.TheVariants.{Import, OneQuestion, Sift}
-use Rattle.rd_commands.specs.declared.words.Shown.{Shown}
-use Rattle.rd_program.specs.Leaves.{moment_of}
-use Rattle.rd_program.specs.Serving.{IsUnasked}
+use Rattle.rd_commands.specs.declared.words.WhenAsk.{WhenAsk}
+use Rattle.rd_program.specs.Leaves.{IsOfOpenDesk, moment_of}
+use Rattle.rd_program.specs.OnTime.{IsBehindOn, IsOnTime, must_be_on_time}
+use Rattle.rd_program.specs.Serving.{IsDayless}
 use Rattle.rd_program.specs.Showing.{EndsWith}
-
--- the words ask the desk in the file of a store at a moment, by the clocks of a rule: they are an `import`, an `export`,
--- a `check` or a `show`
-abbrev pub AsksAt : List (List ℕ) → List ℕ → Option ℤ → List ℕ → Type 0
-AsksAt words store moment rule =
-    ((key : List ℕ) × (sheet : List ℕ) × AsksImport words store key sheet moment rule)
-    ⊎ (((key : Option (List ℕ)) × AsksExport words store key moment rule)
-    ⊎ (((key : List ℕ) × (acc : ℕ) × AsksCheck words store key acc moment rule)
-    ⊎ ((key : List ℕ) × (what : Shown) × AsksShow words store key what moment rule)))
 
 -- A desk was opened in the store, and at most read since.
 abbrev pub IsOpenedToRead : {S : Type 0} → Ghosts S → Held S → Held S → Type 0
@@ -49,9 +40,13 @@ IsClockOn g dated moment opened last Clock =
     IsStillOrRead g opened last × (dated ≡ false → last ≡ opened) × IfSome moment (λ seconds. ¬ HasDay seconds × (last ≡ opened))
 IsClockOn g dated moment opened last refusal = ⊤
 
--- a command that asks at a moment fails before it asks the desk, if its moment is known and has no day
-abbrev pub IsUnaskedBy : Option ℤ → Ask → Result Done Refusal → Type 0
-IsUnaskedBy clock (Import ask) result = IsUnasked (moment_of ask.when.seconds clock) result
-IsUnaskedBy clock (Sift ask) result = IsUnasked (moment_of ask.import.when.seconds clock) result
-IsUnaskedBy clock (OneQuestion ask) result = IsUnasked (moment_of ask.when.seconds clock) result
-IsUnaskedBy clock ask result = ⊤
+-- An open desk is asked at a moment. If the moment is known and has no day, the desk is not asked. If the words name none, do
+-- not trust the clock, and ask what depends on the day, the clock was not behind the recorded checks where it is asked; and
+-- `clock` comes only where the moment has no day, or the clock is behind. No refusal says that no desk was opened.
+pub record AsksOn {S : Type 0} (g : Ghosts S) (dated : Bool) (when : WhenAsk) (clock : Option ℤ) (zone : Zone) (opened last : Held S) (result : Result Done Refusal) : Type 0 where
+  pub dayless : IsDayless (moment_of when.seconds clock) result
+  pub on_time : dated ≡ true → IsTrue (must_be_on_time when.seconds when.is_trusting)
+      → OnOk result (IfSome clock (λ seconds. IsOpen g last → IsOnTime (day_number seconds zone) (desk g opened)))
+  pub due : IfErr result (IsClockOn g dated when.seconds opened last)
+  pub behind : IfErr result (IsBehindOn g dated (must_be_on_time when.seconds when.is_trusting) (moment_of when.seconds clock) zone opened last)
+  pub opened_first : IfErr result IsOfOpenDesk

@@ -10,7 +10,6 @@ use Rattle.rd_commands.specs.declared.beside.Beside.{Beside}
 use Rattle.rd_commands.specs.declared.beside.Told.{Told}
 use Rattle.rd_commands.specs.declared.words.Ask.{Ask}
 use Rattle.rd_commands.specs.declared.words.Ask.TheVariants.{Import, Init, OneQuestion, Serve, Sift, StaffKey}
-use Rattle.rd_commands.specs.declared.words.ImportAsk.{ImportAsk}
 use Rattle.rd_commands.specs.declared.words.WhenAsk.{WhenAsk}
 
 -- the key is that in these bytes, and a file with a key has no more than 4,096

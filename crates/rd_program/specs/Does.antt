@@ -51,7 +51,7 @@ use Rattle.rd_program.specs.Showing.{AnswersOneQuestion, EndsWith, badge_of}
 use Rattle.rd_program.specs.Sifting.{IsSiftRefusal, SiftsSheetIn, way_asked}
 use Rattle.rd_program.specs.StaffKeys.{LeavesStaffKey, PutsStaff, RefusesStaffKey}
 use Rattle.rd_program.specs.Visiting.{ServesDoor}
-use Rattle.rd_program.specs.World.{World}
+use Rattle.rd_program.specs.World.{ChangesFolders, ChangesStore, ChangesStoreAndDoors, OpensStore, World}
 use Rattle.rd_program.specs.World.Wanted.{NewAt, StoreAt}
 
 -- What a command reads and writes beside the machine: what is to come on standard input, and what standard output has taken
@@ -63,7 +63,7 @@ pub record Io : Type 0 where
 
 -- ---- by what is asked for
 
-module _ {S D : Type 0} (g : Ghosts S) (told : D → Option VisitsSoFar) (coming : D → Option (List Coming)) (before after : World S D) (out written : Option (List ℕ)) where
+module _ {S D : Type 0} (g : Ghosts S) (before after : World S D) where
   -- A connection to the store at a path was asked for, and to no other. A machine that shows its connections had one for it
   -- where the command ends well, and has taken one back.
   pub record UsesStore (path : List ℕ) (result : Result Done Refusal) : Type 0 where
@@ -95,118 +95,127 @@ module _ {S D : Type 0} (g : Ghosts S) (told : D → Option VisitsSoFar) (coming
     pub due : IfErr result (IsClockDue g dated when.seconds (before.stands path) after.left)
     pub behind : IfErr result (IsBehindIn g dated (must_be_on_time when.seconds when.is_trusting) (moment_of when.seconds before.clock) when.zone (before.stands path) after.left)
 
-  -- `cat` writes exactly the bytes of a sound file of the image, or names the refusal that is due. The machine shows what it
-  -- showed.
-  pub record DoesCat (input : Option (List ℕ)) (ask : FileAsk) (result : Result Done Refusal) : Type 0 where
-    pub same : after ≡ before
-    pub so : OfImage before.files input ask.image.now (λ image. MatchResult result
-        (λ done. Serves ask.kind ask.slot image out written)
-        (λ refusal. Refuses refusal ask.kind ask.slot image out written))
+  -- ---- each command
 
-  -- `list` writes exactly the list of the image's files, or names the refusal that is due. The machine shows what it showed.
-  pub record DoesList (input : Option (List ℕ)) (ask : ImageAsk) (result : Result Done Refusal) : Type 0 where
-    pub same : after ≡ before
-    pub so : OfImage before.files input ask.image.now (λ image. MatchResult result
-        (λ done. Lists ask.kind image out written)
-        (λ refusal. RefusesList refusal ask.kind image out written))
+  module _ (out written : Option (List ℕ)) where
+    -- `cat` writes exactly the bytes of a sound file of the image, or names the refusal that is due. The machine shows what it
+    -- showed.
+    pub record DoesCat (input : Option (List ℕ)) (ask : FileAsk) (result : Result Done Refusal) : Type 0 where
+      pub same : after ≡ before
+      pub so : OfImage before.files input ask.image.now (λ image. MatchResult result
+          (λ done. Serves ask.kind ask.slot image out written)
+          (λ refusal. Refuses refusal ask.kind ask.slot image out written))
 
-  -- `files` makes the sound files of the image in the folder that the words name, over nothing, and writes the line of each;
-  -- or it made a front part of them, and names why it stopped. It asks for no connection.
-  pub record DoesFiles (input : Option (List ℕ)) (ask : ExtractAsk) (result : Result Done Refusal) : Type 0 where
-    pub asked : after.wanted ≡ before.wanted
-    pub so : MatchResult result
-        (λ done. OfImage before.files input ask.image.image.now (λ image.
-        Extracts ask.image.kind image ask.folder.now before.written after.written out written))
-        (λ refusal. OfImage before.files input ask.image.image.now (λ image.
-        RefusesExtract ask.image.kind image ask.folder.now before.written after.written out written refusal))
+    -- `list` writes exactly the list of the image's files, or names the refusal that is due. The machine shows what it showed.
+    pub record DoesList (input : Option (List ℕ)) (ask : ImageAsk) (result : Result Done Refusal) : Type 0 where
+      pub same : after ≡ before
+      pub so : OfImage before.files input ask.image.now (λ image. MatchResult result
+          (λ done. Lists ask.kind image out written)
+          (λ refusal. RefusesList refusal ask.kind image out written))
 
-  -- `init` makes a desk in the store, whose one key of the staff is this, with sums as its words say, and says that it is
-  -- done; or it names why not.
-  pub record DoesInit (ask : InitAsk) (result : Result Done Refusal) : Type 0 where
-    pub store : UsesStore ask.store.now result
-    pub sums : AsksSums before.sums ask.has_sums after.sums
-    pub so : MatchResult result
-        (λ done. MakesDesk g (before.stands ask.store.now) after.left (sha256 ask.key.now) × Appends out written done_line)
-        (λ refusal. RefusesInit refusal out written × LeavesInit g before.left (before.stands ask.store.now) after.left (sha256 ask.key.now) refusal)
+    -- `files` makes the sound files of the image in the folder that the words name, over nothing, and writes the line of each;
+    -- or it made a front part of them, and names why it stopped. Nothing else of the machine changes.
+    pub record DoesFiles (input : Option (List ℕ)) (ask : ExtractAsk) (result : Result Done Refusal) : Type 0 where
+      pub frame : ChangesFolders before after
+      pub so : MatchResult result
+          (λ done. OfImage before.files input ask.image.image.now (λ image.
+          Extracts ask.image.kind image ask.folder.now before.written after.written out written))
+          (λ refusal. OfImage before.files input ask.image.image.now (λ image.
+          RefusesExtract ask.image.kind image ask.folder.now before.written after.written out written refusal))
 
-  -- `staff-key` puts this key as one of the staff of the desk that stood, changes nothing else, and says that it is done; or
-  -- it names why not.
-  pub record DoesStaffKey (ask : StaffKeyAsk) (result : Result Done Refusal) : Type 0 where
-    pub store : UsesStore ask.store.now result
-    pub so : MatchResult result
-        (λ done. EndsAt ask.store.now (PutsStaff g (sha256 ask.key.now)) × Appends out written done_line)
-        (λ refusal. RefusesStaffKey refusal out written
-        × LeavesStaffKey g before.left (before.stands ask.store.now) after.left (sha256 ask.key.now) refusal × NamesOpeningAt ask.store.now refusal)
+    -- `init` makes a desk in the store, whose one key of the staff is this, with sums as its words say, and says that it is
+    -- done; or it names why not.
+    pub record DoesInit (ask : InitAsk) (result : Result Done Refusal) : Type 0 where
+      pub frame : OpensStore before after
+      pub store : UsesStore ask.store.now result
+      pub sums : AsksSums before.sums ask.has_sums after.sums
+      pub so : MatchResult result
+          (λ done. MakesDesk g (before.stands ask.store.now) after.left (sha256 ask.key.now) × Appends out written done_line)
+          (λ refusal. RefusesInit refusal out written × LeavesInit g before.left (before.stands ask.store.now) after.left (sha256 ask.key.now) refusal)
 
-  -- `copy` makes the desk that stood in a new store, and says that it is done; or it names why not. It asks for no new store
-  -- but this one, and only where it opened the desk, which is as it was.
-  pub record DoesCopy (ask : CopyAsk) (result : Result Done Refusal) : Type 0 where
-    pub asked : AsksThen before.wanted (StoreAt ask.store.now) (NewAt ask.target.now) after.wanted
-    pub there : OnEnded result (HasBoth before.shows (before.stands ask.store.now) after.left)
-    pub leaves : LeavesAt ask.store.now (LeavesStore g IsSame)
-    pub copies : RunsCopy g before.shows (before.stands ask.store.now) after.left before.made (before.fresh ask.target.now) after.made out written result
-    pub asks_new : AsksNoOtherNew before.new_stores ask.target.now ask.has_sums after.new_stores (EndsAt ask.store.now (OpensDesk g))
+    -- `staff-key` puts this key as one of the staff of the desk that stood, changes nothing else, and says that it is done; or
+    -- it names why not.
+    pub record DoesStaffKey (ask : StaffKeyAsk) (result : Result Done Refusal) : Type 0 where
+      pub frame : OpensStore before after
+      pub store : UsesStore ask.store.now result
+      pub so : MatchResult result
+          (λ done. EndsAt ask.store.now (PutsStaff g (sha256 ask.key.now)) × Appends out written done_line)
+          (λ refusal. RefusesStaffKey refusal out written
+          × LeavesStaffKey g before.left (before.stands ask.store.now) after.left (sha256 ask.key.now) refusal × NamesOpeningAt ask.store.now refusal)
 
-  -- `export`, `check` and `show` ask the desk that stood one question, at a moment, and write its answer; or they name why
-  -- there is none. A check is recorded, and nothing else changes.
-  pub record DoesQuestion (ask : OneQuestionAsk) (result : Result Done Refusal) : Type 0 where
-    pub store : UsesStore ask.store.now result
-    pub leaves : LeavesAt ask.store.now (LeavesStore g (StepsOf (badge_of ask) (Days ask.when) ask.question))
-    pub moment : AsksAt ask.store.now ask.when (is_dated ask.question) result
-    pub answers : AnswersOneQuestion g before.clock (before.stands ask.store.now) after.left out written ask result
-    pub tells : (acc : ℕ) → IsCheckOf acc ask.question → IfOk result (TellsCheck acc out written)
-    pub refused : IfErr result (RefusesOneQuestion out written)
-    pub opening : IfErr result (NamesOpeningAt ask.store.now)
+    -- `copy` makes the desk that stood in a new store, and says that it is done; or it names why not. It asks for no new store
+    -- but this one, and only where it opened the desk, which is as it was.
+    pub record DoesCopy (ask : CopyAsk) (result : Result Done Refusal) : Type 0 where
+      pub asked : AsksThen before.wanted (StoreAt ask.store.now) (NewAt ask.target.now) after.wanted
+      pub there : OnEnded result (HasBoth before.shows (before.stands ask.store.now) after.left)
+      pub leaves : LeavesAt ask.store.now (LeavesStore g IsSame)
+      pub copies : RunsCopy g before.shows (before.stands ask.store.now) after.left before.made (before.fresh ask.target.now) after.made out written result
+      pub asks_new : AsksNoOtherNew before.new_stores ask.target.now ask.has_sums after.new_stores (EndsAt ask.store.now (OpensDesk g))
 
-  -- `import` takes in the images of a sheet at a moment, row by row, and writes the line of each, which says what became of
-  -- it; or it names why it ends before the last. Nothing else changes.
-  pub record DoesImport (ask : ImportAsk) (result : Result Done Refusal) : Type 0 where
-    pub store : UsesStore ask.store.now result
-    pub leaves : LeavesAt ask.store.now (LeavesStore g (TakesIn (sha256 ask.key.now) (Days ask.when)))
-    pub moment : AsksAt ask.store.now ask.when true result
-    pub rows : IfOk result (λ done. EndsAt ask.store.now (TakesSheetIn g before.files (sha256 ask.key.now) (Days ask.when) (before.sheets ask.sheet.now) out written done))
-    pub tells : MatchResult result (TellsRows out written) (RefusesImport out written)
-    pub opening : IfErr result (NamesOpeningAt ask.store.now)
-    pub bad_sheet : IfErr result (λ refusal. IfSome (before.sheets ask.sheet.now) (λ bytes. IsBadSheetDue bytes refusal))
+    -- `export`, `check` and `show` ask the desk that stood one question, at a moment, and write its answer; or they name why
+    -- there is none. A check is recorded, and nothing else changes.
+    pub record DoesQuestion (ask : OneQuestionAsk) (result : Result Done Refusal) : Type 0 where
+      pub frame : ChangesStore before after
+      pub store : UsesStore ask.store.now result
+      pub leaves : LeavesAt ask.store.now (LeavesStore g (StepsOf (badge_of ask) (Days ask.when) ask.question))
+      pub moment : AsksAt ask.store.now ask.when (is_dated ask.question) result
+      pub answers : AnswersOneQuestion g before.clock (before.stands ask.store.now) after.left out written ask result
+      pub tells : (acc : ℕ) → IsCheckOf acc ask.question → IfOk result (TellsCheck acc out written)
+      pub refused : IfErr result (RefusesOneQuestion out written)
+      pub opening : IfErr result (NamesOpeningAt ask.store.now)
 
-  -- With `--dry-run` the lines say what would become of the rows, and the desk is as it was; with `--keep-going` it goes on
-  -- past files that it cannot read.
-  pub record DoesSift (ask : SiftAsk) (result : Result Done Refusal) : Type 0 where
-    pub store : UsesStore ask.import.store.now result
-    pub leaves : LeavesAt ask.import.store.now (LeavesStore g (TakesUnlessDry ask.dry_run (sha256 ask.import.key.now) (Days ask.import.when)))
-    pub moment : AsksAt ask.import.store.now ask.import.when true result
-    pub rows : IfOk result (λ done. EndsAt ask.import.store.now
-        (SiftsSheetIn g before.files (way_asked ask) (sha256 ask.import.key.now) (Days ask.import.when) (before.sheets ask.import.sheet.now) out written done))
-    pub refused : IfErr result IsSiftRefusal
-    pub opening : IfErr result (NamesOpeningAt ask.import.store.now)
-    pub bad_sheet : IfErr result (λ refusal. IfSome (before.sheets ask.import.sheet.now) (λ bytes. IsBadSheetDue bytes refusal))
+    -- `import` takes in the images of a sheet at a moment, row by row, and writes the line of each, which says what became of
+    -- it; or it names why it ends before the last. Nothing else changes.
+    pub record DoesImport (ask : ImportAsk) (result : Result Done Refusal) : Type 0 where
+      pub frame : ChangesStore before after
+      pub store : UsesStore ask.store.now result
+      pub leaves : LeavesAt ask.store.now (LeavesStore g (TakesIn (sha256 ask.key.now) (Days ask.when)))
+      pub moment : AsksAt ask.store.now ask.when true result
+      pub rows : IfOk result (λ done. EndsAt ask.store.now (TakesSheetIn g before.files (sha256 ask.key.now) (Days ask.when) (before.sheets ask.sheet.now) out written done))
+      pub tells : MatchResult result (TellsRows out written) (RefusesImport out written)
+      pub opening : IfErr result (NamesOpeningAt ask.store.now)
+      pub bad_sheet : IfErr result (λ refusal. IfSome (before.sheets ask.sheet.now) (λ bytes. IsBadSheetDue bytes refusal))
 
-  -- `serve` writes where visits come, takes as many there as its words say, replies to each, and says how many there were; or
-  -- it names why it ends before that. It writes nothing before a door is lent.
-  pub record DoesServe (ask : ServeAsk) (result : Result Done Refusal) : Type 0 where
-    pub store : UsesStore ask.store.now result
-    pub leaves : LeavesAt ask.store.now (Lasts g)
-    pub so : MatchResult result
-        (λ done. Appends out written (serve_text (place_of ask.place) ask.count))
-        (λ refusal. RefusesServe refusal (place_of ask.place) ask.count out written
-        × LeavesServe g before.left (before.stands ask.store.now) after.left (place_of ask.place) out written refusal)
-    pub visits : OnOk result (ServesDoor g told coming ask.count ask.zone (before.doors (place_of ask.place)) (after.doors (place_of ask.place))
-        (before.stands ask.store.now) after.left)
-    pub limits : OnOk result (IsTrue before.shows → IsSomeAnd after.limits (AreLimitsOf ask.timeouts))
-    pub lent : WritesOnceLent before.shows after.limits out written
+    -- With `--dry-run` the lines say what would become of the rows, and the desk is as it was; with `--keep-going` it goes on
+    -- past files that it cannot read.
+    pub record DoesSift (ask : SiftAsk) (result : Result Done Refusal) : Type 0 where
+      pub frame : ChangesStore before after
+      pub store : UsesStore ask.import.store.now result
+      pub leaves : LeavesAt ask.import.store.now (LeavesStore g (TakesUnlessDry ask.dry_run (sha256 ask.import.key.now) (Days ask.import.when)))
+      pub moment : AsksAt ask.import.store.now ask.import.when true result
+      pub rows : IfOk result (λ done. EndsAt ask.import.store.now
+          (SiftsSheetIn g before.files (way_asked ask) (sha256 ask.import.key.now) (Days ask.import.when) (before.sheets ask.import.sheet.now) out written done))
+      pub refused : IfErr result IsSiftRefusal
+      pub opening : IfErr result (NamesOpeningAt ask.import.store.now)
+      pub bad_sheet : IfErr result (λ refusal. IfSome (before.sheets ask.import.sheet.now) (λ bytes. IsBadSheetDue bytes refusal))
+
+    -- `serve` writes where visits come, takes as many there as its words say, replies to each, and says how many there were; or
+    -- it names why it ends before that. It writes nothing before a door is lent.
+    pub record DoesServe (told : D → Option VisitsSoFar) (coming : D → Option (List Coming)) (ask : ServeAsk) (result : Result Done Refusal) : Type 0 where
+      pub frame : ChangesStoreAndDoors before after
+      pub store : UsesStore ask.store.now result
+      pub leaves : LeavesAt ask.store.now (Lasts g)
+      pub so : MatchResult result
+          (λ done. Appends out written (serve_text (place_of ask.place) ask.count))
+          (λ refusal. RefusesServe refusal (place_of ask.place) ask.count out written
+          × LeavesServe g before.left (before.stands ask.store.now) after.left (place_of ask.place) out written refusal)
+      pub visits : OnOk result (ServesDoor g told coming ask.count ask.zone (before.doors (place_of ask.place)) (after.doors (place_of ask.place))
+          (before.stands ask.store.now) after.left)
+      pub limits : OnOk result (IsTrue before.shows → IsSomeAnd after.limits (AreLimitsOf ask.timeouts))
+      pub lent : WritesOnceLent before.shows after.limits out written
 
 -- what a command does
 abbrev pub Does : {S D : Type 0} → Ghosts S → (D → Option VisitsSoFar) → (D → Option (List Coming)) → World S D → World S D → Io → Ask → Result Done Refusal → Type 0
-Does g told coming before after io (File ask) result = DoesCat g told coming before after io.out io.written io.input ask result
-Does g told coming before after io (Files ask) result = DoesList g told coming before after io.out io.written io.input ask result
-Does g told coming before after io (Extract ask) result = DoesFiles g told coming before after io.out io.written io.input ask result
-Does g told coming before after io (Init ask) result = DoesInit g told coming before after io.out io.written ask result
-Does g told coming before after io (StaffKey ask) result = DoesStaffKey g told coming before after io.out io.written ask result
-Does g told coming before after io (Copy ask) result = DoesCopy g told coming before after io.out io.written ask result
-Does g told coming before after io (OneQuestion ask) result = DoesQuestion g told coming before after io.out io.written ask result
-Does g told coming before after io (Import ask) result = DoesImport g told coming before after io.out io.written ask result
-Does g told coming before after io (Sift ask) result = DoesSift g told coming before after io.out io.written ask result
-Does g told coming before after io (Serve ask) result = DoesServe g told coming before after io.out io.written ask result
+Does g told coming before after io (File ask) result = DoesCat g before after io.out io.written io.input ask result
+Does g told coming before after io (Files ask) result = DoesList g before after io.out io.written io.input ask result
+Does g told coming before after io (Extract ask) result = DoesFiles g before after io.out io.written io.input ask result
+Does g told coming before after io (Init ask) result = DoesInit g before after io.out io.written ask result
+Does g told coming before after io (StaffKey ask) result = DoesStaffKey g before after io.out io.written ask result
+Does g told coming before after io (Copy ask) result = DoesCopy g before after io.out io.written ask result
+Does g told coming before after io (OneQuestion ask) result = DoesQuestion g before after io.out io.written ask result
+Does g told coming before after io (Import ask) result = DoesImport g before after io.out io.written ask result
+Does g told coming before after io (Sift ask) result = DoesSift g before after io.out io.written ask result
+Does g told coming before after io (Serve ask) result = DoesServe g before after io.out io.written told coming ask result
 
 -- ---- a run of the program
 

@@ -3,7 +3,7 @@ use Rattle.std.specs.Prelude.{◌≡◌, ◌⊎◌, ℕ, Bool, IfSome, IsTrue, L
 use Rattle.std.specs.Borrow.{Fml, LendsSoOk, MutBor, RattleType}
 use Rattle.rd_messages.specs.declared.pace.TimeLimits.{TimeLimits}
 use Rattle.rd_commands.specs.Serving.{Place}
-use Rattle.rd_program.specs.World.{Wanted, World}
+use Rattle.rd_program.specs.World.{ChangesClock, ChangesDoors, Wanted, World}
 use Rattle.rd_program.specs.World.Wanted.{StoreAt}
 
 -- this one was asked for, and no other
@@ -25,16 +25,12 @@ AsksSums old summed new = IfSome old (λ before. new ≡ Some (summed ∷ before
 -- The machine shows what it showed, but for its clock; at the place, if it showed the door there, the door as its borrower
 -- left it; and, if it shows its connections, that visitors may take as long as it was told.
 pub record KeepsDoor {S D : Type 0} (place : Place) (given : TimeLimits) (old new : World S D) (door : D) : Type 0 where
-  pub frame : new ≡ record old { clock = new.clock; doors = new.doors; limits = new.limits }
+  pub frame : ChangesDoors old new
   pub limited : IsTrue old.shows → new.limits ≡ Some given
   pub kept : IfSome (old.doors place) (λ before. new.doors place ≡ Some door)
-
--- it shows what it showed, but for its clock
-abbrev pub KeepsAllButClock : {S D : Type 0} → World S D → World S D → Type 0
-KeepsAllButClock old new = new ≡ record old { clock = new.clock }
 
 module _ (R T : RattleType) where
   -- the machine lends the door at a place, and keeps it as its borrower leaves it
   abbrev pub LendsDoor : {S E : Type 0} → (R.Denot → World S T.Denot) → Place → TimeLimits → MutBor R.Denot → Result (MutBor T.Denot) E → Fml
   LendsDoor seen place given machine lent =
-      LendsSoOk R T machine lent (λ new. KeepsDoor place given (seen machine.now) (seen new)) (λ new. KeepsAllButClock (seen machine.now) (seen new))
+      LendsSoOk R T machine lent (λ new. KeepsDoor place given (seen machine.now) (seen new)) (λ new. ChangesClock (seen machine.now) (seen new))

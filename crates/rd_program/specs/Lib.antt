@@ -38,6 +38,5 @@ pub use Rattle.rd_commands.specs.Versions
 -- ---- inside: what only private functions and proofs cite
 -- Only private functions and proofs cite what follows a line `inside` in a file.
 pub mod Faults
-pub mod DiskFiles
 pub mod Answers
 pub use Rattle.rd_commands.specs.Sheets

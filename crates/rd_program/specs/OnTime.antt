@@ -1,16 +1,15 @@
 -- A clock that shows a day more than one day before that of a recorded check: it is wrong, unless that check was made
 -- by one that was.
-use Rattle.std.specs.Prelude.{◌≡◌, ◌⊎◌, ⊤, ℕ, ℤ, ◌+ℤ◌, pos, Bool, IfSome, IsTrue, List, None, Option, false, true}
+use Rattle.std.specs.Prelude.{◌≡◌, ⊤, ℤ, ◌+ℤ◌, pos, Bool, IfSome, IsTrue, None, Option, false, true}
 use Rattle.sqlite.specs.Held.{Held, state}
 use Rattle.sqlite.specs.Store.{Ghosts}
 use Rattle.rd_holdings.specs.State.{Desk}
 use Rattle.rd_policy.specs.Days.{HasDay}
-use Rattle.rd_policy.specs.Zones.{IsZoneOf, day_number}
+use Rattle.rd_policy.specs.Zones.{day_number}
 use Rattle.rd_policy.specs.declared.zone.Zone.{Zone}
 use Rattle.rd_store.specs.Held.{IsOpen, desk}
 use Rattle.rd_store.specs.Latest.{HasCheckAfter, HasNoCheckAfter}
 use Rattle.rd_store.specs.Migrated.{SpellsDesk}
-use Rattle.rd_commands.specs.Commands.{AsksCheck, AsksExport, AsksImport, Trusts}
 use Rattle.rd_commands.specs.declared.refusal.Refusal.{Refusal}
 use Rattle.rd_commands.specs.declared.refusal.Refusal.TheVariants.{Clock}
 use Rattle.rd_commands.specs.declared.words.Question.{Question}
@@ -26,14 +25,6 @@ IsOnTime day desk = HasNoCheckAfter (day +ℤ pos 1) desk
 abbrev pub IsBehind : ℤ → Desk → Type 0
 IsBehind day desk = HasCheckAfter (day +ℤ pos 1) desk
 
--- the words have a command go by the clock of the machine and by the rule, and what it does depends on the day: they are
--- an `import`, an `export` or a `check` without a moment
-abbrev pub GoesByClock : List (List ℕ) → List ℕ → List ℕ → Type 0
-GoesByClock words store rule =
-    ((key : List ℕ) × (sheet : List ℕ) × AsksImport words store key sheet None rule)
-    ⊎ (((key : Option (List ℕ)) × AsksExport words store key None rule)
-    ⊎ ((key : List ℕ) × (acc : ℕ) × AsksCheck words store key acc None rule))
-
 -- While the connection is open, the desk that the tables spelled was on time on this day.
 abbrev pub StoodOnTime : {S : Type 0} → Ghosts S → ℤ → Held S → Held S → Type 0
 StoodOnTime g day before last = IsOpen g last → (found : Desk) × SpellsDesk (state g before).now found × IsOnTime day found
@@ -45,17 +36,6 @@ WasOnTime g clock zone stood left = IfSome clock (λ seconds. EndsWith stood lef
 -- While the connection is open, the desk that the tables spelled had recorded a check that makes the clock wrong.
 abbrev pub StoodBehind : {S : Type 0} → Ghosts S → ℤ → Held S → Held S → Type 0
 StoodBehind g day before last = IsOpen g last → (found : Desk) × SpellsDesk (state g before).now found × IsBehind day found
-
--- the same on the day of a moment by the clocks of the rule
-abbrev pub WasBehindBy : {S : Type 0} → Ghosts S → ℤ → List ℕ → Option (Held S) → Option (Held S) → Type 0
-WasBehindBy g seconds rule stood left = (zone : Zone) × IsZoneOf rule zone × EndsWith stood left (StoodBehind g (day_number seconds zone))
-
--- At a moment that is known and has a day, `clock` comes only if the words have the command go by the clock and do not
--- trust it, and, if the connection is open at the end, the clock was behind the desk that stood.
-abbrev pub IsBehindDue : {S : Type 0} → Ghosts S → List (List ℕ) → List ℕ → List ℕ → Option ℤ → Option (Held S) → Option (Held S) → Refusal → Type 0
-IsBehindDue g words store rule moment stood left Clock =
-    IfSome moment (λ seconds. HasDay seconds → GoesByClock words store rule × ¬ Trusts words true × WasBehindBy g seconds rule stood left)
-IsBehindDue g words store rule moment stood left refusal = ⊤
 
 -- ---- inside
 

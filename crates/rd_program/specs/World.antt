@@ -1,5 +1,5 @@
 -- What a machine shows of itself, as far as it shows it.
-use Rattle.std.specs.Prelude.{ℕ, ℤ, Bool, List, None, Option, false}
+use Rattle.std.specs.Prelude.{◌≡◌, ℕ, ℤ, Bool, List, None, Option, false}
 use Rattle.sqlite.specs.Held.{Held}
 use Rattle.rd_messages.specs.declared.pace.TimeLimits.{TimeLimits}
 use Rattle.rd_commands.specs.Serving.{Place}
@@ -54,3 +54,42 @@ nothing_shown = record {
   limits = None;
   written = None;
 }
+
+-- ---- what stays
+
+-- of all that is shown only the clock may have changed
+abbrev pub ChangesClock : {S D : Type 0} → World S D → World S D → Type 0
+ChangesClock old new = new ≡ record old { clock = new.clock }
+
+-- only the stores, and the connection that was taken back last
+abbrev pub TakesBack : {S D : Type 0} → World S D → World S D → Type 0
+TakesBack old new = new ≡ record old { stands = new.stands; left = new.left }
+
+-- the same of new stores
+abbrev pub TakesBackNew : {S D : Type 0} → World S D → World S D → Type 0
+TakesBackNew old new = new ≡ record old { fresh = new.fresh; made = new.made }
+
+-- only the stores, the connection that was taken back last, and what was asked for
+abbrev pub OpensStore : {S D : Type 0} → World S D → World S D → Type 0
+OpensStore old new = new ≡ record old { stands = new.stands; left = new.left; wanted = new.wanted; sums = new.sums }
+
+-- these, and the clock
+abbrev pub ChangesStore : {S D : Type 0} → World S D → World S D → Type 0
+ChangesStore old new = new ≡ record old { clock = new.clock; stands = new.stands; left = new.left; wanted = new.wanted; sums = new.sums }
+
+-- only the clock, the doors and the limits of their visitors
+abbrev pub ChangesDoors : {S D : Type 0} → World S D → World S D → Type 0
+ChangesDoors old new = new ≡ record old { clock = new.clock; doors = new.doors; limits = new.limits }
+
+-- these, and what a store changes
+abbrev pub ChangesStoreAndDoors : {S D : Type 0} → World S D → World S D → Type 0
+ChangesStoreAndDoors old new =
+    new ≡ record old { clock = new.clock; stands = new.stands; left = new.left; wanted = new.wanted; sums = new.sums; doors = new.doors; limits = new.limits }
+
+-- only the new stores, and what was asked for
+abbrev pub OpensNewStore : {S D : Type 0} → World S D → World S D → Type 0
+OpensNewStore old new = new ≡ record old { fresh = new.fresh; made = new.made; new_stores = new.new_stores; wanted = new.wanted }
+
+-- only the files that were made
+abbrev pub ChangesFolders : {S D : Type 0} → World S D → World S D → Type 0
+ChangesFolders old new = new ≡ record old { written = new.written }

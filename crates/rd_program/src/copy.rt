@@ -8,6 +8,7 @@ ghost use Rattle.rd_program.specs.Doors.{Asks, AsksThen};
 ghost use Rattle.rd_program.specs.Inits.{IsInitRefusal, done_line};
 ghost use Rattle.rd_program.specs.Leaves.{GivesBack, HasBoth, IsSame, Leaves, LeavesDesk, LeavesStore, NamesOpening, OnEnded};
 ghost use Rattle.rd_program.specs.Showing.{EndsWith};
+ghost use Rattle.rd_program.specs.World.{OpensNewStore};
 ghost use Rattle.rd_program.specs.World.Wanted.{NewAt, StoreAt};
 
 use crate::faults::not_made;
@@ -55,9 +56,8 @@ fn copy_to<M: Machine>(
     ensures refused { IfErr result IsInitRefusal }
     ensures back_new { GivesBack (M.seen machine.old).shows (M.seen machine.old).made (M.seen machine.new).made }
     ensures asked_new { AsksNew (M.seen machine.old).new_stores target.now has_sums (M.seen machine.new).new_stores }
-    ensures left { (M.seen machine.new).left ≡ (M.seen machine.old).left }
     ensures asked { Asks (M.seen machine.old).wanted (NewAt target.now) (M.seen machine.new).wanted }
-    ensures shows { (M.seen machine.new).shows ≡ (M.seen machine.old).shows }
+    ensures frame { OpensNewStore (M.seen machine.old) (M.seen machine.new) }
 {
     let found = match machine.connect_new(target, has_sums) {
         Ok(found) => found,

@@ -1,23 +1,23 @@
 //! Asks a desk one question: for the catalogue, what a check of an image finds, or what stands.
 
-ghost use Rattle.std.specs.Prelude.{◌≡◌, ◌≢◌, ◌⊎◌, IfErr, IfOk, IfSome, IsSome, IsTrue, OnOk, Some, false, option_map, true, ℕ};
+ghost use Rattle.std.specs.Prelude.{◌≡◌, ◌≢◌, ◌⊎◌, IfErr, IfOk, IsSome, IsTrue, OnOk, Some, false, option_map, true, ℕ};
 ghost use Rattle.std.specs.String.{string_bytes};
 ghost use Rattle.sha2.specs.Sha256.{sha256};
 ghost use Rattle.rd_policy.specs.Days.{IsDay};
-ghost use Rattle.rd_policy.specs.Zones.{day_number};
 ghost use Rattle.rd_policy.specs.Rules.{IsScope};
 ghost use Rattle.rd_holdings.specs.Findings.{outcome_word};
 ghost use Rattle.rd_store.specs.Held.{IsOpen, desk as desk_in};
-ghost use Rattle.rd_program.specs.Doors.{AsksPath};
-ghost use Rattle.rd_program.specs.Asked.{IsClockDue, IsClockOn, IsStillOrRead};
+ghost use Rattle.rd_program.specs.Asked.{AsksOn, IsClockOn, IsStillOrRead};
+ghost use Rattle.rd_program.specs.Does.{AsksAt, UsesStore};
 ghost use Rattle.rd_program.specs.Asking.{RefusesOneQuestion, TellsCheck};
 ghost use Rattle.rd_commands.specs.Asks.{IsAskable, IsCheck, IsCheckOf};
 ghost use Rattle.rd_program.specs.Importing.{accession_line};
 ghost use Rattle.rd_protocol.specs.declared.request.What.{What};
-ghost use Rattle.rd_program.specs.Leaves.{Checks, GivesBack, HasBoth, IsDayAt, IsOfOpenDesk, Leaves, LeavesDesk, LeavesStore, NamesOpening, OnEnded, StepsOf, moment_of};
-ghost use Rattle.rd_program.specs.OnTime.{IsBehindIn, IsBehindOn, IsOnTime, WasOnTime, is_dated, must_be_on_time};
-ghost use Rattle.rd_program.specs.Serving.{IsClockRefusal, IsDayless, IsUnasked};
+ghost use Rattle.rd_program.specs.Leaves.{Checks, GivesBack, IsDayAt, IsOfOpenDesk, Leaves, LeavesDesk, LeavesStore, NamesOpening, StepsOf, moment_of};
+ghost use Rattle.rd_program.specs.OnTime.{IsBehindOn, IsOnTime, is_dated, must_be_on_time};
+ghost use Rattle.rd_program.specs.Serving.{IsClockRefusal, IsDayless};
 ghost use Rattle.rd_program.specs.Showing.{AnswersOneQuestion, Finds, IsDueOn, OfDesk, RefusesShow, Shows, asked_of, found_by, request_of, what_to_show};
+ghost use Rattle.rd_program.specs.World.{ChangesClock, ChangesStore};
 
 use crate::answers::outcome_of;
 use crate::asker::{Asker, answer_of, badge_of};
@@ -96,8 +96,7 @@ fn question_day<S: Alter, M: Machine>(
         → IsOpen S.Store desk.new.store → IsOnTime day (desk_in S.Store desk.old.store)) }
     ensures reads { IsStillOrRead S.Store desk.old.store desk.new.store }
     ensures zone { desk.new.zone ≡ desk.old.zone }
-    ensures shows { (M.seen machine.new).shows ≡ (M.seen machine.old).shows }
-    ensures asked { (M.seen machine.new).wanted ≡ (M.seen machine.old).wanted }
+    ensures frame { ChangesClock (M.seen machine.old) (M.seen machine.new) }
     ensures in_range { IfOk result IsDay }
     ensures dayless { IsDayless (moment_of ask.now.when.seconds (M.seen machine.old).clock) result }
     ensures clock { IfErr result (IsClockOn S.Store (is_dated ask.now.question) ask.now.when.seconds desk.old.store desk.new.store) }
@@ -129,15 +128,8 @@ fn tell_asked<S: Alter + Drop, W: Write, M: Machine>(
     ensures written { (acc : ℕ) → IsCheckOf acc ask.now.question
         → IfOk result (TellsCheck acc (W.contents output.old) (W.contents output.new)) }
     ensures refused { IfErr result (RefusesOneQuestion (W.contents output.old) (W.contents output.new)) }
-    ensures dayless { IsDayless (moment_of ask.now.when.seconds (M.seen machine.old).clock) result }
-    ensures clock { IfErr result (IsClockOn S.Store (is_dated ask.now.question) ask.now.when.seconds desk.old.store desk.new.store) }
-    ensures late { IfErr result (IsBehindOn S.Store (is_dated ask.now.question) (must_be_on_time ask.now.when.seconds ask.now.when.is_trusting)
-        (moment_of ask.now.when.seconds (M.seen machine.old).clock) desk.old.zone desk.old.store desk.new.store) }
-    ensures on_time { is_dated ask.now.question ≡ true → IsTrue (must_be_on_time ask.now.when.seconds ask.now.when.is_trusting)
-        → OnOk result (IfSome (M.seen machine.old).clock (λ seconds. IsOpen S.Store desk.new.store
-        → IsOnTime (day_number seconds desk.old.zone) (desk_in S.Store desk.old.store))) }
+    ensures moment { AsksOn S.Store (is_dated ask.now.question) ask.now.when (M.seen machine.old).clock desk.old.zone desk.old.store desk.new.store result }
     ensures flushed { OnOk result (IsTrue (M.flushed (W.contents output.new))) }
-    ensures opened { IfErr result IsOfOpenDesk }
     ensures steps { LeavesDesk S.Store (StepsOf (option_map sha256 (option_map (λ key. key.now) ask.now.key))
         (IsDayAt (moment_of ask.now.when.seconds (M.seen machine.old).clock) desk.old.zone) ask.now.question) desk.old.store desk.new.store }
     ensures shown { (what : What) → what_to_show ask.now.question ≡ Some what
@@ -152,8 +144,7 @@ fn tell_asked<S: Alter + Drop, W: Write, M: Machine>(
     ensures due { IsSome ask.now.key ⊎ (ask.now.question ≡ Question.Catalogue)
         → IfErr result (IsDueOn S.Store (IsDayAt (moment_of ask.now.when.seconds (M.seen machine.old).clock) desk.old.zone)
         (request_of (option_map sha256 (option_map (λ key. key.now) ask.now.key)) (asked_of ask.now.question)) desk.old.store desk.new.store) }
-    ensures shows { (M.seen machine.new).shows ≡ (M.seen machine.old).shows }
-    ensures asked { (M.seen machine.new).wanted ≡ (M.seen machine.old).wanted }
+    ensures frame { ChangesClock (M.seen machine.old) (M.seen machine.new) }
 {
     let day = question_day(ask, desk, machine)?;
     let badge = badge_of(ask.key);
@@ -185,16 +176,11 @@ pub(crate) fn ask_once<W: Write, M: Machine>(
         (LeavesStore M.Disk.Store (StepsOf (option_map sha256 (option_map (λ key. key.now) ask.entry.key))
         (IsDayAt (moment_of ask.entry.when.seconds (M.seen machine.old).clock) ask.entry.when.zone) ask.entry.question)) }
     ensures flushed { OnOk result (IsTrue (M.flushed (W.contents output.new))) }
-    ensures unasked { IsUnasked (moment_of ask.entry.when.seconds (M.seen machine.old).clock) result }
+    ensures moment { AsksAt M.Disk.Store (M.seen machine.old) (M.seen machine.new) ask.entry.store.now ask.entry.when (is_dated ask.entry.question) result }
+    ensures frame { ChangesStore (M.seen machine.old) (M.seen machine.new) }
+    ensures store { UsesStore M.Disk.Store (M.seen machine.old) (M.seen machine.new) ask.entry.store.now result }
     ensures back { GivesBack (M.seen machine.old).shows (M.seen machine.old).left (M.seen machine.new).left }
-    ensures there { OnEnded result (HasBoth (M.seen machine.old).shows ((M.seen machine.old).stands ask.entry.store.now) (M.seen machine.new).left) }
-    ensures asked { AsksPath (M.seen machine.old).wanted ask.entry.store.now (M.seen machine.new).wanted }
-    ensures clock { IfErr result (IsClockDue M.Disk.Store (is_dated ask.entry.question) ask.entry.when.seconds ((M.seen machine.old).stands ask.entry.store.now) (M.seen machine.new).left) }
-    ensures late { IfErr result (IsBehindIn M.Disk.Store (is_dated ask.entry.question) (must_be_on_time ask.entry.when.seconds ask.entry.when.is_trusting)
-        (moment_of ask.entry.when.seconds (M.seen machine.old).clock) ask.entry.when.zone ((M.seen machine.old).stands ask.entry.store.now) (M.seen machine.new).left) }
     ensures opens { IfErr result (NamesOpening M.Disk.Store ((M.seen machine.old).stands ask.entry.store.now) (M.seen machine.new).left) }
-    ensures on_time { is_dated ask.entry.question ≡ true → IsTrue (must_be_on_time ask.entry.when.seconds ask.entry.when.is_trusting)
-        → OnOk result (WasOnTime M.Disk.Store (M.seen machine.old).clock ask.entry.when.zone ((M.seen machine.old).stands ask.entry.store.now) (M.seen machine.new).left) }
     ensures answers { AnswersOneQuestion M.Disk.Store (M.seen machine.old).clock ((M.seen machine.old).stands ask.entry.store.now) (M.seen machine.new).left
         (W.contents output.old) (W.contents output.new) ask.entry result }
 {

@@ -1,6 +1,6 @@
 //! Writes the sound files of an image into a folder.
 
-ghost use Rattle.std.specs.Prelude.{◌≡◌, ◌+◌, IfErr, IfOk, IfSome, IsTrue, OnErr, OnOk, string_bytes, true};
+ghost use Rattle.std.specs.Prelude.{◌≡◌, ◌+◌, IfErr, IfOk, IsTrue, OnErr, OnOk, string_bytes, true};
 ghost use Rattle.std.specs.Io.KnownBytes.{Appends};
 ghost use Rattle.rd_geometry.specs.Images.{bytes_of, kind_of};
 ghost use Rattle.rd_geometry.specs.Kinds.{size_of};
@@ -9,6 +9,7 @@ ghost use Rattle.rd_commands.specs.Output.{IsFlushed};
 ghost use Rattle.rd_program.specs.Leaves.{GivesBack};
 ghost use Rattle.rd_volume.specs.Founds.{Fits};
 ghost use Rattle.rd_volume.specs.Volumes.{contents_of};
+ghost use Rattle.rd_program.specs.World.{ChangesFolders};
 ghost use Rattle.rd_program.specs.Extracting as spec;
 ghost use Rattle.rd_program.specs.Extracting.{Extracts, FailsOne, IsExtractRefusal, IsFilesRefusal, MakesNext, OfImage, RefusesExtract, made_of, refusal_to_write};
 
@@ -79,9 +80,7 @@ fn extract_one<W: Write, M: Machine>(
         (M.seen machine.old).written (M.seen machine.new).written (W.contents output.old) (W.contents output.new)) }
     ensures flushed { OnOk result (IsTrue (M.flushed (W.contents output.new))) }
     ensures refused { IfErr result IsExtractRefusal }
-    ensures left { (M.seen machine.new).left ≡ (M.seen machine.old).left }
-    ensures shows { (M.seen machine.new).shows ≡ (M.seen machine.old).shows }
-    ensures asked { (M.seen machine.new).wanted ≡ (M.seen machine.old).wanted }
+    ensures frame { ChangesFolders (M.seen machine.old) (M.seen machine.new) }
 {
     let name = file_name(alloc, file.slot, file.name.as_str().as_bytes())?;
     let bytes = contents(alloc, image, file)?;
@@ -112,7 +111,7 @@ pub(crate) fn extract<R: Read, W: Write, M: Machine>(
     ensures flushed { OnOk result (IsFlushed M.flushed (W.contents output.old) (W.contents output.new)) }
     ensures limit { ReadsUpTo (size_of ask.entry.image.kind + 1) (R.remaining input.old) (R.remaining input.new) }
     ensures back { GivesBack (M.seen machine.old).shows (M.seen machine.old).left (M.seen machine.new).left }
-    ensures asked { (M.seen machine.new).wanted ≡ (M.seen machine.old).wanted }
+    ensures frame { ChangesFolders (M.seen machine.old) (M.seen machine.new) }
 {
     let bytes = read_image(alloc, ask.image.kind, ask.image.image, input, machine)?;
     let image = Image::new(ask.image.kind, bytes.as_slice())?;

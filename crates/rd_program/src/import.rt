@@ -6,17 +6,15 @@ ghost use Rattle.std.specs.Io.KnownBytes.{Appends};
 ghost use Rattle.csv.specs.Records.{fields_of};
 ghost use Rattle.sha2.specs.Sha256.{sha256};
 ghost use Rattle.rd_policy.specs.Days.{IsDay};
-ghost use Rattle.rd_policy.specs.Zones.{day_number};
 ghost use Rattle.rd_desk.specs.Served.{Responds};
-ghost use Rattle.rd_program.specs.Doors.{AsksPath};
 ghost use Rattle.rd_program.specs.Importing as spec;
-ghost use Rattle.rd_program.specs.Asked.{IsClockDue, IsClockOn};
-ghost use Rattle.rd_program.specs.OnTime.{IsBehindIn, IsBehindOn, IsOnTime, WasOnTime, must_be_on_time};
+ghost use Rattle.rd_program.specs.Asked.{AsksOn};
+ghost use Rattle.rd_program.specs.Does.{AsksAt, UsesStore};
+ghost use Rattle.rd_program.specs.World.{ChangesClock, ChangesStore};
 ghost use Rattle.rd_program.specs.Rows.{GivesLine, IsBadSheetDue, IsRowTaken, TakesImage, TakesSheet, TakesSheetIn, TakesSheetOn};
-ghost use Rattle.rd_program.specs.Serving.{IsDayless, IsUnasked};
 ghost use Rattle.rd_program.specs.Showing.{EndsWith};
 ghost use Rattle.rd_program.specs.Importing.{RefusesImport, RefusesRow, RefusesRows, TellsAnswer, TellsRow, TellsRows, bad_row_line, accession_line};
-ghost use Rattle.rd_program.specs.Leaves.{GivesBack, HasBoth, IsDayAt, IsOfOpenDesk, Leaves, LeavesDesk, LeavesStore, NamesOpening, OnEnded, TakesFields, TakesIn, TakesRow, moment_of};
+ghost use Rattle.rd_program.specs.Leaves.{GivesBack, IsDayAt, Leaves, LeavesDesk, LeavesStore, NamesOpening, TakesFields, TakesIn, TakesRow, moment_of};
 ghost use Rattle.rd_commands.specs.Output.{AppendsPart, IsFlushed};
 ghost use Rattle.rd_commands.specs.Refusals.{IsDeviceOrMemory};
 ghost use Rattle.rd_commands.specs.Sheets.{IsWithin};
@@ -280,23 +278,15 @@ fn import_sheet<W: Write, M: Machine>(
     ensures written { IfOk result (TellsRows (W.contents output.old) (W.contents output.new)) }
     ensures flushed { OnOk result (IsFlushed M.flushed (W.contents output.old) (W.contents output.new)) }
     ensures refused { IfErr result (RefusesImport (W.contents output.old) (W.contents output.new)) }
-    ensures dayless { IsDayless (moment_of ask.entry.when.seconds (M.seen machine.old).clock) result }
-    ensures clock { IfErr result (IsClockOn M.Disk.Store true ask.entry.when.seconds desk.old.store desk.new.store) }
-    ensures late { IfErr result (IsBehindOn M.Disk.Store true (must_be_on_time ask.entry.when.seconds ask.entry.when.is_trusting)
-        (moment_of ask.entry.when.seconds (M.seen machine.old).clock) desk.old.zone desk.old.store desk.new.store) }
+    ensures moment { AsksOn M.Disk.Store true ask.entry.when (M.seen machine.old).clock desk.old.zone desk.old.store desk.new.store result }
     ensures bad_sheet { IfErr result (λ refusal. IfSome ((M.seen machine.old).sheets ask.entry.sheet.now) (λ bytes. IsBadSheetDue bytes refusal)) }
-    ensures on_time { IsTrue (must_be_on_time ask.entry.when.seconds ask.entry.when.is_trusting)
-        → OnOk result (IfSome (M.seen machine.old).clock (λ seconds. IsOpen M.Disk.Store desk.new.store
-        → IsOnTime (day_number seconds desk.old.zone) (desk_in M.Disk.Store desk.old.store))) }
-    ensures opened { IfErr result IsOfOpenDesk }
     ensures takes { LeavesDesk M.Disk.Store (TakesIn (sha256 ask.entry.key.now)
         (IsDayAt (moment_of ask.entry.when.seconds (M.seen machine.old).clock) desk.old.zone)) desk.old.store desk.new.store }
     ensures rows { IfOk result (λ done. IsOpen M.Disk.Store desk.new.store
         → TakesSheetOn (M.seen machine.old).files (sha256 ask.entry.key.now) (IsDayAt (moment_of ask.entry.when.seconds (M.seen machine.old).clock) desk.old.zone)
         ((M.seen machine.old).sheets ask.entry.sheet.now) (W.contents output.old) (W.contents output.new) done
         (desk_in M.Disk.Store desk.old.store) (desk_in M.Disk.Store desk.new.store)) }
-    ensures shows { (M.seen machine.new).shows ≡ (M.seen machine.old).shows }
-    ensures asked { (M.seen machine.new).wanted ≡ (M.seen machine.old).wanted }
+    ensures frame { ChangesClock (M.seen machine.old) (M.seen machine.new) }
 {
     let day = day_on_time(ask.when, desk, machine)?;
     let sheet = match sheet_at(alloc, ask.sheet, machine) {
@@ -329,15 +319,10 @@ pub(crate) fn import<W: Write, M: Machine>(
         (TakesSheetIn M.Disk.Store (M.seen machine.old).files (sha256 ask.entry.key.now)
         (IsDayAt (moment_of ask.entry.when.seconds (M.seen machine.old).clock) ask.entry.when.zone)
         ((M.seen machine.old).sheets ask.entry.sheet.now) (W.contents output.old) (W.contents output.new) done)) }
-    ensures on_time { IsTrue (must_be_on_time ask.entry.when.seconds ask.entry.when.is_trusting)
-        → OnOk result (WasOnTime M.Disk.Store (M.seen machine.old).clock ask.entry.when.zone ((M.seen machine.old).stands ask.entry.store.now) (M.seen machine.new).left) }
-    ensures unasked { IsUnasked (moment_of ask.entry.when.seconds (M.seen machine.old).clock) result }
+    ensures moment { AsksAt M.Disk.Store (M.seen machine.old) (M.seen machine.new) ask.entry.store.now ask.entry.when true result }
+    ensures frame { ChangesStore (M.seen machine.old) (M.seen machine.new) }
+    ensures store { UsesStore M.Disk.Store (M.seen machine.old) (M.seen machine.new) ask.entry.store.now result }
     ensures back { GivesBack (M.seen machine.old).shows (M.seen machine.old).left (M.seen machine.new).left }
-    ensures there { OnEnded result (HasBoth (M.seen machine.old).shows ((M.seen machine.old).stands ask.entry.store.now) (M.seen machine.new).left) }
-    ensures asked { AsksPath (M.seen machine.old).wanted ask.entry.store.now (M.seen machine.new).wanted }
-    ensures clock { IfErr result (IsClockDue M.Disk.Store true ask.entry.when.seconds ((M.seen machine.old).stands ask.entry.store.now) (M.seen machine.new).left) }
-    ensures late { IfErr result (IsBehindIn M.Disk.Store true (must_be_on_time ask.entry.when.seconds ask.entry.when.is_trusting)
-        (moment_of ask.entry.when.seconds (M.seen machine.old).clock) ask.entry.when.zone ((M.seen machine.old).stands ask.entry.store.now) (M.seen machine.new).left) }
     ensures bad_sheet { IfErr result (λ refusal. IfSome ((M.seen machine.old).sheets ask.entry.sheet.now) (λ bytes. IsBadSheetDue bytes refusal)) }
     ensures opens { IfErr result (NamesOpening M.Disk.Store ((M.seen machine.old).stands ask.entry.store.now) (M.seen machine.new).left) }
 {

@@ -4,6 +4,7 @@ ghost use Rattle.sha2.specs.Sha256.{sha256};
 ghost use Rattle.rd_store.specs.Created.{IsCreated};
 ghost use Rattle.rd_program.specs.Doors.{AsksPath, AsksSums};
 ghost use Rattle.rd_program.specs.Leaves.{GivesBack, HasBoth, OnEnded};
+ghost use Rattle.rd_program.specs.World.{OpensStore};
 ghost use Rattle.rd_program.specs.Inits.{IsInitRefusal, LeavesInit, MakesDesk, NotMade, RefusesInit, done_line};
 
 use crate::faults::not_made;
@@ -41,6 +42,7 @@ fn make_desk<M: Machine>(ask: InitAsk, machine: &mut M) -> Result<(), Refusal>
     ensures there { OnEnded result (HasBoth (M.seen machine.old).shows ((M.seen machine.old).stands ask.entry.store.now) (M.seen machine.new).left) }
     ensures asked { AsksPath (M.seen machine.old).wanted ask.entry.store.now (M.seen machine.new).wanted }
     ensures sums { AsksSums (M.seen machine.old).sums ask.entry.has_sums (M.seen machine.new).sums }
+    ensures frame { OpensStore (M.seen machine.old) (M.seen machine.new) }
 {
     let conn = match machine.connect(ask.store, true, ask.has_sums) {
         Ok(conn) => conn,
@@ -73,6 +75,7 @@ pub(crate) fn init<W: Write, M: Machine>(
     ensures there { OnEnded result (HasBoth (M.seen machine.old).shows ((M.seen machine.old).stands ask.entry.store.now) (M.seen machine.new).left) }
     ensures asked { AsksPath (M.seen machine.old).wanted ask.entry.store.now (M.seen machine.new).wanted }
     ensures sums { AsksSums (M.seen machine.old).sums ask.entry.has_sums (M.seen machine.new).sums }
+    ensures frame { OpensStore (M.seen machine.old) (M.seen machine.new) }
 {
     make_desk(ask, machine)?;
     write_whole::<M, W>(output, b"done\n")

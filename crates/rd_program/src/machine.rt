@@ -4,10 +4,10 @@ ghost use Rattle.sqlite.specs.declared.error.ErrorCode.TheVariants as code;
 ghost use Rattle.std.specs.Borrow.{sem};
 ghost use Rattle.rd_commands.specs.Serving.{place_of};
 ghost use Rattle.rd_program.specs.Copying.{AsksNew};
-ghost use Rattle.rd_program.specs.Doors.{Asks, AsksPath, AsksSums, KeepsAllButClock, LendsDoor};
+ghost use Rattle.rd_program.specs.Doors.{Asks, AsksPath, AsksSums, LendsDoor};
 ghost use Rattle.rd_program.specs.Extracting.{MakesNext};
 ghost use Rattle.rd_program.specs.Leaves.{LeavesNone};
-ghost use Rattle.rd_program.specs.World.{World};
+ghost use Rattle.rd_program.specs.World.{ChangesClock, ChangesFolders, OpensNewStore, OpensStore, TakesBack, TakesBackNew, World};
 ghost use Rattle.rd_program.specs.World.Wanted.{NewAt};
 
 use rd_commands::{Files, MachineFault, Place};
@@ -82,18 +82,13 @@ pub trait Machine: Files {
         ensures still_stands { IfErr result (λ _. (seen self.new).stands path.now ≡ (seen self.old).stands path.now) }
         ensures asked { AsksPath (seen self.old).wanted path.now (seen self.new).wanted }
         ensures sums { AsksSums (seen self.old).sums new_has_sums (seen self.new).sums }
-        ensures frame { seen self.new ≡ record (seen self.old) {
-          stands = (seen self.new).stands;
-          left = (seen self.new).left;
-          wanted = (seen self.new).wanted;
-          sums = (seen self.new).sums;
-        } };
+        ensures frame { OpensStore (seen self.old) (seen self.new) };
 
     /// Takes a connection back at the end of a command.
     fn release(&mut self, conn: &mut Option<Connection<Self::Disk>>)
         ensures left { IfSome (seen self.new).left (λ held. conn.old ≡ Some held) }
         ensures back { IsTrue (seen self.old).shows → (seen self.new).left ≡ conn.old }
-        ensures frame { seen self.new ≡ record (seen self.old) { stands = (seen self.new).stands; left = (seen self.new).left } };
+        ensures frame { TakesBack (seen self.old) (seen self.new) };
 
     /// A connection to a database in a new file at a path, outside a transaction, with a sum at the end of each page or
     /// without; `None` where something is at the path already, to which nothing is done. It may be asked for while a
@@ -113,18 +108,13 @@ pub trait Machine: Files {
         ensures kept { IfErr result (λ _. (seen self.new).made ≡ (seen self.old).made) }
         ensures new_stores { AsksNew (seen self.old).new_stores path.now has_sums (seen self.new).new_stores }
         ensures asked { Asks (seen self.old).wanted (NewAt path.now) (seen self.new).wanted }
-        ensures frame { seen self.new ≡ record (seen self.old) {
-          fresh = (seen self.new).fresh;
-          made = (seen self.new).made;
-          new_stores = (seen self.new).new_stores;
-          wanted = (seen self.new).wanted;
-        } };
+        ensures frame { OpensNewStore (seen self.old) (seen self.new) };
 
     /// Takes the connection to a new store back.
     fn release_new(&mut self, conn: &mut Option<Connection<Self::Disk>>)
         ensures made { IfSome (seen self.new).made (λ held. conn.old ≡ Some held) }
         ensures back { IsTrue (seen self.old).shows → (seen self.new).made ≡ conn.old }
-        ensures frame { seen self.new ≡ record (seen self.old) { fresh = (seen self.new).fresh; made = (seen self.new).made } };
+        ensures frame { TakesBackNew (seen self.old) (seen self.new) };
 
     /// Makes a file with these bytes under a name in a folder that is there. It writes over nothing.
     ///
@@ -141,7 +131,7 @@ pub trait Machine: Files {
             (record { folder = folder.now; name = name.now; bytes = bytes.now })) }
         ensures none { OnErr result ((seen self.new).written ≡ (seen self.old).written) }
         ensures over_nothing { result ≡ Err WriteFault.Exists → self.new ≡ self.old }
-        ensures frame { seen self.new ≡ record (seen self.old) { written = (seen self.new).written } };
+        ensures frame { ChangesFolders (seen self.old) (seen self.new) };
 
     /// The seconds since 1970-01-01T00:00:00 UTC.
     ///
@@ -149,7 +139,7 @@ pub trait Machine: Files {
     fn now(&mut self) -> Result<i64, MachineFault>
         ensures shown { IfOk result (λ seconds. IfSome (seen self.old).clock (λ moment. seconds ≡ moment)) }
         ensures sure { IfSome (seen self.old).clock (λ moment. result ≡ Ok moment) }
-        ensures frame { KeepsAllButClock (seen self.old) (seen self.new) };
+        ensures frame { ChangesClock (seen self.old) (seen self.new) };
 
     /// Lends the door through which visits come at a place, and gives its visitors these limits. The machine keeps the
     /// door. A machine need not have sockets, and the visitors of one in memory take no time.

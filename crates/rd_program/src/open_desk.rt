@@ -5,7 +5,7 @@ ghost use Rattle.rd_program.specs.Doors.{AsksPath};
 ghost use Rattle.rd_program.specs.Asked.{IsClockOn, IsStillOrRead};
 ghost use Rattle.rd_program.specs.Leaves.{GivesBack, IsDayAt, LeavesUnopened, moment_of};
 ghost use Rattle.rd_program.specs.OnTime.{IsBehind, IsBehindOn, IsOnTime, must_be_on_time};
-ghost use Rattle.rd_program.specs.Rows.{KeepsFiles};
+ghost use Rattle.rd_program.specs.World.{ChangesClock, OpensStore};
 ghost use Rattle.rd_program.specs.Serving.{IsClockRefusal, IsDayless, IsOpenRefusal};
 ghost use Rattle.rd_store.specs.Held.{IsOpen, Keeps, desk as desk_in};
 ghost use Rattle.rd_store.specs.Migrated.{IsMigrated};
@@ -51,14 +51,8 @@ pub(crate) fn open_store<M: Machine>(
 ) -> Result<Store<M::Disk>, Refusal>
     ensures opened { IfOk result (λ opened. IfSome ((M.seen machine.old).stands store.now) (λ before. IsMigrated M.Disk.Store before opened)) }
     ensures there { IfOk result (λ _. IsTrue (M.seen machine.old).shows → IsSome ((M.seen machine.old).stands store.now)) }
-    ensures shows { (M.seen machine.new).shows ≡ (M.seen machine.old).shows }
+    ensures frame { OpensStore (M.seen machine.old) (M.seen machine.new) }
     ensures asked { AsksPath (M.seen machine.old).wanted store.now (M.seen machine.new).wanted }
-    ensures clock { IfOk result (λ _. (M.seen machine.new).clock ≡ (M.seen machine.old).clock) }
-    ensures files { IfOk result (λ _. KeepsFiles (M.seen machine.old) (M.seen machine.new)) }
-    ensures door { (M.seen machine.new).doors ≡ (M.seen machine.old).doors }
-    ensures fresh { (M.seen machine.new).fresh ≡ (M.seen machine.old).fresh }
-    ensures made { (M.seen machine.new).made ≡ (M.seen machine.old).made }
-    ensures new_stores { (M.seen machine.new).new_stores ≡ (M.seen machine.old).new_stores }
     ensures back { IfErr result (λ _. GivesBack (M.seen machine.old).shows (M.seen machine.old).left (M.seen machine.new).left) }
     ensures refused { IfErr result IsOpenRefusal }
     ensures left { IfErr result
@@ -89,11 +83,8 @@ pub(crate) fn open_desk<M: Machine>(
     ensures zone { IfOk result (λ desk. desk.zone ≡ zone) }
     ensures opened { IfOk result (λ desk. IfSome ((M.seen machine.old).stands store.now) (λ before. IsMigrated M.Disk.Store before desk.store)) }
     ensures there { IfOk result (λ _. IsTrue (M.seen machine.old).shows → IsSome ((M.seen machine.old).stands store.now)) }
-    ensures shows { (M.seen machine.new).shows ≡ (M.seen machine.old).shows }
+    ensures frame { OpensStore (M.seen machine.old) (M.seen machine.new) }
     ensures asked { AsksPath (M.seen machine.old).wanted store.now (M.seen machine.new).wanted }
-    ensures clock { IfOk result (λ _. (M.seen machine.new).clock ≡ (M.seen machine.old).clock) }
-    ensures files { IfOk result (λ _. KeepsFiles (M.seen machine.old) (M.seen machine.new)) }
-    ensures door { (M.seen machine.new).doors ≡ (M.seen machine.old).doors }
     ensures back { IfErr result (λ _. GivesBack (M.seen machine.old).shows (M.seen machine.old).left (M.seen machine.new).left) }
     ensures refused { IfErr result IsOpenRefusal }
     ensures left { IfErr result
@@ -111,9 +102,7 @@ pub(crate) fn open_desk<M: Machine>(
 fn clock_seconds<M: Machine>(machine: &mut M) -> Result<i64, Refusal>
     ensures shown { IfOk result (λ seconds. IfSome (M.seen machine.old).clock (λ moment. seconds ≡ moment)) }
     ensures sure { IfSome (M.seen machine.old).clock (λ moment. result ≡ Ok moment) }
-    ensures files { KeepsFiles (M.seen machine.old) (M.seen machine.new) }
-    ensures shows { (M.seen machine.new).shows ≡ (M.seen machine.old).shows }
-    ensures asked { (M.seen machine.new).wanted ≡ (M.seen machine.old).wanted }
+    ensures frame { ChangesClock (M.seen machine.old) (M.seen machine.new) }
     ensures refused { IfErr result IsClockRefusal }
 {
     match machine.now() {
@@ -129,9 +118,7 @@ fn seconds_of<M: Machine>(named: Option<i64>, machine: &mut M) -> Result<i64, Re
     ensures asked { IfOk result (λ seconds. IfSome (moment_of named (M.seen machine.old).clock) (λ moment. seconds ≡ moment)) }
     ensures named { IfSome named (λ seconds. result ≡ Ok seconds) }
     ensures sure { IfSome (moment_of named (M.seen machine.old).clock) (λ seconds. result ≡ Ok seconds) }
-    ensures files { KeepsFiles (M.seen machine.old) (M.seen machine.new) }
-    ensures shows { (M.seen machine.new).shows ≡ (M.seen machine.old).shows }
-    ensures wanted { (M.seen machine.new).wanted ≡ (M.seen machine.old).wanted }
+    ensures frame { ChangesClock (M.seen machine.old) (M.seen machine.new) }
     ensures refused { IfErr result IsClockRefusal }
 {
     match named {
@@ -150,9 +137,7 @@ pub(crate) fn visit_day<S: Alter, M: Machine>(
     machine: &mut M,
 ) -> Result<i32, Refusal>
     ensures day { IfOk result (IsDayAt (moment_of named (M.seen machine.old).clock) desk.now.zone) }
-    ensures files { KeepsFiles (M.seen machine.old) (M.seen machine.new) }
-    ensures shows { (M.seen machine.new).shows ≡ (M.seen machine.old).shows }
-    ensures asked { (M.seen machine.new).wanted ≡ (M.seen machine.old).wanted }
+    ensures frame { ChangesClock (M.seen machine.old) (M.seen machine.new) }
     ensures in_range { IfOk result IsDay }
     ensures named { IfSome named (λ seconds.
         (HasDay seconds → result ≡ Ok (day_number seconds desk.now.zone)) × (¬ HasDay seconds → result ≡ Err Refusal.Clock)) }
@@ -199,9 +184,7 @@ pub(crate) fn day_on_time<S: Alter, M: Machine>(
         → IsOpen S.Store desk.new.store → IsOnTime day (desk_in S.Store desk.old.store)) }
     ensures reads { IsStillOrRead S.Store desk.old.store desk.new.store }
     ensures zone { desk.new.zone ≡ desk.old.zone }
-    ensures files { KeepsFiles (M.seen machine.old) (M.seen machine.new) }
-    ensures shows { (M.seen machine.new).shows ≡ (M.seen machine.old).shows }
-    ensures asked { (M.seen machine.new).wanted ≡ (M.seen machine.old).wanted }
+    ensures frame { ChangesClock (M.seen machine.old) (M.seen machine.new) }
     ensures in_range { IfOk result IsDay }
     ensures dayless { IsDayless (moment_of when.seconds (M.seen machine.old).clock) result }
     ensures clock { IfErr result (IsClockOn S.Store true when.seconds desk.old.store desk.new.store) }
@@ -225,9 +208,7 @@ pub(crate) fn day_on_time<S: Alter, M: Machine>(
 pub(crate) fn clock_shown<M: Machine>(is_trusting: bool, machine: &mut M) -> Option<i64>
     ensures shown { IfSome result (λ seconds. IfSome (M.seen machine.old).clock (λ moment. seconds ≡ moment)) }
     ensures trusted { IsTrue is_trusting → result ≡ None }
-    ensures shows { (M.seen machine.new).shows ≡ (M.seen machine.old).shows }
-    ensures asked { (M.seen machine.new).wanted ≡ (M.seen machine.old).wanted }
-    ensures door { (M.seen machine.new).doors ≡ (M.seen machine.old).doors }
+    ensures frame { ChangesClock (M.seen machine.old) (M.seen machine.new) }
 {
     if is_trusting {
         return None;

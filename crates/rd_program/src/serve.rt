@@ -5,6 +5,7 @@ ghost use Rattle.rd_store.specs.Held.{Lasts};
 ghost use Rattle.rd_commands.specs.Serving.{place_of};
 ghost use Rattle.rd_program.specs.Doors.{AsksPath};
 ghost use Rattle.rd_program.specs.Leaves.{GivesBack, HasBoth, Leaves, LeavesServe, OnEnded};
+ghost use Rattle.rd_program.specs.World.{ChangesDoors, ChangesStoreAndDoors};
 ghost use Rattle.rd_program.specs.Visiting.{RunsVisits, ServesDoor};
 ghost use Rattle.rd_commands.specs.Output.{AppendsPart};
 ghost use Rattle.rd_commands.specs.Refusals.{IsDeviceOrMemory};
@@ -123,8 +124,7 @@ fn serve_visits<W: Write, M: Machine>(
     ensures lasts { IfOk result (λ _. Lasts M.Disk.Store desk.old.store desk.new.store) }
     ensures unserved { IfErr result (λ _. desk.new.store ≡ desk.old.store) }
     ensures lent { WritesOnceLent (M.seen machine.old).shows (M.seen machine.new).limits (W.contents output.old) (W.contents output.new) }
-    ensures shows { (M.seen machine.new).shows ≡ (M.seen machine.old).shows }
-    ensures asked { (M.seen machine.new).wanted ≡ (M.seen machine.old).wanted }
+    ensures frame { ChangesDoors (M.seen machine.old) (M.seen machine.new) }
     ensures limits { IfOk result (λ _. IsTrue (M.seen machine.old).shows → IsSomeAnd (M.seen machine.new).limits (AreLimitsOf ask.entry.timeouts)) }
     ensures visits { IfOk result (λ served. served.ended ≡ Ended.Count → IfSome ((M.seen machine.old).doors (place_of ask.entry.place))
         (λ before. IsSomeAnd ((M.seen machine.new).doors (place_of ask.entry.place)) (λ after.
@@ -190,6 +190,7 @@ pub(crate) fn serve<W: Write, M: Machine>(
     ensures back { GivesBack (M.seen machine.old).shows (M.seen machine.old).left (M.seen machine.new).left }
     ensures there { OnEnded result (HasBoth (M.seen machine.old).shows ((M.seen machine.old).stands ask.entry.store.now) (M.seen machine.new).left) }
     ensures asked { AsksPath (M.seen machine.old).wanted ask.entry.store.now (M.seen machine.new).wanted }
+    ensures frame { ChangesStoreAndDoors (M.seen machine.old) (M.seen machine.new) }
 {
     let mut desk = open_desk(alloc, ask.store, ask.zone, machine)?;
     let served = serve_visits(alloc, ask, &mut desk, output, machine);

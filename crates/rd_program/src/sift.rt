@@ -6,20 +6,18 @@ ghost use Rattle.std.specs.Io.KnownBytes.{Appends};
 ghost use Rattle.csv.specs.Records.{fields_of};
 ghost use Rattle.sha2.specs.Sha256.{sha256};
 ghost use Rattle.rd_policy.specs.Days.{IsDay};
-ghost use Rattle.rd_policy.specs.Zones.{day_number};
-ghost use Rattle.rd_store.specs.Held.{IsOpen, Reads, desk as desk_in};
+ghost use Rattle.rd_store.specs.Held.{Reads, desk as desk_in};
 ghost use Rattle.rd_desk.specs.Served.{Responds};
 ghost use Rattle.rd_desk.specs.Shelving.{WouldAnswer};
 ghost use Rattle.rd_commands.specs.Output.{AppendsPart, IsFlushed};
 ghost use Rattle.rd_commands.specs.Refusals.{IsDeviceOrMemory};
 ghost use Rattle.rd_commands.specs.Sheets.{IsWithin, Says};
-ghost use Rattle.rd_program.specs.Asked.{IsClockDue, IsClockOn};
-ghost use Rattle.rd_program.specs.Doors.{AsksPath};
+ghost use Rattle.rd_program.specs.Asked.{AsksOn};
+ghost use Rattle.rd_program.specs.Does.{AsksAt, UsesStore};
+ghost use Rattle.rd_program.specs.World.{ChangesClock, ChangesStore};
 ghost use Rattle.rd_program.specs.Importing.{IsRowRefusal};
-ghost use Rattle.rd_program.specs.Leaves.{GivesBack, HasBoth, IsDayAt, IsOfOpenDesk, IsSame, Leaves, LeavesDesk, LeavesStore, NamesOpening, OnEnded, TakesFields, TakesRow, TakesUnlessDry, moment_of};
-ghost use Rattle.rd_program.specs.OnTime.{IsBehindIn, IsBehindOn, IsOnTime, WasOnTime, must_be_on_time};
+ghost use Rattle.rd_program.specs.Leaves.{GivesBack, IsDayAt, IsSame, Leaves, LeavesDesk, LeavesStore, NamesOpening, TakesFields, TakesRow, TakesUnlessDry, moment_of};
 ghost use Rattle.rd_program.specs.Rows.{IsBadSheetDue};
-ghost use Rattle.rd_program.specs.Serving.{IsDayless, IsUnasked};
 ghost use Rattle.rd_program.specs.Showing.{EndsWith};
 ghost use Rattle.rd_program.specs.Sifting as spec;
 ghost use Rattle.rd_program.specs.Sifting.{IsSiftRefusal, SiftsOn, SiftsOne, SiftsRows, SiftsSheetIn, TellsFate, lost_row_line};
@@ -343,19 +341,11 @@ fn sift_sheet<W: Write, M: Machine>(
         (W.contents output.old) (W.contents output.new) done desk.old.store desk.new.store) }
     ensures takes { LeavesDesk M.Disk.Store (TakesUnlessDry ask.entry.dry_run (sha256 ask.entry.import.key.now)
         (IsDayAt (moment_of ask.entry.import.when.seconds (M.seen machine.old).clock) desk.old.zone)) desk.old.store desk.new.store }
-    ensures dayless { IsDayless (moment_of ask.entry.import.when.seconds (M.seen machine.old).clock) result }
-    ensures clock { IfErr result (IsClockOn M.Disk.Store true ask.entry.import.when.seconds desk.old.store desk.new.store) }
+    ensures moment { AsksOn M.Disk.Store true ask.entry.import.when (M.seen machine.old).clock desk.old.zone desk.old.store desk.new.store result }
     ensures bad_sheet { IfErr result (λ refusal. IfSome ((M.seen machine.old).sheets ask.entry.import.sheet.now) (λ bytes. IsBadSheetDue bytes refusal)) }
-    ensures on_time { IsTrue (must_be_on_time ask.entry.import.when.seconds ask.entry.import.when.is_trusting)
-        → OnOk result (IfSome (M.seen machine.old).clock (λ seconds. IsOpen M.Disk.Store desk.new.store
-        → IsOnTime (day_number seconds desk.old.zone) (desk_in M.Disk.Store desk.old.store))) }
     ensures flushed { OnOk result (IsFlushed M.flushed (W.contents output.old) (W.contents output.new)) }
-    ensures late { IfErr result (IsBehindOn M.Disk.Store true (must_be_on_time ask.entry.import.when.seconds ask.entry.import.when.is_trusting)
-        (moment_of ask.entry.import.when.seconds (M.seen machine.old).clock) desk.old.zone desk.old.store desk.new.store) }
-    ensures opened { IfErr result IsOfOpenDesk }
     ensures refused { IfErr result IsSiftRefusal }
-    ensures shows { (M.seen machine.new).shows ≡ (M.seen machine.old).shows }
-    ensures asked { (M.seen machine.new).wanted ≡ (M.seen machine.old).wanted }
+    ensures frame { ChangesClock (M.seen machine.old) (M.seen machine.new) }
 {
     let day = day_on_time(ask.import.when, desk, machine)?;
     let sheet = match sheet_at(alloc, ask.import.sheet, machine) {
@@ -387,17 +377,12 @@ pub(crate) fn sift<W: Write, M: Machine>(
     ensures takes { Leaves (M.seen machine.old).left ((M.seen machine.old).stands ask.entry.import.store.now) (M.seen machine.new).left
         (LeavesStore M.Disk.Store (TakesUnlessDry ask.entry.dry_run (sha256 ask.entry.import.key.now)
         (IsDayAt (moment_of ask.entry.import.when.seconds (M.seen machine.old).clock) ask.entry.import.when.zone))) }
-    ensures on_time { IsTrue (must_be_on_time ask.entry.import.when.seconds ask.entry.import.when.is_trusting)
-        → OnOk result (WasOnTime M.Disk.Store (M.seen machine.old).clock ask.entry.import.when.zone ((M.seen machine.old).stands ask.entry.import.store.now) (M.seen machine.new).left) }
     ensures flushed { OnOk result (IsFlushed M.flushed (W.contents output.old) (W.contents output.new)) }
-    ensures late { IfErr result (IsBehindIn M.Disk.Store true (must_be_on_time ask.entry.import.when.seconds ask.entry.import.when.is_trusting)
-        (moment_of ask.entry.import.when.seconds (M.seen machine.old).clock) ask.entry.import.when.zone ((M.seen machine.old).stands ask.entry.import.store.now) (M.seen machine.new).left) }
     ensures refused { IfErr result IsSiftRefusal }
-    ensures unasked { IsUnasked (moment_of ask.entry.import.when.seconds (M.seen machine.old).clock) result }
+    ensures moment { AsksAt M.Disk.Store (M.seen machine.old) (M.seen machine.new) ask.entry.import.store.now ask.entry.import.when true result }
+    ensures frame { ChangesStore (M.seen machine.old) (M.seen machine.new) }
+    ensures store { UsesStore M.Disk.Store (M.seen machine.old) (M.seen machine.new) ask.entry.import.store.now result }
     ensures back { GivesBack (M.seen machine.old).shows (M.seen machine.old).left (M.seen machine.new).left }
-    ensures there { OnEnded result (HasBoth (M.seen machine.old).shows ((M.seen machine.old).stands ask.entry.import.store.now) (M.seen machine.new).left) }
-    ensures asked { AsksPath (M.seen machine.old).wanted ask.entry.import.store.now (M.seen machine.new).wanted }
-    ensures clock { IfErr result (IsClockDue M.Disk.Store true ask.entry.import.when.seconds ((M.seen machine.old).stands ask.entry.import.store.now) (M.seen machine.new).left) }
     ensures bad_sheet { IfErr result (λ refusal. IfSome ((M.seen machine.old).sheets ask.entry.import.sheet.now) (λ bytes. IsBadSheetDue bytes refusal)) }
     ensures opens { IfErr result (NamesOpening M.Disk.Store ((M.seen machine.old).stands ask.entry.import.store.now) (M.seen machine.new).left) }
 {

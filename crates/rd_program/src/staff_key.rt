@@ -7,9 +7,10 @@ ghost use Rattle.rd_holdings.specs.State.{with_key};
 ghost use Rattle.rd_store.specs.Held.{Changes, desk};
 ghost use Rattle.rd_program.specs.Doors.{AsksPath};
 ghost use Rattle.rd_program.specs.Inits.{done_line};
-ghost use Rattle.rd_program.specs.Leaves.{GivesBack, HasBoth, Leaves, NamesOpening, OnEnded};
+ghost use Rattle.rd_program.specs.Leaves.{GivesBack, HasBoth, NamesOpening, OnEnded};
 ghost use Rattle.rd_program.specs.Serving.{IsOpenRefusal};
 ghost use Rattle.rd_program.specs.Showing.{EndsWith};
+ghost use Rattle.rd_program.specs.World.{OpensStore};
 ghost use Rattle.rd_program.specs.StaffKeys.{LeavesStaffKey, PutsStaff, RefusesStaffKey};
 
 use crate::machine::Machine;
@@ -58,6 +59,7 @@ fn put_in_store<M: Machine>(alloc: Global, ask: StaffKeyAsk, machine: &mut M) ->
     ensures back { GivesBack (M.seen machine.old).shows (M.seen machine.old).left (M.seen machine.new).left }
     ensures there { OnEnded result (HasBoth (M.seen machine.old).shows ((M.seen machine.old).stands ask.entry.store.now) (M.seen machine.new).left) }
     ensures asked { AsksPath (M.seen machine.old).wanted ask.entry.store.now (M.seen machine.new).wanted }
+    ensures frame { OpensStore (M.seen machine.old) (M.seen machine.new) }
 {
     let mut store = open_store(alloc, ask.store, machine)?;
     let put = put_staff(&mut store, ask.key);
@@ -88,6 +90,7 @@ pub(crate) fn staff_key<W: Write, M: Machine>(
     ensures back { GivesBack (M.seen machine.old).shows (M.seen machine.old).left (M.seen machine.new).left }
     ensures there { OnEnded result (HasBoth (M.seen machine.old).shows ((M.seen machine.old).stands ask.entry.store.now) (M.seen machine.new).left) }
     ensures asked { AsksPath (M.seen machine.old).wanted ask.entry.store.now (M.seen machine.new).wanted }
+    ensures frame { OpensStore (M.seen machine.old) (M.seen machine.new) }
 {
     put_in_store(alloc, ask, machine)?;
     write_whole::<M, W>(output, b"done\n")

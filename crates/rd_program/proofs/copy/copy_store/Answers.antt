@@ -1,5 +1,4 @@
-use Rattle.std.proofs.Common.{◌∙◌, ℕ, IsTrue, List, Option, ap, subst, sym}
-use Rattle.sqlite.specs.Held.{Held}
+use Rattle.std.proofs.Common.{◌∙◌, IsTrue, ap, subst, sym}
 use Rattle.rd_program.specs.Copying.{OpensDesk}
 use Rattle.rd_program.specs.World.Wanted.{NewAt, StoreAt}
 use Rattle.rd_program.specs.Leaves.{IsSame}
@@ -20,12 +19,12 @@ returns-clause-leaves g c =
 pub returns-clause-back : goal.returns-clause-back
 returns-clause-back g c =
     gives_back (g.M.Machine.seen c.args.machine.now).shows (g.M.Machine.seen c.args.machine.now).left (g.M.Machine.seen c.release.new.self).left _
-    (λ shows. c.release.ensures.back (subst (λ b. IsTrue b) (sym (c.copy_to-copied.ensures.shows ∙ c.in_ok-store.ensures.shows)) shows))
+    (λ shows. c.release.ensures.back (subst (λ b. IsTrue b) (sym ((ap (λ (w : World _ _). w.shows) c.copy_to-copied.ensures.frame) ∙ (ap (λ (w : World _ _). w.shows) c.open_store.ensures.frame))) shows))
 
 pub returns-clause-there : goal.returns-clause-there
 returns-clause-there g c =
     on_ended_always c.copy_to-copied.result _ (has_both (g.M.Machine.seen c.args.machine.now).shows ((g.M.Machine.seen c.args.machine.now).stands c.args.ask.store.now) (g.M.Machine.seen c.release.new.self).left _
-    c.in_ok-store.ensures.there (λ shows. c.release.ensures.back (subst (λ b. IsTrue b) (sym (c.copy_to-copied.ensures.shows ∙ c.in_ok-store.ensures.shows)) shows)))
+    c.in_ok-store.ensures.there (λ shows. c.release.ensures.back (subst (λ b. IsTrue b) (sym ((ap (λ (w : World _ _). w.shows) c.copy_to-copied.ensures.frame) ∙ (ap (λ (w : World _ _). w.shows) c.open_store.ensures.frame))) shows)))
 
 pub returns-clause-asked : goal.returns-clause-asked
 returns-clause-asked g c =
@@ -48,21 +47,21 @@ pub returns-in_err-store-clause-not_copied : goal.returns-in_err-store-clause-no
 returns-in_err-store-clause-not_copied g c =
     passed_on c.from_residual.result c.in_err-store.field-0.0 _ c.from_residual.ensures.1
     (unopened_new g.M.Disk.Store ((g.M.Machine.seen c.args.machine.now).stands c.args.ask.store.now) (g.M.Machine.seen c.open_store.new.machine).left (g.M.Machine.seen c.args.machine.now).made
-    ((g.M.Machine.seen c.args.machine.now).fresh c.args.ask.target.now) (g.M.Machine.seen c.open_store.new.machine).made c.in_err-store.field-0.0 c.in_err-store.ensures.refused c.open_store.ensures.made)
+    ((g.M.Machine.seen c.args.machine.now).fresh c.args.ask.target.now) (g.M.Machine.seen c.open_store.new.machine).made c.in_err-store.field-0.0 c.in_err-store.ensures.refused (ap (λ (w : World _ _). w.made) c.open_store.ensures.frame))
 
 pub returns-clause-copied : goal.returns-clause-copied
 returns-clause-copied g c =
     copied_from g.M.Disk.Store ((g.M.Machine.seen c.args.machine.now).stands c.args.ask.store.now) (g.M.Machine.seen c.release.new.self).left c.in_ok-store.store c.copy_to-copied.new.from c.into_connection.result c.copy_to-copied.ensures.leaves
     ((g.M.Machine.seen c.args.machine.now).fresh c.args.ask.target.now) ((g.M.Machine.seen c.open_store.new.machine).fresh c.args.ask.target.now) (g.M.Machine.seen c.release.new.self).made (g.M.Machine.seen c.copy_to-copied.new.machine).made
-    (ap (λ (fresh : List ℕ → Option (Held _)). fresh c.args.ask.target.now) c.open_store.ensures.fresh) (ap (λ (w : World _ _). w.made) c.release.ensures.frame) c.in_ok-store.ensures.opened c.into_connection.ensures.same c.release.ensures.left
-    c.copy_to-copied.result (g.M.Machine.seen c.args.machine.now).shows (g.M.Machine.seen c.open_store.new.machine).shows c.open_store.ensures.shows c.copy_to-copied.ensures.copied
+    (ap (λ (w : World _ _). w.fresh c.args.ask.target.now) c.open_store.ensures.frame) (ap (λ (w : World _ _). w.made) c.release.ensures.frame) c.in_ok-store.ensures.opened c.into_connection.ensures.same c.release.ensures.left
+    c.copy_to-copied.result (g.M.Machine.seen c.args.machine.now).shows (g.M.Machine.seen c.open_store.new.machine).shows (ap (λ (w : World _ _). w.shows) c.open_store.ensures.frame) c.copy_to-copied.ensures.copied
 
 pub returns-clause-not_copied : goal.returns-clause-not_copied
 returns-clause-not_copied g c =
     not_copied_from g.M.Disk.Store ((g.M.Machine.seen c.args.machine.now).stands c.args.ask.store.now) (g.M.Machine.seen c.release.new.self).left c.in_ok-store.store c.copy_to-copied.new.from c.into_connection.result c.copy_to-copied.ensures.leaves
     ((g.M.Machine.seen c.args.machine.now).fresh c.args.ask.target.now) ((g.M.Machine.seen c.open_store.new.machine).fresh c.args.ask.target.now) (g.M.Machine.seen c.release.new.self).made (g.M.Machine.seen c.copy_to-copied.new.machine).made
-    (ap (λ (fresh : List ℕ → Option (Held _)). fresh c.args.ask.target.now) c.open_store.ensures.fresh) (ap (λ (w : World _ _). w.made) c.release.ensures.frame) c.in_ok-store.ensures.opened c.into_connection.ensures.same c.release.ensures.left
-    c.copy_to-copied.result (g.M.Machine.seen c.args.machine.now).made (g.M.Machine.seen c.open_store.new.machine).made c.open_store.ensures.made c.copy_to-copied.ensures.refused c.copy_to-copied.ensures.not_copied
+    (ap (λ (w : World _ _). w.fresh c.args.ask.target.now) c.open_store.ensures.frame) (ap (λ (w : World _ _). w.made) c.release.ensures.frame) c.in_ok-store.ensures.opened c.into_connection.ensures.same c.release.ensures.left
+    c.copy_to-copied.result (g.M.Machine.seen c.args.machine.now).made (g.M.Machine.seen c.open_store.new.machine).made (ap (λ (w : World _ _). w.made) c.open_store.ensures.frame) c.copy_to-copied.ensures.refused c.copy_to-copied.ensures.not_copied
 
 pub returns-clause-opens : goal.returns-clause-opens
 returns-clause-opens g c =
@@ -74,21 +73,21 @@ returns-clause-refused g c = init_refused c.copy_to-copied.result c.copy_to-copi
 pub returns-clause-back_new : goal.returns-clause-back_new
 returns-clause-back_new g c =
     back_between (g.M.Machine.seen c.args.machine.now).shows (g.M.Machine.seen c.open_store.new.machine).shows (g.M.Machine.seen c.args.machine.now).made (g.M.Machine.seen c.open_store.new.machine).made (g.M.Machine.seen c.release.new.self).made
-    (g.M.Machine.seen c.copy_to-copied.new.machine).made c.open_store.ensures.shows c.open_store.ensures.made (ap (λ (w : World _ _). w.made) c.release.ensures.frame) c.copy_to-copied.ensures.back_new
+    (g.M.Machine.seen c.copy_to-copied.new.machine).made (ap (λ (w : World _ _). w.shows) c.open_store.ensures.frame) (ap (λ (w : World _ _). w.made) c.open_store.ensures.frame) (ap (λ (w : World _ _). w.made) c.release.ensures.frame) c.copy_to-copied.ensures.back_new
 
 pub returns-clause-asked_new : goal.returns-clause-asked_new
 returns-clause-asked_new g c =
     asks_between (g.M.Machine.seen c.args.machine.now).new_stores (g.M.Machine.seen c.open_store.new.machine).new_stores (g.M.Machine.seen c.copy_to-copied.new.machine).new_stores (g.M.Machine.seen c.release.new.self).new_stores
     c.args.ask.target.now c.args.ask.has_sums (EndsWith ((g.M.Machine.seen c.args.machine.now).stands c.args.ask.store.now) (g.M.Machine.seen c.release.new.self).left (OpensDesk g.M.Disk.Store))
-    c.open_store.ensures.new_stores (ap (λ (w : World _ _). w.new_stores) c.release.ensures.frame) c.copy_to-copied.ensures.asked_new
+    (ap (λ (w : World _ _). w.new_stores) c.open_store.ensures.frame) (ap (λ (w : World _ _). w.new_stores) c.release.ensures.frame) c.copy_to-copied.ensures.asked_new
     (opened_left g.M.Disk.Store ((g.M.Machine.seen c.args.machine.now).stands c.args.ask.store.now) (g.M.Machine.seen c.release.new.self).left
     c.in_ok-store.store c.copy_to-copied.new.from c.into_connection.result c.copy_to-copied.ensures.leaves
     c.in_ok-store.ensures.opened c.into_connection.ensures.same c.release.ensures.left)
 
 pub returns-in_err-store-clause-back_new : goal.returns-in_err-store-clause-back_new
-returns-in_err-store-clause-back_new g c = back_same (g.M.Machine.seen c.args.machine.now).shows (g.M.Machine.seen c.args.machine.now).made (g.M.Machine.seen c.open_store.new.machine).made c.open_store.ensures.made
+returns-in_err-store-clause-back_new g c = back_same (g.M.Machine.seen c.args.machine.now).shows (g.M.Machine.seen c.args.machine.now).made (g.M.Machine.seen c.open_store.new.machine).made (ap (λ (w : World _ _). w.made) c.open_store.ensures.frame)
 
 pub returns-in_err-store-clause-asked_new : goal.returns-in_err-store-clause-asked_new
 returns-in_err-store-clause-asked_new g c =
     asks_no_new (g.M.Machine.seen c.args.machine.now).new_stores (g.M.Machine.seen c.open_store.new.machine).new_stores c.args.ask.target.now c.args.ask.has_sums
-    (EndsWith ((g.M.Machine.seen c.args.machine.now).stands c.args.ask.store.now) (g.M.Machine.seen c.open_store.new.machine).left (OpensDesk g.M.Disk.Store)) c.open_store.ensures.new_stores
+    (EndsWith ((g.M.Machine.seen c.args.machine.now).stands c.args.ask.store.now) (g.M.Machine.seen c.open_store.new.machine).left (OpensDesk g.M.Disk.Store)) (ap (λ (w : World _ _). w.new_stores) c.open_store.ensures.frame)

@@ -2,6 +2,7 @@ use Rattle.std.proofs.Common.{ap, ◌≡◌, Option, IsTrue, IfSome, Some, subst
 use Rattle.sqlite.specs.Held.{Held}
 use Rattle.rd_program.proofs.CopyLemmas.{done_to, failed_to, none_to}
 use Rattle.rd_program.specs.World.{World}
+use Rattle.rd_program.proofs.Frames.{new_back}
 use Rattle.rd_program.proofs.copy.copy_to.Goals as goal
 
 pub returns-clause-copied : goal.returns-clause-copied
@@ -25,3 +26,7 @@ pub returns-in-Err-clause-not_copied : goal.returns-in-Err-clause-not_copied
 returns-in-Err-clause-not_copied g c =
     none_to g.M.Disk.Store c.args.from.now c.args.from.now (g.M.Machine.seen c.args.machine.now).made ((g.M.Machine.seen c.args.machine.now).fresh c.args.target.now)
     (g.M.Machine.seen c.connect_new.new.self).made c.or.result c.in-Err.ensures.kept
+
+pub returns-clause-frame : goal.returns-clause-frame
+returns-clause-frame g c =
+    new_back (g.M.Machine.seen c.args.machine.now) (g.M.Machine.seen c.connect_new.new.self) (g.M.Machine.seen c.release_new.new.self) c.connect_new.ensures.frame c.release_new.ensures.frame

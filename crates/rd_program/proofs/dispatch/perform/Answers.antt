@@ -50,7 +50,7 @@ pub returns-in-Extract-clause-does : goal.returns-in-Extract-clause-does
 returns-in-Extract-clause-does g c =
     subst (λ ask. Does g.M.Disk.Store g.M.Door.Door.told g.M.Door.Door.coming (g.M.Machine.seen c.args.machine.now) (g.M.Machine.seen c.extract.new.machine)
     (record { input = g.R.Read.remaining c.args.input.now; out = g.W.Write.contents c.args.output.now; written = g.W.Write.contents c.extract.new.output }) ask c.whole-in-Extract.result) (sym c.in-Extract.is) (record {
-      asked = c.extract.ensures.asked;
+      frame = c.extract.ensures.frame;
       so = at_both c.extract.result c.whole-in-Extract.result _ _ c.whole-in-Extract.ensures c.extract.ensures.extracted c.extract.ensures.refused;
     })
 
@@ -58,6 +58,7 @@ pub returns-in-Init-clause-does : goal.returns-in-Init-clause-does
 returns-in-Init-clause-does g c =
     subst (λ ask. Does g.M.Disk.Store g.M.Door.Door.told g.M.Door.Door.coming (g.M.Machine.seen c.args.machine.now) (g.M.Machine.seen c.init.new.machine)
     (record { input = g.R.Read.remaining c.args.input.now; out = g.W.Write.contents c.args.output.now; written = g.W.Write.contents c.init.new.output }) ask c.whole-in-Init.result) (sym c.in-Init.is) (record {
+      frame = c.init.ensures.frame;
       store = record { asked = c.init.ensures.asked; there = ended_whole _ c.init.result c.whole-in-Init.result c.whole-in-Init.ensures c.init.ensures.there };
       sums = c.init.ensures.sums;
       so = at_both c.init.result c.whole-in-Init.result _ _ c.whole-in-Init.ensures (on_both c.init.result _ _ c.init.ensures.made c.init.ensures.done) (at_err_both c.init.result _ _ c.init.ensures.refused c.init.ensures.left);
@@ -67,6 +68,7 @@ pub returns-in-StaffKey-clause-does : goal.returns-in-StaffKey-clause-does
 returns-in-StaffKey-clause-does g c =
     subst (λ ask. Does g.M.Disk.Store g.M.Door.Door.told g.M.Door.Door.coming (g.M.Machine.seen c.args.machine.now) (g.M.Machine.seen c.staff_key.new.machine)
     (record { input = g.R.Read.remaining c.args.input.now; out = g.W.Write.contents c.args.output.now; written = g.W.Write.contents c.staff_key.new.output }) ask c.whole-in-StaffKey.result) (sym c.in-StaffKey.is) (record {
+      frame = c.staff_key.ensures.frame;
       store = record { asked = c.staff_key.ensures.asked; there = ended_whole _ c.staff_key.result c.whole-in-StaffKey.result c.whole-in-StaffKey.ensures c.staff_key.ensures.there };
       so = at_both c.staff_key.result c.whole-in-StaffKey.result _ _ c.whole-in-StaffKey.ensures (on_both c.staff_key.result _ _ c.staff_key.ensures.put c.staff_key.ensures.done) (at_err_all c.staff_key.result _ _ _ c.staff_key.ensures.refused c.staff_key.ensures.left c.staff_key.ensures.opens);
     })
@@ -90,9 +92,10 @@ pub returns-in-OneQuestion-clause-does : goal.returns-in-OneQuestion-clause-does
 returns-in-OneQuestion-clause-does g c =
     subst (λ ask. Does g.M.Disk.Store g.M.Door.Door.told g.M.Door.Door.coming (g.M.Machine.seen c.args.machine.now) (g.M.Machine.seen c.ask_once.new.machine)
     (record { input = g.R.Read.remaining c.args.input.now; out = g.W.Write.contents c.args.output.now; written = g.W.Write.contents c.ask_once.new.output }) ask c.ask_once.result) (sym c.in-OneQuestion.is) (record {
-      store = record { asked = c.ask_once.ensures.asked; there = c.ask_once.ensures.there };
+      frame = c.ask_once.ensures.frame;
+      store = c.ask_once.ensures.store;
       leaves = c.ask_once.ensures.steps;
-      moment = record { unasked = c.ask_once.ensures.unasked; on_time = c.ask_once.ensures.on_time; due = c.ask_once.ensures.clock; behind = c.ask_once.ensures.late };
+      moment = c.ask_once.ensures.moment;
       answers = c.ask_once.ensures.answers;
       tells = c.ask_once.ensures.written;
       refused = c.ask_once.ensures.refused;
@@ -103,9 +106,10 @@ pub returns-in-Import-clause-does : goal.returns-in-Import-clause-does
 returns-in-Import-clause-does g c =
     subst (λ ask. Does g.M.Disk.Store g.M.Door.Door.told g.M.Door.Door.coming (g.M.Machine.seen c.args.machine.now) (g.M.Machine.seen c.import.new.machine)
     (record { input = g.R.Read.remaining c.args.input.now; out = g.W.Write.contents c.args.output.now; written = g.W.Write.contents c.import.new.output }) ask c.import.result) (sym c.in-Import.is) (record {
-      store = record { asked = c.import.ensures.asked; there = c.import.ensures.there };
+      frame = c.import.ensures.frame;
+      store = c.import.ensures.store;
       leaves = c.import.ensures.takes;
-      moment = record { unasked = c.import.ensures.unasked; on_time = λ dated held. c.import.ensures.on_time held; due = c.import.ensures.clock; behind = c.import.ensures.late };
+      moment = c.import.ensures.moment;
       rows = c.import.ensures.rows;
       tells = match_both c.import.result _ _ c.import.ensures.written c.import.ensures.refused;
       opening = c.import.ensures.opens;
@@ -116,9 +120,10 @@ pub returns-in-Sift-clause-does : goal.returns-in-Sift-clause-does
 returns-in-Sift-clause-does g c =
     subst (λ ask. Does g.M.Disk.Store g.M.Door.Door.told g.M.Door.Door.coming (g.M.Machine.seen c.args.machine.now) (g.M.Machine.seen c.sift.new.machine)
     (record { input = g.R.Read.remaining c.args.input.now; out = g.W.Write.contents c.args.output.now; written = g.W.Write.contents c.sift.new.output }) ask c.sift.result) (sym c.in-Sift.is) (record {
-      store = record { asked = c.sift.ensures.asked; there = c.sift.ensures.there };
+      frame = c.sift.ensures.frame;
+      store = c.sift.ensures.store;
       leaves = c.sift.ensures.takes;
-      moment = record { unasked = c.sift.ensures.unasked; on_time = λ dated held. c.sift.ensures.on_time held; due = c.sift.ensures.clock; behind = c.sift.ensures.late };
+      moment = c.sift.ensures.moment;
       rows = c.sift.ensures.sifted;
       refused = c.sift.ensures.refused;
       opening = c.sift.ensures.opens;
@@ -129,6 +134,7 @@ pub returns-in-Serve-clause-does : goal.returns-in-Serve-clause-does
 returns-in-Serve-clause-does g c =
     subst (λ ask. Does g.M.Disk.Store g.M.Door.Door.told g.M.Door.Door.coming (g.M.Machine.seen c.args.machine.now) (g.M.Machine.seen c.serve.new.machine)
     (record { input = g.R.Read.remaining c.args.input.now; out = g.W.Write.contents c.args.output.now; written = g.W.Write.contents c.serve.new.output }) ask c.whole-in-Serve.result) (sym c.in-Serve.is) (record {
+      frame = c.serve.ensures.frame;
       store = record { asked = c.serve.ensures.asked; there = ended_whole _ c.serve.result c.whole-in-Serve.result c.whole-in-Serve.ensures c.serve.ensures.there };
       leaves = c.serve.ensures.lasts;
       so = at_both c.serve.result c.whole-in-Serve.result _ _ c.whole-in-Serve.ensures (c.serve.ensures.done) (at_err_both c.serve.result _ _ c.serve.ensures.refused c.serve.ensures.left);

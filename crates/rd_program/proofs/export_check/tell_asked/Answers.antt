@@ -9,11 +9,10 @@ use Rattle.rd_protocol.specs.declared.request.What.TheVariants as request
 use Rattle.rd_program.specs.Leaves.{IsDayAt, StepsOf, moment_of}
 use Rattle.rd_program.specs.Showing.{Finds, Shows, asked_of, found_by, request_of, what_of, what_to_show}
 use Rattle.rd_program.proofs.ShowLemmas.{badge_there, due_asked, finds_asked, key_of_check, key_of_show, no_check, passed_on, shows_asked}
-use Rattle.rd_program.specs.OnTime.{is_dated, must_be_on_time}
-use Rattle.rd_program.proofs.BehindLemmas.{no_behind_on}
-use Rattle.rd_program.proofs.DaylessMoments.{no_clock_on}
+use Rattle.rd_program.specs.OnTime.{is_dated}
 use Rattle.rd_program.proofs.LeftStores.{still_same}
-use Rattle.rd_program.proofs.OnTimeLemmas.{check_from, day_asks, day_due, day_no_accession, due_from, if_ok_from, ok_from, on_time_from, same_from, show_undated, still_steps}
+use Rattle.rd_program.proofs.OnTimeLemmas.{check_from, day_asks, day_due, day_no_accession, due_from, if_ok_from, ok_from, same_from, still_steps}
+use Rattle.rd_program.proofs.Moments.{asks_none, asks_then}
 use Rattle.rd_program.proofs.export_check.tell_asked.Goals as goal
 
 pub returns-in_err-day-clause-not_shown : goal.returns-in_err-day-clause-not_shown
@@ -132,39 +131,6 @@ returns-in-Show-clause-due g c = λ judged.
     c.badge_of-badge.result (option_map sha256 (option_map (λ key. key.now) c.args.ask.now.key)) c.badge_of-badge.ensures c.what_of.result (asked_of c.args.ask.now.question)
     (c.what_of.ensures.asks ∙ sym (ap asked_of c.in-Show.is)) (c.show-in-Show.ensures.due (inl there)))
 
--- ---- the clock
-
-pub returns-in_err-day-clause-clock : goal.returns-in_err-day-clause-clock
-returns-in_err-day-clause-clock g c =
-    passed_on c.from_residual.result c.in_err-day.field-0.0 _ c.from_residual.ensures.1 c.in_err-day.ensures.clock
-
-pub returns-in-Catalogue-clause-clock : goal.returns-in-Catalogue-clause-clock
-returns-in-Catalogue-clause-clock g c =
-    IfErr-weaker c.show.result _ _ (no_clock_on g.S.Store (is_dated c.args.ask.now.question) c.args.ask.now.when.seconds c.args.desk.now.store c.show.new.desk.store) c.show.ensures.dated
-
-pub returns-in-Check-clause-clock : goal.returns-in-Check-clause-clock
-returns-in-Check-clause-clock g c =
-    IfErr-weaker c.check.result _ _ (no_clock_on g.S.Store (is_dated c.args.ask.now.question) c.args.ask.now.when.seconds c.args.desk.now.store c.check.new.desk.store) c.check.ensures.dated
-
-pub returns-in-Show-clause-clock : goal.returns-in-Show-clause-clock
-returns-in-Show-clause-clock g c =
-    IfErr-weaker c.show-in-Show.result _ _ (no_clock_on g.S.Store (is_dated c.args.ask.now.question) c.args.ask.now.when.seconds c.args.desk.now.store c.show-in-Show.new.desk.store) c.show-in-Show.ensures.dated
-
--- ---- the clock that is not behind
-
-pub returns-in-Catalogue-clause-on_time : goal.returns-in-Catalogue-clause-on_time
-returns-in-Catalogue-clause-on_time g c = λ dated held.
-    on_time_from g.S.Store c.args.desk.now.store c.question_day.new.desk.store c.show.new.desk.store c.show.ensures.same.lasts (g.M.Machine.seen c.args.machine.now).clock c.args.desk.now.zone c.in_ok-day.day
-    c.show.result c.args.ask.now.when.seconds c.args.ask.now.when.is_trusting held c.in_ok-day.ensures.day (c.in_ok-day.ensures.on_time dated)
-
-pub returns-in-Check-clause-on_time : goal.returns-in-Check-clause-on_time
-returns-in-Check-clause-on_time g c = λ dated held.
-    on_time_from g.S.Store c.args.desk.now.store c.question_day.new.desk.store c.check.new.desk.store c.check.ensures.checks.lasts (g.M.Machine.seen c.args.machine.now).clock c.args.desk.now.zone c.in_ok-day.day
-    c.check.result c.args.ask.now.when.seconds c.args.ask.now.when.is_trusting held c.in_ok-day.ensures.day (c.in_ok-day.ensures.on_time dated)
-
-pub returns-in-Show-clause-on_time : goal.returns-in-Show-clause-on_time
-returns-in-Show-clause-on_time g c = λ dated. absurd (show_undated c.in-Show.shown c.args.ask.now.question c.in-Show.is dated)
-
 -- ---- what is left
 
 pub returns-in_err-day-clause-steps : goal.returns-in_err-day-clause-steps
@@ -193,23 +159,22 @@ returns-in-Check-clause-steps g c =
     (subst (IsDayAt (moment_of c.args.ask.now.when.seconds (g.M.Machine.seen c.args.machine.now).clock) c.args.desk.now.zone) (sym (to_z-of_z w32 c.in_ok-day.day fits)) c.in_ok-day.ensures.day)
     c.badge_of-badge.ensures c.in-Check.is c.check.ensures.checks
 
--- ---- the clock that is behind
+pub returns-in_err-day-clause-moment : goal.returns-in_err-day-clause-moment
+returns-in_err-day-clause-moment g c =
+    asks_none g.S.Store (is_dated c.args.ask.now.question) c.args.ask.now.when (g.M.Machine.seen c.args.machine.now).clock c.args.desk.now.zone c.args.desk.now.store c.question_day.new.desk.store c.from_residual.result
+    c.in_err-day.field-0.0 c.from_residual.ensures.1 c.in_err-day.ensures.dayless c.in_err-day.ensures.clock c.in_err-day.ensures.late c.in_err-day.ensures.refused
 
-pub returns-in_err-day-clause-late : goal.returns-in_err-day-clause-late
-returns-in_err-day-clause-late g c =
-    passed_on c.from_residual.result c.in_err-day.field-0.0 _ c.from_residual.ensures.1 c.in_err-day.ensures.late
+pub returns-in-Catalogue-clause-moment : goal.returns-in-Catalogue-clause-moment
+returns-in-Catalogue-clause-moment g c =
+    asks_then g.S.Store (is_dated c.args.ask.now.question) c.args.ask.now.when (g.M.Machine.seen c.args.machine.now).clock c.args.desk.now.zone c.args.desk.now.store c.question_day.new.desk.store c.show.new.desk.store c.show.result
+    c.in_ok-day.day c.show.ensures.same.lasts c.in_ok-day.ensures.day c.in_ok-day.ensures.dayless c.in_ok-day.ensures.on_time c.show.ensures.dated c.show.ensures.opened
 
-pub returns-in-Catalogue-clause-late : goal.returns-in-Catalogue-clause-late
-returns-in-Catalogue-clause-late g c =
-    IfErr-weaker c.show.result _ _ (no_behind_on g.S.Store (is_dated c.args.ask.now.question) (must_be_on_time c.args.ask.now.when.seconds c.args.ask.now.when.is_trusting)
-    (moment_of c.args.ask.now.when.seconds (g.M.Machine.seen c.args.machine.now).clock) c.args.desk.now.zone c.args.desk.now.store c.show.new.desk.store) c.show.ensures.dated
+pub returns-in-Check-clause-moment : goal.returns-in-Check-clause-moment
+returns-in-Check-clause-moment g c =
+    asks_then g.S.Store (is_dated c.args.ask.now.question) c.args.ask.now.when (g.M.Machine.seen c.args.machine.now).clock c.args.desk.now.zone c.args.desk.now.store c.question_day.new.desk.store c.check.new.desk.store c.check.result
+    c.in_ok-day.day c.check.ensures.checks.lasts c.in_ok-day.ensures.day c.in_ok-day.ensures.dayless c.in_ok-day.ensures.on_time c.check.ensures.dated c.check.ensures.opened
 
-pub returns-in-Check-clause-late : goal.returns-in-Check-clause-late
-returns-in-Check-clause-late g c =
-    IfErr-weaker c.check.result _ _ (no_behind_on g.S.Store (is_dated c.args.ask.now.question) (must_be_on_time c.args.ask.now.when.seconds c.args.ask.now.when.is_trusting)
-    (moment_of c.args.ask.now.when.seconds (g.M.Machine.seen c.args.machine.now).clock) c.args.desk.now.zone c.args.desk.now.store c.check.new.desk.store) c.check.ensures.dated
-
-pub returns-in-Show-clause-late : goal.returns-in-Show-clause-late
-returns-in-Show-clause-late g c =
-    IfErr-weaker c.show-in-Show.result _ _ (no_behind_on g.S.Store (is_dated c.args.ask.now.question) (must_be_on_time c.args.ask.now.when.seconds c.args.ask.now.when.is_trusting)
-    (moment_of c.args.ask.now.when.seconds (g.M.Machine.seen c.args.machine.now).clock) c.args.desk.now.zone c.args.desk.now.store c.show-in-Show.new.desk.store) c.show-in-Show.ensures.dated
+pub returns-in-Show-clause-moment : goal.returns-in-Show-clause-moment
+returns-in-Show-clause-moment g c =
+    asks_then g.S.Store (is_dated c.args.ask.now.question) c.args.ask.now.when (g.M.Machine.seen c.args.machine.now).clock c.args.desk.now.zone c.args.desk.now.store c.question_day.new.desk.store c.show-in-Show.new.desk.store c.show-in-Show.result
+    c.in_ok-day.day c.show-in-Show.ensures.same.lasts c.in_ok-day.ensures.day c.in_ok-day.ensures.dayless c.in_ok-day.ensures.on_time c.show-in-Show.ensures.dated c.show-in-Show.ensures.opened

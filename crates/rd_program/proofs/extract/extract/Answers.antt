@@ -1,4 +1,4 @@
-use Rattle.std.proofs.Common.{◌≡◌, ◌∙◌, ◌<◌, IfErr, ap, arith, false, inl, inr, length, refl, subst, sym, true}
+use Rattle.std.proofs.Common.{◌≡◌, ◌∙◌, ◌<◌, IfErr, ap, arith, false, inr, length, refl, rules, subst, sym, true}
 use Rattle.rd_geometry.specs.Images.{bytes_of, kind_of}
 use Rattle.rd_geometry.specs.Kinds.{size_of}
 use Rattle.rd_volume.specs.Volumes.{AreFounds}
@@ -8,6 +8,10 @@ use Rattle.rd_program.proofs.FileLemmas.{shown_as}
 use Rattle.rd_program.proofs.FolderLemmas.{all_of_image, extracts_all, extracts_part, makes_more, makes_same, of_sized, part_of_image, refuses_early, refuses_part, size_refused}
 use Rattle.rd_program.proofs.ShowLemmas.{passed_on}
 use Rattle.rd_program.proofs.extract.extract.Goals.{then-is_given+in_ok-extract_one, else-is_given}
+use Rattle.std.specs.Prelude.{IsSome}
+use Rattle.std.proofs.lemmas.Grind.{common_steps}
+use Rattle.rd_program.specs.World.{ChangesFolders, World}
+use Rattle.rd_program.proofs.Frames.{more_made}
 use Rattle.rd_program.proofs.extract.extract.Goals as goal
 
 -- ---- before the first file
@@ -43,15 +47,13 @@ loop-file-preserved g c =
         makes = makes_more (kind_of c.in_ok-image.image) (bytes_of c.in_ok-image.image) c.args.ask.folder.now files at.file-index c.file-item.result _ _ _ _ _ _ inside (sym c.file-item.is)
             (sym c.is_given.ensures ∙ w.if-is_given.true) at.invariant.makes w.in_ok-extract_one.ensures.made w.in_ok-extract_one.ensures.line;
         flushed = inr w.in_ok-extract_one.ensures.flushed;
-        left = w.extract_one.ensures.left ∙ at.invariant.left;
-        asked = w.extract_one.ensures.asked ∙ at.invariant.asked;
+        frame = more_made (g.M.Machine.seen c.args.machine.now) (g.M.Machine.seen at.machine) (g.M.Machine.seen w.extract_one.new.machine) at.invariant.frame w.extract_one.ensures.frame;
       })
       | else-is_given w ↦ rw (w.machine-is, w.output-is) (record {
         makes = makes_same (kind_of c.in_ok-image.image) (bytes_of c.in_ok-image.image) c.args.ask.folder.now files at.file-index c.file-item.result _ _ _ _ inside (sym c.file-item.is)
             (sym c.is_given.ensures ∙ w.if-is_given.false) at.invariant.makes;
         flushed = at.invariant.flushed;
-        left = at.invariant.left;
-        asked = at.invariant.asked;
+        frame = at.invariant.frame;
       })
     ]
 
@@ -80,3 +82,35 @@ returns-clause-extracted g c =
     (ap length (sym c.as_slice.ensures.value) ∙ c.in_ok-image.ensures.taken.0 (refl {a = true}))
     (all_of_image c.args.ask.image.kind _ c.in_ok-bytes.bytes.items _ c.args.ask.folder.now _ _ _ _ c.in_ok-image.ensures.kind
     (c.in_ok-image.ensures.bytes ∙ c.as_slice.ensures.value) all)
+
+pub returns-in_err-bytes-clause-frame : goal.returns-in_err-bytes-clause-frame
+returns-in_err-bytes-clause-frame g c =
+    subst (λ machine. ChangesFolders (g.M.Machine.seen c.args.machine.now) (g.M.Machine.seen machine)) (sym c.read_image.ensures.same) refl
+
+pub returns-in_err-image-clause-frame : goal.returns-in_err-image-clause-frame
+returns-in_err-image-clause-frame g c =
+    subst (λ machine. ChangesFolders (g.M.Machine.seen c.args.machine.now) (g.M.Machine.seen machine)) (sym c.read_image.ensures.same) refl
+
+pub returns-in_err-files-clause-frame : goal.returns-in_err-files-clause-frame
+returns-in_err-files-clause-frame g c =
+    subst (λ machine. ChangesFolders (g.M.Machine.seen c.args.machine.now) (g.M.Machine.seen machine)) (sym c.read_image.ensures.same) refl
+
+pub loop-file-init : goal.loop-file-init
+loop-file-init g c = record {
+  makes = first_of (search rules, grind (arith, common_steps));
+  flushed = first_of (search rules, grind (arith, common_steps));
+  frame = subst (λ machine. ChangesFolders (g.M.Machine.seen c.args.machine.now) (g.M.Machine.seen machine)) (sym c.read_image.ensures.same) refl;
+}
+
+pub returns-in_err-extract_one-clause-frame : goal.returns-in_err-extract_one-clause-frame
+returns-in_err-extract_one-clause-frame g c =
+    more_made (g.M.Machine.seen c.args.machine.now) (g.M.Machine.seen c.loop-file.machine) (g.M.Machine.seen c.extract_one.new.machine) c.loop-file.invariant.frame c.extract_one.ensures.frame
+
+pub returns-in_err-extract_one-clause-back : goal.returns-in_err-extract_one-clause-back
+returns-in_err-extract_one-clause-back g c = λ shows had. subst (λ left. IsSome left) (sym (ap (λ (w : World _ _). w.left) (more_made (g.M.Machine.seen c.args.machine.now) (g.M.Machine.seen c.loop-file.machine) (g.M.Machine.seen c.extract_one.new.machine) c.loop-file.invariant.frame c.extract_one.ensures.frame))) had
+
+pub returns-clause-frame : goal.returns-clause-frame
+returns-clause-frame g c = c.loop-file.invariant.frame
+
+pub returns-clause-back : goal.returns-clause-back
+returns-clause-back g c = λ shows had. subst (λ left. IsSome left) (sym (ap (λ (w : World _ _). w.left) c.loop-file.invariant.frame)) had

@@ -1,4 +1,4 @@
-use Rattle.std.proofs.Common.{◌∙◌, IsTrue, ap, inl, rules, subst, sym}
+use Rattle.std.proofs.Common.{◌∙◌, IsTrue, ap, inl, refl, rules, subst, sym}
 use Rattle.std.proofs.KnownBytes.{Keeps-refl}
 use Rattle.rd_commands.specs.Serving.{place_of}
 use Rattle.rd_program.proofs.Named.{asked_then}
@@ -7,6 +7,7 @@ use Rattle.rd_program.proofs.VisitLemmas.{lent_kept, lent_limits, limits_kept, s
 use Rattle.rd_program.proofs.LeftStoresByWords.{lasts_left, opened_left, serve_ended, serve_not_begun, unserved_left}
 use Rattle.rd_program.proofs.ServeLines.{both_lines, ends, not_listening, not_opened}
 use Rattle.rd_program.specs.World.{World}
+use Rattle.rd_program.proofs.Frames.{doors_back, opened_doors}
 use Rattle.rd_program.proofs.serve.serve.Goals as goal
 
 pub returns-in_err-served-clause-refused : goal.returns-in_err-served-clause-refused
@@ -60,12 +61,12 @@ returns-clause-left g c =
 pub returns-clause-back : goal.returns-clause-back
 returns-clause-back g c =
     gives_back (g.M.Machine.seen c.args.machine.now).shows (g.M.Machine.seen c.args.machine.now).left (g.M.Machine.seen c.release.new.self).left _
-    (λ shows. c.release.ensures.back (subst (λ b. IsTrue b) (sym (c.serve_visits-served.ensures.shows ∙ c.open_desk.ensures.shows)) shows))
+    (λ shows. c.release.ensures.back (subst (λ b. IsTrue b) (sym ((ap (λ (w : World _ _). w.shows) c.serve_visits-served.ensures.frame) ∙ (ap (λ (w : World _ _). w.shows) c.open_desk.ensures.frame))) shows))
 
 pub returns-in_err-served-clause-back : goal.returns-in_err-served-clause-back
 returns-in_err-served-clause-back g c =
     gives_back (g.M.Machine.seen c.args.machine.now).shows (g.M.Machine.seen c.args.machine.now).left (g.M.Machine.seen c.release.new.self).left _
-    (λ shows. c.release.ensures.back (subst (λ b. IsTrue b) (sym (c.serve_visits-served.ensures.shows ∙ c.open_desk.ensures.shows)) shows))
+    (λ shows. c.release.ensures.back (subst (λ b. IsTrue b) (sym ((ap (λ (w : World _ _). w.shows) c.serve_visits-served.ensures.frame) ∙ (ap (λ (w : World _ _). w.shows) c.open_desk.ensures.frame))) shows))
 
 pub returns-clause-visits : goal.returns-clause-visits
 returns-clause-visits g c =
@@ -74,23 +75,23 @@ returns-clause-visits g c =
     ((g.M.Machine.seen c.open_desk.new.machine).doors at) ((g.M.Machine.seen c.args.machine.now).doors at) ((g.M.Machine.seen c.serve_visits-served.new.machine).doors at)
     ((g.M.Machine.seen c.release.new.self).doors at) ((g.M.Machine.seen c.args.machine.now).stands c.args.ask.store.now) (g.M.Machine.seen c.release.new.self).left
     c.in_ok-desk.desk.store c.serve_visits-served.new.desk.store c.into_connection.result
-    c.in_ok-desk.ensures.zone (ap (λ d. d at) c.open_desk.ensures.door) (ap (λ d. d at) (ap (λ (w : World _ _). w.doors) c.release.ensures.frame)) c.in_ok-desk.ensures.opened c.in_ok-served.ensures.lasts
+    c.in_ok-desk.ensures.zone (ap (λ (w : World _ _). w.doors at) c.open_desk.ensures.frame) (ap (λ (w : World _ _). w.doors at) c.release.ensures.frame) c.in_ok-desk.ensures.opened c.in_ok-served.ensures.lasts
     (c.into_connection.ensures.same ∙ c.into_store.ensures) c.release.ensures.left c.in_ok-served.ensures.count c.tell_ended.ensures.count c.in_ok-served.ensures.visits
 
 pub returns-clause-limits : goal.returns-clause-limits
 returns-clause-limits g c =
     limits_kept c.tell_ended.result (g.M.Machine.seen c.args.machine.now).shows (g.M.Machine.seen c.open_desk.new.machine).shows (g.M.Machine.seen c.serve_visits-served.new.machine).limits
-    (g.M.Machine.seen c.release.new.self).limits c.args.ask.timeouts c.open_desk.ensures.shows (ap (λ (w : World _ _). w.limits) c.release.ensures.frame) c.in_ok-served.ensures.limits
+    (g.M.Machine.seen c.release.new.self).limits c.args.ask.timeouts (ap (λ (w : World _ _). w.shows) c.open_desk.ensures.frame) (ap (λ (w : World _ _). w.limits) c.release.ensures.frame) c.in_ok-served.ensures.limits
 
 pub returns-clause-there : goal.returns-clause-there
 returns-clause-there g c =
     on_ended_always c.tell_ended.result _ (has_both (g.M.Machine.seen c.args.machine.now).shows ((g.M.Machine.seen c.args.machine.now).stands c.args.ask.store.now) (g.M.Machine.seen c.release.new.self).left _
-    c.in_ok-desk.ensures.there (λ shows. c.release.ensures.back (subst (λ b. IsTrue b) (sym (c.serve_visits-served.ensures.shows ∙ c.open_desk.ensures.shows)) shows)))
+    c.in_ok-desk.ensures.there (λ shows. c.release.ensures.back (subst (λ b. IsTrue b) (sym ((ap (λ (w : World _ _). w.shows) c.serve_visits-served.ensures.frame) ∙ (ap (λ (w : World _ _). w.shows) c.open_desk.ensures.frame))) shows)))
 
 pub returns-in_err-served-clause-there : goal.returns-in_err-served-clause-there
 returns-in_err-served-clause-there g c =
     on_ended_always c.from_residual-in_err-served.result _ (has_both (g.M.Machine.seen c.args.machine.now).shows ((g.M.Machine.seen c.args.machine.now).stands c.args.ask.store.now) (g.M.Machine.seen c.release.new.self).left _
-    c.in_ok-desk.ensures.there (λ shows. c.release.ensures.back (subst (λ b. IsTrue b) (sym (c.serve_visits-served.ensures.shows ∙ c.open_desk.ensures.shows)) shows)))
+    c.in_ok-desk.ensures.there (λ shows. c.release.ensures.back (subst (λ b. IsTrue b) (sym ((ap (λ (w : World _ _). w.shows) c.serve_visits-served.ensures.frame) ∙ (ap (λ (w : World _ _). w.shows) c.open_desk.ensures.frame))) shows)))
 
 pub returns-in_err-desk-clause-there : goal.returns-in_err-desk-clause-there
 returns-in_err-desk-clause-there g c = opening_fails c.from_residual.result c.in_err-desk.field-0.0 _ c.from_residual.ensures.1 c.in_err-desk.ensures.refused
@@ -98,12 +99,12 @@ returns-in_err-desk-clause-there g c = opening_fails c.from_residual.result c.in
 pub returns-clause-asked : goal.returns-clause-asked
 returns-clause-asked g c =
     asked_then (g.M.Machine.seen c.args.machine.now).wanted (g.M.Machine.seen c.open_desk.new.machine).wanted (g.M.Machine.seen c.release.new.self).wanted c.args.ask.store.now c.open_desk.ensures.asked
-    ((ap (λ (w : World _ _). w.wanted) c.release.ensures.frame) ∙ c.serve_visits-served.ensures.asked)
+    ((ap (λ (w : World _ _). w.wanted) c.release.ensures.frame) ∙ (ap (λ (w : World _ _). w.wanted) c.serve_visits-served.ensures.frame))
 
 pub returns-in_err-served-clause-asked : goal.returns-in_err-served-clause-asked
 returns-in_err-served-clause-asked g c =
     asked_then (g.M.Machine.seen c.args.machine.now).wanted (g.M.Machine.seen c.open_desk.new.machine).wanted (g.M.Machine.seen c.release.new.self).wanted c.args.ask.store.now c.open_desk.ensures.asked
-    ((ap (λ (w : World _ _). w.wanted) c.release.ensures.frame) ∙ c.serve_visits-served.ensures.asked)
+    ((ap (λ (w : World _ _). w.wanted) c.release.ensures.frame) ∙ (ap (λ (w : World _ _). w.wanted) c.serve_visits-served.ensures.frame))
 
 -- ---- the door that was lent
 
@@ -114,10 +115,24 @@ pub returns-in_err-served-clause-lent : goal.returns-in_err-served-clause-lent
 returns-in_err-served-clause-lent g c =
     lent_kept (g.M.Machine.seen c.args.machine.now).shows (g.M.Machine.seen c.open_desk.new.machine).shows (g.M.Machine.seen c.serve_visits-served.new.machine).limits
     (g.M.Machine.seen c.release.new.self).limits (g.W.Write.contents c.args.output.now) (g.W.Write.contents c.serve_visits-served.new.output)
-    c.open_desk.ensures.shows (ap (λ (w : World _ _). w.limits) c.release.ensures.frame) c.serve_visits-served.ensures.lent
+    (ap (λ (w : World _ _). w.shows) c.open_desk.ensures.frame) (ap (λ (w : World _ _). w.limits) c.release.ensures.frame) c.serve_visits-served.ensures.lent
 
 pub returns-clause-lent : goal.returns-clause-lent
 returns-clause-lent g c =
     lent_limits (g.M.Machine.seen c.args.machine.now).shows (g.M.Machine.seen c.open_desk.new.machine).shows (g.M.Machine.seen c.serve_visits-served.new.machine).limits
     (g.M.Machine.seen c.release.new.self).limits c.args.ask.timeouts (g.W.Write.contents c.args.output.now) (g.W.Write.contents c.tell_ended.new.output)
-    c.open_desk.ensures.shows (ap (λ (w : World _ _). w.limits) c.release.ensures.frame) c.in_ok-served.ensures.limits
+    (ap (λ (w : World _ _). w.shows) c.open_desk.ensures.frame) (ap (λ (w : World _ _). w.limits) c.release.ensures.frame) c.in_ok-served.ensures.limits
+
+pub returns-clause-frame : goal.returns-clause-frame
+returns-clause-frame g c =
+    doors_back (g.M.Machine.seen c.args.machine.now) (g.M.Machine.seen c.serve_visits-served.new.machine) (g.M.Machine.seen c.release.new.self)
+    (opened_doors (g.M.Machine.seen c.args.machine.now) (g.M.Machine.seen c.open_desk.new.machine) (g.M.Machine.seen c.serve_visits-served.new.machine) c.open_desk.ensures.frame c.serve_visits-served.ensures.frame) c.release.ensures.frame
+
+pub returns-in_err-served-clause-frame : goal.returns-in_err-served-clause-frame
+returns-in_err-served-clause-frame g c =
+    doors_back (g.M.Machine.seen c.args.machine.now) (g.M.Machine.seen c.serve_visits-served.new.machine) (g.M.Machine.seen c.release.new.self)
+    (opened_doors (g.M.Machine.seen c.args.machine.now) (g.M.Machine.seen c.open_desk.new.machine) (g.M.Machine.seen c.serve_visits-served.new.machine) c.open_desk.ensures.frame c.serve_visits-served.ensures.frame) c.release.ensures.frame
+
+pub returns-in_err-desk-clause-frame : goal.returns-in_err-desk-clause-frame
+returns-in_err-desk-clause-frame g c =
+    opened_doors (g.M.Machine.seen c.args.machine.now) (g.M.Machine.seen c.open_desk.new.machine) (g.M.Machine.seen c.open_desk.new.machine) c.open_desk.ensures.frame refl

@@ -1,25 +1,22 @@
-use Rattle.std.proofs.Common.{◌∙◌, IsTrue, ap, subst, sym, true, IfSome, OnOk}
+use Rattle.std.proofs.Common.{◌∙◌, IsTrue, ap, subst, sym, true, refl}
 use Rattle.sha2.specs.Sha256.{sha256}
 use Rattle.rd_program.specs.Leaves.{IsDayAt, LeavesDesk, TakesUnlessDry, moment_of}
 use Rattle.rd_program.proofs.RowLemmas.{opening_no_sheet, shown_before}
 use Rattle.rd_program.proofs.SiftLemmas.{sift_ended}
 use Rattle.rd_program.specs.Sifting.{way_asked}
 use Rattle.rd_program.proofs.ShowLemmas.{passed_on}
-use Rattle.rd_program.proofs.DaylessMoments.{clock_ended, opening_no_clock, unasked}
-use Rattle.rd_policy.specs.Zones.{day_number}
-use Rattle.rd_store.specs.Held.{IsOpen, desk}
-use Rattle.rd_program.specs.OnTime.{IsOnTime, must_be_on_time}
-use Rattle.rd_program.proofs.BehindLemmas.{behind_ended, opening_no_behind}
-use Rattle.rd_program.proofs.OnTimeLemmas.{stood_on_time}
+use Rattle.rd_store.specs.Held.{desk}
 use Rattle.rd_program.proofs.Named.{asked_then}
 use Rattle.rd_program.proofs.LeftStores.{desk_left, gives_back, has_both, on_ended_always, opening_fails, unopened_left}
 use Rattle.rd_program.specs.World.{World}
+use Rattle.rd_program.proofs.Frames.{opened_clock, store_back}
+use Rattle.rd_program.proofs.Moments.{asked_at, unopened_at}
 use Rattle.rd_program.proofs.sift.sift.Goals as goal
 
 pub returns-clause-back : goal.returns-clause-back
 returns-clause-back g c =
     gives_back (g.M.Machine.seen c.args.machine.now).shows (g.M.Machine.seen c.args.machine.now).left (g.M.Machine.seen c.release.new.self).left _
-    (λ shows. c.release.ensures.back (subst (λ b. IsTrue b) (sym (c.sift_sheet-ended.ensures.shows ∙ c.open_desk.ensures.shows)) shows))
+    (λ shows. c.release.ensures.back (subst (λ b. IsTrue b) (sym ((ap (λ (w : World _ _). w.shows) c.sift_sheet-ended.ensures.frame) ∙ (ap (λ (w : World _ _). w.shows) c.open_desk.ensures.frame))) shows))
 
 pub returns-clause-takes : goal.returns-clause-takes
 returns-clause-takes g c =
@@ -28,7 +25,7 @@ returns-clause-takes g c =
     let badge = sha256 c.args.ask.import.key.now in
     let told = c.args.ask.import.when.seconds in
     let clock = (g.M.Machine.seen c.args.machine.now).clock in
-    let later = subst (λ m. LeavesDesk g.M.Disk.Store (TakesUnlessDry c.args.ask.dry_run badge (IsDayAt (moment_of told m) c.in_ok-desk.desk.zone)) opened last) c.in_ok-desk.ensures.clock c.sift_sheet-ended.ensures.takes in
+    let later = subst (λ m. LeavesDesk g.M.Disk.Store (TakesUnlessDry c.args.ask.dry_run badge (IsDayAt (moment_of told m) c.in_ok-desk.desk.zone)) opened last) (ap (λ (w : World _ _). w.clock) c.open_desk.ensures.frame) c.sift_sheet-ended.ensures.takes in
     let takes = subst (λ z. LeavesDesk g.M.Disk.Store (TakesUnlessDry c.args.ask.dry_run badge (IsDayAt (moment_of told clock) z)) opened last) c.in_ok-desk.ensures.zone later in
     desk_left g.M.Disk.Store (g.M.Machine.seen c.args.machine.now).left ((g.M.Machine.seen c.args.machine.now).stands c.args.ask.import.store.now) (g.M.Machine.seen c.release.new.self).left
     (TakesUnlessDry c.args.ask.dry_run badge (IsDayAt (moment_of told clock) c.args.ask.import.when.zone)) opened last c.into_connection.result
@@ -50,80 +47,52 @@ returns-clause-sifted g c =
     (g.W.Write.contents c.args.output.now) (g.W.Write.contents c.sift_sheet-ended.new.output) c.sift_sheet-ended.result (sha256 c.args.ask.import.key.now)
     (IsDayAt (moment_of told (g.M.Machine.seen opened).clock) c.in_ok-desk.desk.zone) ((g.M.Machine.seen opened).sheets c.args.ask.import.sheet.now)
     ((g.M.Machine.seen before).stands c.args.ask.import.store.now) (g.M.Machine.seen c.release.new.self).left
-    c.in_ok-desk.desk.store c.sift_sheet-ended.new.desk.store c.into_connection.result c.in_ok-desk.ensures.files.0 (ap (λ sheets. sheets c.args.ask.import.sheet.now) c.in_ok-desk.ensures.files.1)
-    (λ day at. subst (λ m. IsDayAt (moment_of told m) c.args.ask.import.when.zone day) c.in_ok-desk.ensures.clock (subst (λ z. IsDayAt (moment_of told (g.M.Machine.seen opened).clock) z day) c.in_ok-desk.ensures.zone at))
+    c.in_ok-desk.desk.store c.sift_sheet-ended.new.desk.store c.into_connection.result (ap (λ (w : World _ _). w.files) c.open_desk.ensures.frame) (ap (λ (w : World _ _). w.sheets c.args.ask.import.sheet.now) c.open_desk.ensures.frame)
+    (λ day at. subst (λ m. IsDayAt (moment_of told m) c.args.ask.import.when.zone day) (ap (λ (w : World _ _). w.clock) c.open_desk.ensures.frame) (subst (λ z. IsDayAt (moment_of told (g.M.Machine.seen opened).clock) z day) c.in_ok-desk.ensures.zone at))
     c.in_ok-desk.ensures.opened c.sift_sheet-ended.ensures.takes.lasts (c.into_connection.ensures.same ∙ c.into_store.ensures) c.release.ensures.left c.sift_sheet-ended.ensures.sifted
-
-pub returns-clause-there : goal.returns-clause-there
-returns-clause-there g c =
-    on_ended_always c.sift_sheet-ended.result _ (has_both (g.M.Machine.seen c.args.machine.now).shows ((g.M.Machine.seen c.args.machine.now).stands c.args.ask.import.store.now) (g.M.Machine.seen c.release.new.self).left _
-    c.in_ok-desk.ensures.there (λ shows. c.release.ensures.back (subst (λ b. IsTrue b) (sym (c.sift_sheet-ended.ensures.shows ∙ c.open_desk.ensures.shows)) shows)))
-
-pub returns-in_err-desk-clause-there : goal.returns-in_err-desk-clause-there
-returns-in_err-desk-clause-there g c = opening_fails c.from_residual.result c.in_err-desk.field-0.0 _ c.from_residual.ensures.1 c.in_err-desk.ensures.refused
-
-pub returns-clause-clock : goal.returns-clause-clock
-returns-clause-clock g c =
-    clock_ended c.sift_sheet-ended.result g.M.Disk.Store true c.args.ask.import.when.seconds ((g.M.Machine.seen c.args.machine.now).stands c.args.ask.import.store.now) (g.M.Machine.seen c.release.new.self).left
-    c.in_ok-desk.desk.store c.sift_sheet-ended.new.desk.store c.into_connection.result c.in_ok-desk.ensures.opened (c.into_connection.ensures.same ∙ c.into_store.ensures)
-    c.release.ensures.left c.sift_sheet-ended.ensures.clock
-
-pub returns-in_err-desk-clause-clock : goal.returns-in_err-desk-clause-clock
-returns-in_err-desk-clause-clock g c =
-    passed_on c.from_residual.result c.in_err-desk.field-0.0 _ c.from_residual.ensures.1
-    (opening_no_clock g.M.Disk.Store true c.args.ask.import.when.seconds ((g.M.Machine.seen c.args.machine.now).stands c.args.ask.import.store.now) (g.M.Machine.seen c.open_desk.new.machine).left
-    c.in_err-desk.field-0.0 c.in_err-desk.ensures.refused)
-
-pub returns-clause-unasked : goal.returns-clause-unasked
-returns-clause-unasked g c =
-    unasked c.args.ask.import.when.seconds (g.M.Machine.seen c.args.machine.now).clock (g.M.Machine.seen c.open_desk.new.machine).clock c.sift_sheet-ended.result c.in_ok-desk.ensures.clock
-    c.sift_sheet-ended.ensures.dayless
 
 -- ---- a sheet that is none
 
 pub returns-clause-bad_sheet : goal.returns-clause-bad_sheet
 returns-clause-bad_sheet g c =
     shown_before c.sift_sheet-ended.result ((g.M.Machine.seen c.open_desk.new.machine).sheets c.args.ask.import.sheet.now) ((g.M.Machine.seen c.args.machine.now).sheets c.args.ask.import.sheet.now)
-    (ap (λ sheets. sheets c.args.ask.import.sheet.now) c.in_ok-desk.ensures.files.1) c.sift_sheet-ended.ensures.bad_sheet
+    (ap (λ (w : World _ _). w.sheets c.args.ask.import.sheet.now) c.open_desk.ensures.frame) c.sift_sheet-ended.ensures.bad_sheet
 
 pub returns-in_err-desk-clause-bad_sheet : goal.returns-in_err-desk-clause-bad_sheet
 returns-in_err-desk-clause-bad_sheet g c =
     passed_on c.from_residual.result c.in_err-desk.field-0.0 _ c.from_residual.ensures.1
     (opening_no_sheet ((g.M.Machine.seen c.args.machine.now).sheets c.args.ask.import.sheet.now) c.in_err-desk.field-0.0 c.in_err-desk.ensures.refused)
 
-pub returns-clause-asked : goal.returns-clause-asked
-returns-clause-asked g c =
-    asked_then (g.M.Machine.seen c.args.machine.now).wanted (g.M.Machine.seen c.open_desk.new.machine).wanted (g.M.Machine.seen c.release.new.self).wanted c.args.ask.import.store.now c.open_desk.ensures.asked
-    ((ap (λ (w : World _ _). w.wanted) c.release.ensures.frame) ∙ c.sift_sheet-ended.ensures.asked)
+pub returns-clause-store : goal.returns-clause-store
+returns-clause-store g c = record {
+  asked = asked_then (g.M.Machine.seen c.args.machine.now).wanted (g.M.Machine.seen c.open_desk.new.machine).wanted (g.M.Machine.seen c.release.new.self).wanted c.args.ask.import.store.now c.open_desk.ensures.asked
+      ((ap (λ (w : World _ _). w.wanted) c.release.ensures.frame) ∙ (ap (λ (w : World _ _). w.wanted) c.sift_sheet-ended.ensures.frame));
+  there = on_ended_always c.sift_sheet-ended.result _ (has_both (g.M.Machine.seen c.args.machine.now).shows ((g.M.Machine.seen c.args.machine.now).stands c.args.ask.import.store.now) (g.M.Machine.seen c.release.new.self).left _
+      c.in_ok-desk.ensures.there (λ shows. c.release.ensures.back (subst (λ b. IsTrue b) (sym ((ap (λ (w : World _ _). w.shows) c.sift_sheet-ended.ensures.frame) ∙ (ap (λ (w : World _ _). w.shows) c.open_desk.ensures.frame))) shows)));
+}
 
--- ---- the clock that is not behind
+pub returns-in_err-desk-clause-store : goal.returns-in_err-desk-clause-store
+returns-in_err-desk-clause-store g c = record {
+  asked = c.open_desk.ensures.asked;
+  there = opening_fails c.from_residual.result c.in_err-desk.field-0.0 _ c.from_residual.ensures.1 c.in_err-desk.ensures.refused;
+}
 
-pub returns-clause-on_time : goal.returns-clause-on_time
-returns-clause-on_time g c = λ held.
-    let stood = (g.M.Machine.seen c.args.machine.now).stands c.args.ask.import.store.now in
-    let left = (g.M.Machine.seen c.release.new.self).left in
-    let clock = (g.M.Machine.seen c.args.machine.now).clock in
-    let opened = c.in_ok-desk.desk.store in
-    let last = c.sift_sheet-ended.new.desk.store in
-    stood_on_time g.M.Disk.Store stood left opened last c.into_connection.result clock c.args.ask.import.when.zone c.sift_sheet-ended.result
-    c.in_ok-desk.ensures.opened c.sift_sheet-ended.ensures.takes.lasts (c.into_connection.ensures.same ∙ c.into_store.ensures) c.release.ensures.left
-    (subst (λ z. OnOk c.sift_sheet-ended.result (IfSome clock (λ seconds. IsOpen g.M.Disk.Store last → IsOnTime (day_number seconds z) (desk g.M.Disk.Store opened)))) c.in_ok-desk.ensures.zone
-    (subst (λ m. OnOk c.sift_sheet-ended.result (IfSome m (λ seconds. IsOpen g.M.Disk.Store last → IsOnTime (day_number seconds c.in_ok-desk.desk.zone) (desk g.M.Disk.Store opened)))) c.in_ok-desk.ensures.clock
-    (c.sift_sheet-ended.ensures.on_time held)))
+pub returns-clause-frame : goal.returns-clause-frame
+returns-clause-frame g c =
+    store_back (g.M.Machine.seen c.args.machine.now) (g.M.Machine.seen c.sift_sheet-ended.new.machine) (g.M.Machine.seen c.release.new.self)
+    (opened_clock (g.M.Machine.seen c.args.machine.now) (g.M.Machine.seen c.open_desk.new.machine) (g.M.Machine.seen c.sift_sheet-ended.new.machine) c.open_desk.ensures.frame c.sift_sheet-ended.ensures.frame) c.release.ensures.frame
 
--- ---- the clock that is behind
+pub returns-in_err-desk-clause-frame : goal.returns-in_err-desk-clause-frame
+returns-in_err-desk-clause-frame g c =
+    opened_clock (g.M.Machine.seen c.args.machine.now) (g.M.Machine.seen c.open_desk.new.machine) (g.M.Machine.seen c.open_desk.new.machine) c.open_desk.ensures.frame refl
 
-pub returns-clause-late : goal.returns-clause-late
-returns-clause-late g c =
-    behind_ended g.M.Disk.Store true (must_be_on_time c.args.ask.import.when.seconds c.args.ask.import.when.is_trusting) ((g.M.Machine.seen c.args.machine.now).stands c.args.ask.import.store.now)
-    (g.M.Machine.seen c.release.new.self).left c.in_ok-desk.desk.store c.sift_sheet-ended.new.desk.store c.into_connection.result
-    c.in_ok-desk.ensures.opened c.sift_sheet-ended.ensures.takes.lasts (c.into_connection.ensures.same ∙ c.into_store.ensures) c.release.ensures.left
-    c.sift_sheet-ended.result c.args.ask.import.when.seconds (g.M.Machine.seen c.args.machine.now).clock (g.M.Machine.seen c.open_desk.new.machine).clock c.in_ok-desk.desk.zone c.args.ask.import.when.zone
-    c.in_ok-desk.ensures.clock c.in_ok-desk.ensures.zone c.sift_sheet-ended.ensures.late
+pub returns-clause-moment : goal.returns-clause-moment
+returns-clause-moment g c =
+    asked_at g.M.Disk.Store (g.M.Machine.seen c.args.machine.now) (g.M.Machine.seen c.open_desk.new.machine) (g.M.Machine.seen c.release.new.self) c.args.ask.import.store.now c.args.ask.import.when true c.sift_sheet-ended.result
+    c.in_ok-desk.desk.store c.sift_sheet-ended.new.desk.store c.into_connection.result c.in_ok-desk.desk.zone c.open_desk.ensures.frame c.in_ok-desk.ensures.zone c.in_ok-desk.ensures.opened
+    c.sift_sheet-ended.ensures.takes.lasts (c.into_connection.ensures.same ∙ c.into_store.ensures) c.release.ensures.left c.sift_sheet-ended.ensures.moment
 
-pub returns-in_err-desk-clause-late : goal.returns-in_err-desk-clause-late
-returns-in_err-desk-clause-late g c =
-    passed_on c.from_residual.result c.in_err-desk.field-0.0 _ c.from_residual.ensures.1
-    (opening_no_behind g.M.Disk.Store true (must_be_on_time c.args.ask.import.when.seconds c.args.ask.import.when.is_trusting)
-    (moment_of c.args.ask.import.when.seconds (g.M.Machine.seen c.args.machine.now).clock) c.args.ask.import.when.zone ((g.M.Machine.seen c.args.machine.now).stands c.args.ask.import.store.now)
-    (g.M.Machine.seen c.open_desk.new.machine).left c.in_err-desk.field-0.0 c.in_err-desk.ensures.refused)
+pub returns-in_err-desk-clause-moment : goal.returns-in_err-desk-clause-moment
+returns-in_err-desk-clause-moment g c =
+    unopened_at g.M.Disk.Store (g.M.Machine.seen c.args.machine.now) (g.M.Machine.seen c.open_desk.new.machine) (g.M.Machine.seen c.open_desk.new.machine) c.args.ask.import.store.now c.args.ask.import.when true c.from_residual.result
+    c.in_err-desk.field-0.0 c.from_residual.ensures.1 c.in_err-desk.ensures.refused

@@ -5,6 +5,7 @@ use Rattle.rd_program.proofs.Named.{asked_then}
 use Rattle.rd_program.proofs.ShowLemmas.{passed_on}
 use Rattle.rd_program.proofs.StaffKeyLemmas.{ends_putting, store_opens, store_refused, unopened_unput, unput_left}
 use Rattle.rd_program.specs.World.{World}
+use Rattle.rd_program.proofs.Frames.{opened_back}
 use Rattle.rd_program.proofs.staff_key.put_in_store.Goals as goal
 
 pub returns-clause-put : goal.returns-clause-put
@@ -29,12 +30,12 @@ returns-clause-refused g c = store_refused c.put_staff-put.result c.put_staff-pu
 pub returns-clause-back : goal.returns-clause-back
 returns-clause-back g c =
     gives_back (g.M.Machine.seen c.args.machine.now).shows (g.M.Machine.seen c.args.machine.now).left (g.M.Machine.seen c.release.new.self).left _
-    (λ shows. c.release.ensures.back (subst (λ b. IsTrue b) (sym c.in_ok-store.ensures.shows) shows))
+    (λ shows. c.release.ensures.back (subst (λ b. IsTrue b) (sym (ap (λ (w : World _ _). w.shows) c.open_store.ensures.frame)) shows))
 
 pub returns-clause-there : goal.returns-clause-there
 returns-clause-there g c =
     on_ended_always c.put_staff-put.result _ (has_both (g.M.Machine.seen c.args.machine.now).shows ((g.M.Machine.seen c.args.machine.now).stands c.args.ask.store.now) (g.M.Machine.seen c.release.new.self).left _
-    c.in_ok-store.ensures.there (λ shows. c.release.ensures.back (subst (λ b. IsTrue b) (sym c.in_ok-store.ensures.shows) shows)))
+    c.in_ok-store.ensures.there (λ shows. c.release.ensures.back (subst (λ b. IsTrue b) (sym (ap (λ (w : World _ _). w.shows) c.open_store.ensures.frame)) shows)))
 
 pub returns-clause-asked : goal.returns-clause-asked
 returns-clause-asked g c =
@@ -49,3 +50,7 @@ returns-in_err-store-clause-left g c =
 
 pub returns-in_err-store-clause-there : goal.returns-in_err-store-clause-there
 returns-in_err-store-clause-there g c = opening_fails c.from_residual.result c.in_err-store.field-0.0 _ c.from_residual.ensures.1 c.in_err-store.ensures.refused
+
+pub returns-clause-frame : goal.returns-clause-frame
+returns-clause-frame g c =
+    opened_back (g.M.Machine.seen c.args.machine.now) (g.M.Machine.seen c.open_store.new.machine) (g.M.Machine.seen c.release.new.self) c.open_store.ensures.frame c.release.ensures.frame

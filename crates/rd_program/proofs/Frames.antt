@@ -1,0 +1,41 @@
+-- What stays of a world over two calls, by what stays over each.
+use Rattle.std.proofs.Common.{ap, subst, sym}
+use Rattle.rd_program.specs.World.{ChangesClock, ChangesDoors, ChangesFolders, ChangesStore, ChangesStoreAndDoors, OpensNewStore, OpensStore, TakesBack, TakesBackNew, World}
+
+module _ {S D : Type 0} (old mid new : World S D) where
+  -- the connection to a store is taken back
+  pub opened_back : OpensStore old mid → TakesBack mid new → OpensStore old new
+  opened_back opened back =
+      subst (OpensStore old) (sym back) (ap (λ (w : World S D). record w { stands = new.stands; left = new.left; wanted = mid.wanted; sums = mid.sums }) opened)
+
+  -- the clock is looked at
+  pub opened_clock : OpensStore old mid → ChangesClock mid new → ChangesStore old new
+  opened_clock opened clock =
+      subst (ChangesStore old) (sym clock)
+      (ap (λ (w : World S D). record w { clock = new.clock; stands = mid.stands; left = mid.left; wanted = mid.wanted; sums = mid.sums }) opened)
+
+  pub store_back : ChangesStore old mid → TakesBack mid new → ChangesStore old new
+  store_back changes back =
+      subst (ChangesStore old) (sym back)
+      (ap (λ (w : World S D). record w { clock = mid.clock; stands = new.stands; left = new.left; wanted = mid.wanted; sums = mid.sums }) changes)
+
+  -- a door is lent
+  pub opened_doors : OpensStore old mid → ChangesDoors mid new → ChangesStoreAndDoors old new
+  opened_doors opened doors =
+      subst (ChangesStoreAndDoors old) (sym doors)
+      (ap (λ (w : World S D). record w { clock = new.clock; stands = mid.stands; left = mid.left; wanted = mid.wanted; sums = mid.sums; doors = new.doors; limits = new.limits }) opened)
+
+  pub doors_back : ChangesStoreAndDoors old mid → TakesBack mid new → ChangesStoreAndDoors old new
+  doors_back changes back =
+      subst (ChangesStoreAndDoors old) (sym back)
+      (ap (λ (w : World S D). record w { clock = mid.clock; stands = new.stands; left = new.left; wanted = mid.wanted; sums = mid.sums; doors = mid.doors; limits = mid.limits }) changes)
+
+  -- a new store is opened
+  pub new_back : OpensNewStore old mid → TakesBackNew mid new → OpensNewStore old new
+  new_back opened back =
+      subst (OpensNewStore old) (sym back)
+      (ap (λ (w : World S D). record w { fresh = new.fresh; made = new.made; new_stores = mid.new_stores; wanted = mid.wanted }) opened)
+
+  -- a file is made after others
+  pub more_made : ChangesFolders old mid → ChangesFolders mid new → ChangesFolders old new
+  more_made made more = subst (ChangesFolders old) (sym more) (ap (λ (w : World S D). record w { written = new.written }) made)
