@@ -1,43 +1,49 @@
 -- The lines of an import.
-use Rattle.std.proofs.Common.{◌≡◌, ◌≢◌, ◌⊎◌, ℕ, List, [], ◌∷◌, ◌++◌, Option, Result, Ok, Err, IfErr, IfOk, OnOk, inl, inr, refl, subst, sym, arith, codes}
+use Rattle.std.proofs.Common.{◌≡◌, ◌≢◌, ◌⊎◌, ℕ, Bool, List, [], ◌∷◌, ◌++◌, Option, Result, Ok, Err, IfErr, IfOk, OnOk, inl, inr, refl, subst, sym, arith}
 use Rattle.std.proofs.lemmas.List.Elements.{All-nil, All-push, All-weaker}
 use Rattle.std.proofs.lemmas.List.Folds.{concat-append}
 use Rattle.std.specs.List.{concat}
 use Rattle.std.proofs.KnownBytes.{Appends-nil, Keeps-refl}
 use Rattle.std.specs.Io.KnownBytes.{Appends}
-use Rattle.rd_protocol.specs.declared.refusal.Refusal.{Refusal as DeskRefusal}
+use Rattle.rd_protocol.specs.Refusals.{name_of}
 use Rattle.rd_protocol.specs.declared.response.Response.{Response}
 use Rattle.rd_protocol.specs.declared.response.Response.TheVariants.{Refused}
 use Rattle.rd_commands.specs.Asks.{TellsInRows, TellsOnOutput}
-use Rattle.rd_program.specs.Importing.{GainsFront, GainsFrontOfLine, GainsLine, GainsLines, IsDoneLine, IsRowLine, IsRowRefusal, RefusesRow, RefusesRows, TellsAnswer, TellsRow, TellsRows, accession_line, done_by, word_of}
+use Rattle.rd_program.specs.Importing.{GainsFront, GainsFrontOfLine, GainsLine, GainsLines, IsDoneLine, IsImportRefusal, IsRowLine, IsRowRefusal, RefusesRow, RefusesRows, TellsRow, TellsRows, accession_line, bad_row_line, done_word, lost_row_line}
+use Rattle.rd_program.specs.Serving.{IsClockRefusal}
+use Rattle.rd_program.specs.Sifting.{TellsFate, fate_by, word_by, worse}
+use Rattle.rd_program.specs.declared.import.Fate.{Fate}
+use Rattle.rd_program.specs.declared.import.Fate.TheVariants.{Denied, Done, Lost}
 use Rattle.rd_commands.specs.Output.{AppendsPart}
 use Rattle.rd_commands.specs.Refusals.{IsDeviceOrMemory, refusal_for}
 use Rattle.rd_program.specs.Leaves.{OnEnded}
 use Rattle.rd_commands.specs.Sheets.{IsReadRefusal}
-use Rattle.rd_commands.specs.RefusalLines.{both, whole}
-use Rattle.rd_commands.specs.declared.done.Done.{Done}
+use Rattle.rd_commands.specs.RefusalLines.{whole}
+use Rattle.rd_commands.specs.declared.done.Done.{Done as Ending}
 use Rattle.rd_commands.specs.declared.done.Done.TheVariants.{InPart, Whole}
 use Rattle.rd_commands.specs.declared.files.MachineFault.{MachineFault}
 use Rattle.rd_commands.specs.declared.files.MachineFault.TheVariants as machine_fault
 use Rattle.rd_commands.specs.declared.refusal.Refusal.{Refusal}
-use Rattle.rd_commands.specs.declared.refusal.Refusal.TheVariants.{BadSheet, Device, NoMemory}
+use Rattle.rd_commands.specs.declared.refusal.Refusal.TheVariants.{BadSheet, Device, NoMemory, Store}
 use Rattle.rd_commands.specs.declared.words.Ask.{Ask}
 use Rattle.rd_commands.specs.declared.words.Ask.TheVariants.{Import, OneQuestion, Sift}
 use Rattle.rd_commands.proofs.WriterLemmas.{none_written, part_after, piece_more}
 
 -- ---- lines
 
-done_is_row : (line : List ℕ) → IsDoneLine line → IsRowLine line
-done_is_row line done = inl (done.0, codes "done", done.1)
+done_is_row : (dry_run : Bool) (line : List ℕ) → IsDoneLine dry_run line → IsRowLine line
+done_is_row dry_run line done = inl (done.0, done_word dry_run, done.1)
 
--- lines of images that were taken in tell of rows
-pub rows_of : (done : Done) (old new : Option (List ℕ)) → TellsRows old new done → GainsLines IsRowLine old new
-rows_of Whole old new rows = record { lines = rows.lines; each = All-weaker IsDoneLine IsRowLine done_is_row rows.lines rows.each; gained = rows.gained }
-rows_of InPart old new rows = rows
+-- lines of images that are taken in, or would be, tell of rows
+pub rows_of : (dry_run : Bool) (fate : Fate) (old new : Option (List ℕ)) → TellsRows dry_run old new fate → GainsLines IsRowLine old new
+rows_of dry_run Done old new rows = record { lines = rows.lines; each = All-weaker (IsDoneLine dry_run) IsRowLine (done_is_row dry_run) rows.lines rows.each; gained = rows.gained }
+rows_of dry_run Denied old new rows = rows
+rows_of dry_run Lost old new rows = rows
 
-row_of : (done : Done) (old new : Option (List ℕ)) → TellsRow old new done → GainsLine IsRowLine old new
-row_of Whole old new row = record { line = row.line; is = done_is_row row.line row.is; gained = row.gained }
-row_of InPart old new row = row
+row_of : (dry_run : Bool) (fate : Fate) (old new : Option (List ℕ)) → TellsRow dry_run old new fate → GainsLine IsRowLine old new
+row_of dry_run Done old new row = record { line = row.line; is = done_is_row dry_run row.line row.is; gained = row.gained }
+row_of dry_run Denied old new row = row
+row_of dry_run Lost old new row = row
 
 one_more : (P : List ℕ → Type 0) (old mid new : Option (List ℕ)) → GainsLines P old mid → GainsLine P mid new → GainsLines P old new
 one_more P old mid new rows row = record {
@@ -47,10 +53,15 @@ one_more P old mid new rows row = record {
 }
 
 -- the line of one more row
-pub rows_more : (one other : Done) (old mid new : Option (List ℕ)) → TellsRows old mid one → TellsRow mid new other → TellsRows old new (both one other)
-rows_more Whole Whole old mid new rows row = one_more IsDoneLine old mid new rows row
-rows_more Whole InPart old mid new rows row = one_more IsRowLine old mid new (rows_of Whole old mid rows) row
-rows_more InPart other old mid new rows row = one_more IsRowLine old mid new rows (row_of other mid new row)
+pub rows_more : (dry_run : Bool) (one other : Fate) (old mid new : Option (List ℕ)) → TellsRows dry_run old mid one → TellsRow dry_run mid new other
+    → TellsRows dry_run old new (worse one other)
+rows_more dry_run Done Done old mid new rows row = one_more (IsDoneLine dry_run) old mid new rows row
+rows_more dry_run Done Denied old mid new rows row = one_more IsRowLine old mid new (rows_of dry_run Done old mid rows) row
+rows_more dry_run Done Lost old mid new rows row = one_more IsRowLine old mid new (rows_of dry_run Done old mid rows) row
+rows_more dry_run Denied Done old mid new rows row = one_more IsRowLine old mid new rows (row_of dry_run Done mid new row)
+rows_more dry_run Denied Denied old mid new rows row = one_more IsRowLine old mid new rows row
+rows_more dry_run Denied Lost old mid new rows row = one_more IsRowLine old mid new rows row
+rows_more dry_run Lost other old mid new rows row = one_more IsRowLine old mid new rows (row_of dry_run other mid new row)
 
 -- no line yet
 pub no_rows : (P : List ℕ → Type 0) (old : Option (List ℕ)) → GainsLines P old old
@@ -94,51 +105,61 @@ pub machine_failed : (fault : MachineFault) (refusal : Refusal) → refusal ≡ 
 machine_failed machine_fault.Failed refusal is = inl is
 machine_failed machine_fault.NoMemory refusal is = inr (inl is)
 
--- what is told of an answer is the line of a row
-pub answer_row : {X : Type 0} (acc : ℕ) (r : Result Response X) (told : Result Done Refusal) (old new : Option (List ℕ))
-    → IfOk told (TellsAnswer acc r old new) → IfOk told (TellsRow old new)
-answer_row acc (Ok answer) (Ok done) old new tells = subst (TellsRow old new) (sym tells.1) (row_told answer tells.0)
-  where
-    row_told : (answer : Response) → Appends old new (accession_line acc (word_of answer)) → TellsRow old new (done_by answer)
-    row_told (Refused refusal) wrote = record { line = accession_line acc (word_of (Refused refusal)); is = inl (acc, word_of (Refused refusal), refl); gained = wrote }
-    row_told other wrote = record { line = accession_line acc (codes "done"); is = (acc, refl); gained = wrote }
-answer_row acc (Err fault) (Ok done) old new tells = absurd tells
-answer_row acc r (Err refusal) old new tells = tt
+-- a line of a row without an accession that fails
+pub row_refused : (number : ℕ) (line : List ℕ) (refusal : Refusal) (old new : Option (List ℕ)) → (line ≡ bad_row_line number) ⊎ (line ≡ lost_row_line number)
+    → IsDeviceOrMemory refusal → AppendsPart old new line → RefusesRow old new refusal
+row_refused number line refusal old new is why part = (of_device refusal why, record { line = line; is = inr (number, is); gained = part })
 
--- an answer that is no refusal is done
-pub done_answer : (answer : Response) → ((refusal : DeskRefusal) → answer ≡ Refused refusal → ⊥) → (word_of answer ≡ codes "done") × (Whole ≡ done_by answer)
-done_answer (Refused refusal) other = absurd (other refusal refl)
-done_answer answer other = (refl, refl)
+-- what is told of an answer is the line of a row
+pub answer_row : {X : Type 0} (acc : ℕ) (dry_run : Bool) (r : Result Response X) (told : Result Fate Refusal) (old new : Option (List ℕ))
+    → IfOk told (TellsFate acc dry_run r old new) → IfOk told (TellsRow dry_run old new)
+answer_row acc dry_run (Ok answer) (Ok fate) old new tells = subst (TellsRow dry_run old new) (sym tells.1) (row_told answer tells.0)
+  where
+    row_told : (answer : Response) → Appends old new (accession_line acc (word_by dry_run answer)) → TellsRow dry_run old new (fate_by answer)
+    row_told (Refused refusal) wrote = record { line = accession_line acc (name_of refusal); is = inl (acc, name_of refusal, refl); gained = wrote }
+    row_told other wrote = record { line = accession_line acc (done_word dry_run); is = (acc, refl); gained = wrote }
+answer_row acc dry_run (Err fault) (Ok fate) old new tells = absurd tells
+answer_row acc dry_run r (Err refusal) old new tells = tt
 
 -- ---- rows
 
 -- a run that ends at a row
-pub ends_at_row : (done : Done) (refusal : Refusal) (old mid new : Option (List ℕ)) → TellsRows old mid done → RefusesRow mid new refusal
+pub ends_at_row : (dry_run : Bool) (fate : Fate) (refusal : Refusal) (old mid new : Option (List ℕ)) → TellsRows dry_run old mid fate → RefusesRow mid new refusal
     → RefusesRows old new refusal
-ends_at_row done refusal old mid new rows row = inr (row.0, front_of old mid new (rows_of done old mid rows) row.1)
+ends_at_row dry_run fate refusal old mid new rows row = inr (row.0, front_of old mid new (rows_of dry_run fate old mid rows) row.1)
 
 -- a run that ends because no row is read
-pub ends_between : (done : Done) (refusal : Refusal) (old new : Option (List ℕ)) → TellsRows old new done → IsReadRefusal refusal → RefusesRows old new refusal
-ends_between done refusal old new rows (inl is) = inl (is, rows_of done old new rows)
-ends_between done refusal old new rows (inr (inl is)) = inr (inl is, front_kept old new (rows_of done old new rows))
-ends_between done refusal old new rows (inr (inr is)) = inr (inr (inl is), front_kept old new (rows_of done old new rows))
+pub ends_between : (dry_run : Bool) (fate : Fate) (refusal : Refusal) (old new : Option (List ℕ)) → TellsRows dry_run old new fate → IsReadRefusal refusal
+    → RefusesRows old new refusal
+ends_between dry_run fate refusal old new rows (inl is) = inl (is, rows_of dry_run fate old new rows)
+ends_between dry_run fate refusal old new rows (inr (inl is)) = inr (inl is, front_kept old new (rows_of dry_run fate old new rows))
+ends_between dry_run fate refusal old new rows (inr (inr is)) = inr (inr (inl is), front_kept old new (rows_of dry_run fate old new rows))
+
+-- why a sheet is not begun
+pub sheet_failed : (fault : MachineFault) (refusal : Refusal) → refusal ≡ refusal_for Device fault → IsImportRefusal refusal
+sheet_failed machine_fault.Failed refusal is = inr (inr is)
+sheet_failed machine_fault.NoMemory refusal is = inr (inl (inr is))
+
+pub day_failed : (refusal : Refusal) → IsClockRefusal refusal ⊎ (refusal ≡ Store) → IsImportRefusal refusal
+day_failed refusal (inl clock) = inr (inl clock)
+day_failed refusal (inr store) = inl (inr (inr (inr (inl store))))
 
 -- ---- what was done whole
 
-pub ok_whole : {T : Type 0} (P : Type 0) (ended : Result T Refusal) (r : Result Done Refusal) → r ≡ whole ended → OnOk ended P → OnOk r P
+pub ok_whole : {T : Type 0} (P : Type 0) (ended : Result T Refusal) (r : Result Ending Refusal) → r ≡ whole ended → OnOk ended P → OnOk r P
 ok_whole P (Ok value) r is fact = subst (λ x. OnOk x P) (sym is) fact
 ok_whole P (Err refusal) r is fact = subst (λ x. OnOk x P) (sym is) tt
 
-pub err_whole : {T : Type 0} (P : Refusal → Type 0) (ended : Result T Refusal) (r : Result Done Refusal) → r ≡ whole ended → IfErr ended P → IfErr r P
+pub err_whole : {T : Type 0} (P : Refusal → Type 0) (ended : Result T Refusal) (r : Result Ending Refusal) → r ≡ whole ended → IfErr ended P → IfErr r P
 err_whole P (Ok value) r is fact = subst (λ x. IfErr x P) (sym is) tt
 err_whole P (Err refusal) r is fact = subst (λ x. IfErr x P) (sym is) fact
 
-pub ended_whole : {T : Type 0} (P : Type 0) (ended : Result T Refusal) (r : Result Done Refusal) → r ≡ whole ended → OnEnded ended P → OnEnded r P
+pub ended_whole : {T : Type 0} (P : Type 0) (ended : Result T Refusal) (r : Result Ending Refusal) → r ≡ whole ended → OnEnded ended P → OnEnded r P
 ended_whole P (Ok value) r is fact = subst (λ x. OnEnded x P) (sym is) fact
 ended_whole P (Err refusal) r is fact = subst (λ x. OnEnded x P) (sym is) fact
 
 -- it is not done in part
-pub whole_is : {T : Type 0} (P : Type 0) (ended : Result T Refusal) (r : Result Done Refusal) → r ≡ whole ended → IfOk r (λ done. done ≡ InPart → P)
+pub whole_is : {T : Type 0} (P : Type 0) (ended : Result T Refusal) (r : Result Ending Refusal) → r ≡ whole ended → IfOk r (λ done. done ≡ InPart → P)
 whole_is P (Ok value) r is = subst (λ x. IfOk x (λ done. done ≡ InPart → P)) (sym is) (λ same. let no : Whole ≡ InPart = same in absurd cc)
 whole_is P (Err refusal) r is = subst (λ x. IfOk x (λ done. done ≡ InPart → P)) (sym is) tt
 
@@ -154,7 +175,7 @@ rows_tell ask tells = tells
 pub one_is_some : {n : ℕ} → n ≡ 1 → n ≢ 0
 one_is_some one = λ zero. omega (arith, one, zero)
 
--- why a run over rows ends
+-- why a run over rows ends early
 pub rows_why : (refusal : Refusal) (old new : Option (List ℕ)) → RefusesRows old new refusal → (refusal ≡ BadSheet) ⊎ IsRowRefusal refusal
 rows_why refusal old new (inl bad) = inl bad.0
 rows_why refusal old new (inr row) = inr row.0

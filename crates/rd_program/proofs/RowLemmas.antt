@@ -1,35 +1,22 @@
--- The rows of a sheet, as they are read and taken one after the other.
-use Rattle.std.proofs.Common.{◌≡◌, ◌≢◌, ◌+◌, ◌∙◌, ◌++◌, ◌&&◌, ◌==◌, ℕ, ℤ, Bool, true, false, not, if◌then◌else◌, option_map, List, [], ◌∷◌, Option, None, Some, Result, Ok, Err, IfErr, IfOk, IfSome, inl, inr, refl, ap, ap₂, subst, sym, arith, length, length-append}
+-- The rows of a sheet, as they are read one after the other.
+use Rattle.std.proofs.Common.{◌≡◌, ◌≢◌, ◌+◌, ◌∙◌, ◌++◌, ◌&&◌, ◌==◌, ℕ, Bool, true, false, not, if◌then◌else◌, option_map, List, [], ◌∷◌, Option, None, Some, Result, IfErr, IfSome, inl, inr, refl, ap, ap₂, subst, sym, length}
 use Rattle.std.specs.Borrow.{Bor}
-use Rattle.std.specs.List.{concat}
 use Rattle.std.specs.Prelude.{All}
-use Rattle.std.proofs.lemmas.List.Elements.{All-cons, All-head, All-nil, All-push, All-tail}
-use Rattle.std.specs.Io.KnownBytes.{Appends}
+use Rattle.std.proofs.lemmas.List.Elements.{All-cons, All-head, All-tail}
 use Rattle.csv.specs.Machine.{Read, next_record}
 use Rattle.csv.specs.Reading.{NextIs, ReadRecord, ReadsNext, ReadsOn, Ready, TookRecord, buffered_of, default_config, expected_len, has_failed, is_flexible, pending_of, reader_config, reader_state, reader_trim, source_of, strip_bom, took_first}
 use Rattle.csv.specs.declared.parser.State.{State}
 use Rattle.csv.specs.declared.parser.State.TheVariants.{StartRecord}
 use Rattle.csv.specs.declared.reader.Reader.{Reader}
 use Rattle.csv.specs.declared.reader.Trim.TheVariants as trim
-use Rattle.rd_holdings.specs.State.{Desk}
 use Rattle.rd_commands.specs.RefusalLines.{both}
 use Rattle.rd_commands.specs.Sheets.{HasOtherLength, header}
 use Rattle.rd_commands.specs.declared.refusal.Refusal.TheVariants.{BadSheet}
 use Rattle.rd_program.specs.Importing.{IsRowRefusal}
 use Rattle.rd_program.specs.Serving.{IsOpenRefusal}
 use Rattle.rd_commands.specs.declared.done.Done.{Done}
-use Rattle.rd_commands.specs.declared.done.Done.TheVariants.{InPart, Whole}
-use Rattle.sqlite.specs.Held.{Held}
-use Rattle.sqlite.specs.Store.{Ghosts}
-use Rattle.rd_store.specs.Held.{IsOpen, desk}
-use Rattle.rd_commands.proofs.WriterLemmas.{piece_more}
-use Rattle.std.proofs.KnownBytes.{Appends-nil}
-use Rattle.rd_store.specs.Held.{Lasts}
-use Rattle.rd_store.specs.Migrated.{IsMigrated}
 use Rattle.rd_commands.specs.declared.refusal.Refusal.{Refusal}
-use Rattle.rd_program.specs.Showing.{EndsWith}
-use Rattle.rd_program.proofs.ShowLemmas.{ends_with}
-use Rattle.rd_program.specs.Rows.{AreRowsTaken, GivesLine, HasRows, IsBadSheetDue, IsRowTaken, IsSheetOf, TakesRecords, TakesSheet, TakesSheetIn, TakesSheetOn}
+use Rattle.rd_program.specs.Rows.{HasRows, IsBadSheetDue, IsSheetOf, TakesRecords}
 
 -- ---- records
 
@@ -46,41 +33,6 @@ records_more first bytes [] mid last left rest fields (same, all) next = (
 )
 records_more first bytes (row ∷ rows) mid last left rest fields (next, after, is, more) then_is =
     (next, after, is, records_more next after rows mid last left rest fields more then_is)
-
--- ---- rows
-
-both_assoc : (a b c : Done) → both (both a b) c ≡ both a (both b c)
-both_assoc Whole b c = refl
-both_assoc InPart b c = refl
-
-both_whole : (a : Done) → both a Whole ≡ a
-both_whole Whole = refl
-both_whole InPart = refl
-
--- one row more
-pub rows_then : (files : List ℕ → Option (List ℕ)) (badge : List ℕ) (day : ℤ) (number : ℕ) (rows : List (List (List ℕ))) (lines : List (List ℕ)) (done one : Done)
-    (fields : List (List ℕ)) (line : List ℕ) (old mid new : Desk)
-    → AreRowsTaken files badge day number rows lines done old mid → IsRowTaken files badge day (number + length rows) fields line one mid new
-    → AreRowsTaken files badge day number (rows ++ fields ∷ []) (lines ++ line ∷ []) (both done one) old new
-rows_then files badge day number [] [] done one fields line old mid new (whole, same) row = (
-  new,
-  one,
-  Whole,
-  subst (λ d. IsRowTaken files badge day number fields line one d new) same (subst (λ n. IsRowTaken files badge day n fields line one mid new) (omega arith) row),
-  (refl, refl),
-  ap (λ d. both d one) whole ∙ sym (both_whole one),
-)
-rows_then files badge day number [] (other ∷ lines) done one fields line old mid new taken row = absurd taken
-rows_then files badge day number (first ∷ rows) [] done one fields line old mid new taken row = absurd taken
-rows_then files badge day number (first ∷ rows) (head ∷ lines) done one fields line old mid new (after, its, others, is, more, whole) row = (
-  after,
-  its,
-  both others one,
-  is,
-  rows_then files badge day (number + 1) rows lines others one fields line after mid new more
-      (subst (λ n. IsRowTaken files badge day n fields line one mid new) (omega arith) row),
-  ap (λ d. both d one) whole ∙ both_assoc its others one,
-)
 
 -- ---- the reader
 
@@ -168,94 +120,6 @@ strict_next old new found fields read on is strict =
     let both : Some (length fields) ≡ Some (length header) = sym (read.5 is strict.strict).1 ∙ kept in
     (record { strict = (on is).2 ∙ strict.strict; columns = kept }, cc both)
 
--- ---- the rows so far
-
--- The rows that were read of a sheet, the lines that were written of them, and the desk after them.
-pub record RowsSoFar {S : Type 0} (g : Ghosts S) (files : List ℕ → Option (List ℕ)) (badge : List ℕ) (day : ℤ) (sheet : List ℕ) (out written : Option (List ℕ)) (opened now : Held S)
-    (reader : Reader (Bor (List ℕ))) (number : ℕ) (done : Done) : Type 0 where
-  pub rows : List (List (List ℕ))
-  pub lines : List (List ℕ)
-  pub state : State
-  pub rest : List ℕ
-  pub at : IsAt reader state rest
-  pub has : HasRows sheet rows state rest
-  pub count : 1 + length rows ≡ number
-  pub strict : IsStrict reader
-  pub fit : All (λ fields. length fields ≡ length header) rows
-  pub gained : Appends out written (concat lines)
-  pub taken : IsOpen g now → AreRowsTaken files badge day 1 rows lines done (desk g opened) (desk g now)
-
-module _ {S : Type 0} (g : Ghosts S) (files : List ℕ → Option (List ℕ)) (badge : List ℕ) (day : ℤ) (sheet : List ℕ) (out : Option (List ℕ)) (opened : Held S) where
-  -- no row yet
-  pub before_rows : (reader after : Reader (Bor (List ℕ))) (found : Bool) (fields : List (List ℕ)) → is_flexible reader ≡ false → (found ≡ true → ReadsOn reader after)
-      → IsAt reader StartRecord (strip_bom sheet) → ReadRecord slice_rest reader after found fields
-      → has_failed after ≡ has_failed reader → took_first after ≡ true → found ≡ true → fields ≡ header → RowsSoFar g files badge day sheet out out opened opened after 1 Whole
-  before_rows reader after found fields strict on at read kept took is named =
-      let now = reads_on reader after StartRecord (strip_bom sheet) found fields at read kept took in
-      let next = next_some (next_record default_config StartRecord [] [] (strip_bom sheet)) fields now.last now.rest
-      (subst (λ b. NextIs (next_record default_config StartRecord [] [] (strip_bom sheet)) b fields now.last now.rest) is now.next) in
-      record {
-        rows = [];
-        lines = [];
-        state = now.last;
-        rest = now.rest;
-        at = now.at;
-        has = (now.last, now.rest, subst (λ f. next_record default_config StartRecord [] [] (strip_bom sheet) ≡ Some (f, now.last, now.rest)) named next, (refl, refl));
-        count = refl;
-        strict = strict_first reader after found fields read on is named strict;
-        fit = All-nil (λ row. length row ≡ length header);
-        gained = Appends-nil out;
-        taken = λ is_open. (refl, refl);
-      }
-
-  module _ (mid new : Held S) (written more : Option (List ℕ)) (reader after : Reader (Bor (List ℕ))) (number : ℕ) (done one : Done) where
-    -- one row more
-    pub row_then : (found : Bool) (fields : List (List ℕ)) → (found ≡ true → ReadsOn reader after) → RowsSoFar g files badge day sheet out written opened mid reader number done → ReadRecord slice_rest reader after found fields
-        → has_failed after ≡ has_failed reader → took_first after ≡ true → found ≡ true → (IsOpen g new → IsOpen g mid)
-        → GivesLine g (λ line. IsRowTaken files badge day number fields line one) written more mid new
-        → RowsSoFar g files badge day sheet out more opened new after (number + 1) (both done one)
-    row_then found fields on so_far read kept took is was_open (line, gained, taken) =
-        let strict = strict_next reader after found fields read on is so_far.strict in
-        let now = reads_on reader after so_far.state so_far.rest found fields so_far.at read kept took in
-        let next = next_some (next_record default_config so_far.state [] [] so_far.rest) fields now.last now.rest
-        (subst (λ b. NextIs (next_record default_config so_far.state [] [] so_far.rest) b fields now.last now.rest) is now.next) in
-        let count = so_far.count in
-        record {
-          rows = so_far.rows ++ fields ∷ [];
-          lines = so_far.lines ++ line ∷ [];
-          state = now.last;
-          rest = now.rest;
-          at = now.at;
-          has = records_more StartRecord (strip_bom sheet) (header ∷ so_far.rows) so_far.state now.last so_far.rest now.rest fields so_far.has next;
-          count = omega (arith, count, length-append so_far.rows (fields ∷ []));
-          strict = strict.0;
-          fit = All-push (λ row. length row ≡ length header) so_far.rows fields so_far.fit strict.1;
-          gained = piece_more out written more so_far.lines line so_far.gained gained;
-          taken = λ is_open. rows_then files badge day 1 so_far.rows so_far.lines done one fields line (desk g opened) (desk g mid) (desk g new) (so_far.taken (was_open is_open))
-              (subst (λ n. IsRowTaken files badge day n fields line one (desk g mid) (desk g new)) (sym count) (taken is_open));
-        }
-
-  -- no row more
-  pub after_rows : (now : Held S) (written : Option (List ℕ)) (reader after : Reader (Bor (List ℕ))) (number : ℕ) (done : Done) (found : Bool) (fields : List (List ℕ))
-      → RowsSoFar g files badge day sheet out written opened now reader number done → ReadRecord slice_rest reader after found fields → has_failed after ≡ has_failed reader
-      → took_first after ≡ true → found ≡ false → IsOpen g now → TakesSheet files badge day (Some sheet) out written done (desk g opened) (desk g now)
-  after_rows now written reader after number done found fields so_far read kept took is is_open =
-      let ends = reads_on reader after so_far.state so_far.rest found fields so_far.at read kept took in
-      record {
-        rows = so_far.rows;
-        lines = so_far.lines;
-        is = record {
-          last = so_far.state;
-          rest = so_far.rest;
-          has = so_far.has;
-          ends = next_none (next_record default_config so_far.state [] [] so_far.rest) fields ends.last ends.rest
-              (subst (λ b. NextIs (next_record default_config so_far.state [] [] so_far.rest) b fields ends.last ends.rest) is ends.next);
-          fit = so_far.fit;
-        };
-        taken = so_far.taken is_open;
-        gained = so_far.gained;
-      }
-
 -- ---- a sheet that is none
 
 same_read : (p q : Read) → Some p ≡ Some q → p ≡ q
@@ -306,12 +170,6 @@ longer_no_sheet sheet first state rest reader after at has strict longer rows is
     no_fit StartRecord (strip_bom sheet) (header ∷ first) (header ∷ rows) state is.last (reader_state after) rest is.rest next.0 longer.fields
     has next.1 (λ same. longer.other (columns ∙ sym same)) is.has is.ends (All-cons (λ row. length row ≡ length header) header rows refl is.fit)
 
-pub no_sheet_after : {S : Type 0} (g : Ghosts S) (files : List ℕ → Option (List ℕ)) (badge : List ℕ) (day : ℤ) (sheet : List ℕ) (out written : Option (List ℕ)) (opened now : Held S)
-    (reader after : Reader (Bor (List ℕ))) (number : ℕ) (done : Done) → RowsSoFar g files badge day sheet out written opened now reader number done
-    → HasOtherLength reader after → (rows : List (List (List ℕ))) → IsSheetOf sheet rows → ⊥
-no_sheet_after g files badge day sheet out written opened now reader after number done so_far longer rows is =
-    longer_no_sheet sheet so_far.rows so_far.state so_far.rest reader after so_far.at so_far.has so_far.strict longer rows is
-
 -- a reader that has read nothing refuses no first record for its length
 pub none_expected : (reader after : Reader (Bor (List ℕ))) → expected_len reader ≡ None → HasOtherLength reader after → ⊥
 none_expected reader after fresh longer = let no : Some longer.expected ≡ None = sym longer.first ∙ fresh in cc no
@@ -326,9 +184,15 @@ row_no_sheet sheet refusal (inl is) = subst (IsBadSheetDue sheet) (sym is) tt
 row_no_sheet sheet refusal (inr (inl is)) = subst (IsBadSheetDue sheet) (sym is) tt
 row_no_sheet sheet refusal (inr (inr is)) = subst (IsBadSheetDue sheet) (sym is) tt
 
-always_due : (shown : Option (List ℕ)) (refusal : Refusal) → ((sheet : List ℕ) → IsBadSheetDue sheet refusal) → IfSome shown (λ bytes. IsBadSheetDue bytes refusal)
+pub always_due : (shown : Option (List ℕ)) (refusal : Refusal) → ((sheet : List ℕ) → IsBadSheetDue sheet refusal) → IfSome shown (λ bytes. IsBadSheetDue bytes refusal)
 always_due None refusal due = tt
 always_due (Some sheet) refusal due = due sheet
+
+-- what is due of the bytes that were read is due of those that are shown
+pub due_shown : (shown : Option (List ℕ)) (bytes : List ℕ) (refusal : Refusal) → IfSome shown (λ sheet. bytes ≡ sheet) → IsBadSheetDue bytes refusal
+    → IfSome shown (λ sheet. IsBadSheetDue sheet refusal)
+due_shown None bytes refusal is due = tt
+due_shown (Some sheet) bytes refusal is due = subst (λ b. IsBadSheetDue b refusal) is due
 
 pub opening_no_sheet : (shown : Option (List ℕ)) (refusal : Refusal) → IsOpenRefusal refusal → IfSome shown (λ bytes. IsBadSheetDue bytes refusal)
 opening_no_sheet shown refusal opening = always_due shown refusal (of opening)
@@ -344,26 +208,3 @@ opening_no_sheet shown refusal opening = always_due shown refusal (of opening)
 pub shown_before : (r : Result Done Refusal) (later shown : Option (List ℕ)) → later ≡ shown → IfErr r (λ refusal. IfSome later (λ sheet. IsBadSheetDue sheet refusal))
     → IfErr r (λ refusal. IfSome shown (λ sheet. IsBadSheetDue sheet refusal))
 shown_before r later shown same due = subst (λ o. IfErr r (λ refusal. IfSome o (λ sheet. IsBadSheetDue sheet refusal))) same due
-
--- ---- the sheet that the machine gives, and the store
-
-sheet_day : (files : List ℕ → Option (List ℕ)) (badge : List ℕ) (Days Others : ℤ → Type 0) (sheet out written : Option (List ℕ)) (done : Done) (old new : Desk)
-    → ((day : ℤ) → Days day → Others day) → TakesSheetOn files badge Days sheet out written done old new → TakesSheetOn files badge Others sheet out written done old new
-sheet_day files badge Days Others sheet out written done old new weaker (day, on, taken) = (day, weaker day on, taken)
-
--- a command that took a sheet over the desk that it opened
-pub sheet_ended : {S : Type 0} (g : Ghosts S) (files other : List ℕ → Option (List ℕ)) (badge : List ℕ) (Days Others : ℤ → Type 0) (sheet shown out written : Option (List ℕ))
-    (r : Result Done Refusal) (old new : Option (Held S)) (opened last conn : Held S) → other ≡ files → shown ≡ sheet → ((day : ℤ) → Others day → Days day)
-    → IfSome old (λ before. IsMigrated g before opened) → Lasts g opened last → conn ≡ last → IfSome new (λ held. Some conn ≡ Some held)
-    → IfOk r (λ done. IsOpen g last → TakesSheetOn other badge Others shown out written done (desk g opened) (desk g last))
-    → IfOk r (λ done. EndsWith old new (TakesSheetIn g files badge Days sheet out written done))
-sheet_ended g files other badge Days Others sheet shown out written (Ok done) old new opened last conn same here weaker is lasts back took holds =
-    ends_with g old new opened last conn (TakesSheetIn g files badge Days sheet out written done) is
-    (λ before at o. (
-      desk g opened,
-      at.is (lasts.was_open o),
-      sheet_day files badge Others Days sheet out written done (desk g opened) (desk g last) weaker
-          (subst (λ f. TakesSheetOn f badge Others sheet out written done (desk g opened) (desk g last)) same
-          (subst (λ s. TakesSheetOn other badge Others s out written done (desk g opened) (desk g last)) here (holds o))),
-    )) back took
-sheet_ended g files other badge Days Others sheet shown out written (Err refusal) old new opened last conn same here weaker is lasts back took holds = tt

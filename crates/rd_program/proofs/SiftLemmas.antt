@@ -1,5 +1,5 @@
 -- The rows of a sheet that are taken past files that cannot be read, or only tried.
-use Rattle.std.proofs.Common.{◌≡◌, ◌⊎◌, ◌+◌, ◌∙◌, ◌++◌, ◌∷◌, [], ℕ, ℤ, Bool, Err, IfNone, IfOk, IfSome, List, None, Ok, Option, Result, Some, ap, arith, false, inl, inr, length, length-append, refl, subst, sym, true}
+use Rattle.std.proofs.Common.{◌≡◌, ◌+◌, ◌∙◌, ◌++◌, ◌∷◌, [], ℕ, ℤ, Bool, Err, IfNone, IfOk, IfSome, List, None, Ok, Option, Result, Some, ap, arith, false, inl, inr, length, length-append, refl, subst, sym, true}
 use Rattle.std.specs.Borrow.{Bor}
 use Rattle.std.specs.Io.KnownBytes.{Appends}
 use Rattle.std.specs.List.{concat}
@@ -19,24 +19,22 @@ use Rattle.rd_holdings.specs.State.{Desk}
 use Rattle.rd_protocol.specs.declared.refusal.Refusal.{Refusal as DeskRefusal}
 use Rattle.rd_protocol.specs.declared.response.Response.{Response}
 use Rattle.rd_protocol.specs.declared.response.Response.TheVariants.{Refused}
-use Rattle.rd_commands.specs.Refusals.{IsDeviceOrMemory}
-use Rattle.rd_commands.specs.Sheets.{HasOtherLength, IsBad, IsReadRefusal, Says, header}
+use Rattle.rd_commands.specs.Sheets.{HasOtherLength, IsBad, Says, header}
 use Rattle.rd_commands.specs.declared.done.Done.{Done as Ending}
 use Rattle.rd_commands.specs.declared.refusal.Refusal.{Refusal}
-use Rattle.rd_commands.specs.declared.refusal.Refusal.TheVariants.{BadSheet, Device, NoMemory}
 use Rattle.rd_commands.specs.declared.sheet.SheetRow.{SheetRow}
 use Rattle.rd_commands.proofs.WriterLemmas.{piece_more}
 use Rattle.rd_desk.specs.Calls.{IsResponse}
 use Rattle.rd_desk.specs.Shelving.{StandsBeside, WouldAnswer}
 use Rattle.rd_desk.specs.declared.would_take.Shelved.{Shelved}
-use Rattle.rd_program.specs.Importing.{IsRowRefusal, accession_line, bad_row_line}
+use Rattle.rd_program.specs.Importing.{accession_line, bad_row_line, done_word, lost_row_line}
 use Rattle.rd_program.specs.Leaves.{IsSame, LeavesDesk, TakesFields, TakesUnlessDry}
 use Rattle.rd_program.specs.Rows.{HasRows, IsSheetOf}
 use Rattle.rd_program.specs.Showing.{EndsWith}
-use Rattle.rd_program.specs.Sifting.{AreRowsSifted, IsRowSifted, SiftsOn, SiftsOne, SiftsRows, SiftsSheet, SiftsSheetIn, StandsAfter, TellsFate, done_word, fate_by, fate_of, lost_row_line, put_of, shelved_row, word_by, worse}
-use Rattle.rd_program.specs.declared.sift.Fate.{Fate}
-use Rattle.rd_program.specs.declared.sift.Fate.TheVariants.{Denied, Done, Lost}
-use Rattle.rd_program.specs.declared.sift.Way.{Way}
+use Rattle.rd_program.specs.Sifting.{AreRowsSifted, IsRowSifted, SiftsOn, SiftsOne, SiftsRows, SiftsSheet, SiftsSheetIn, StandsAfter, TellsFate, fate_by, fate_of, put_of, shelved_row, word_by, worse}
+use Rattle.rd_program.specs.declared.import.Fate.{Fate}
+use Rattle.rd_program.specs.declared.import.Fate.TheVariants.{Denied, Done, Lost}
+use Rattle.rd_program.specs.declared.import.Way.{Way}
 use Rattle.rd_program.proofs.DeskSteps.{row_more}
 use Rattle.rd_program.proofs.LeftStores.{desk_then}
 use Rattle.rd_program.proofs.OnTimeLemmas.{takes_from}
@@ -282,19 +280,6 @@ bad_sifted g files way badge day number fields shelf out written at bad gained =
   dry = λ dry is_open. (refl, λ mid beside. (mid, inl (bad, (refl, (refl, refl))), beside));
   wet = λ wet is_open. inl (bad, (refl, (refl, refl)));
 }
-
--- ---- refusals
-
-pub of_device : (refusal : Refusal) → IsDeviceOrMemory refusal → IsRowRefusal refusal
-of_device Device is = inl refl
-of_device NoMemory is = inr (inl refl)
-of_device other is = absurd is
-
--- why no row is read
-pub of_reading : (refusal : Refusal) → IsReadRefusal refusal → (refusal ≡ BadSheet) ⊎ IsRowRefusal refusal
-of_reading refusal (inl bad) = inl bad
-of_reading refusal (inr (inl device)) = inr (inl device)
-of_reading refusal (inr (inr memory)) = inr (inr (inl memory))
 
 -- ---- the sheet
 

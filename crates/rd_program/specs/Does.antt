@@ -4,7 +4,7 @@
 -- `result` is how it ended: all is done; or a part is, since a row was refused or an image is changed; or it was refused.
 -- `g` is what a connection shows, and `told` and `coming` are what a door shows. A command that is refused ends with the
 -- status of its refusal and writes its line; else the status is 1 where a part is done, and 0 where all is.
-use Rattle.std.specs.Prelude.{◌≡◌, ◌⊎◌, ℕ, ℤ, Bool, IfErr, IfOk, IfSome, IsErr, IsSomeAnd, IsTrue, List, MatchResult, Ok, OnOk, Option, Result, Err, true}
+use Rattle.std.specs.Prelude.{◌≡◌, ◌⊎◌, ℕ, ℤ, Bool, IfErr, IfOk, IfSome, IsErr, IsSomeAnd, IsTrue, List, MatchResult, Ok, OnOk, Option, Result, Err, false, true}
 use Rattle.std.specs.Io.KnownBytes.{Appends, Keeps}
 use Rattle.sha2.specs.Sha256.{sha256}
 use Rattle.sqlite.specs.Held.{Held}
@@ -32,7 +32,6 @@ use Rattle.rd_commands.specs.declared.words.ImportAsk.{ImportAsk}
 use Rattle.rd_commands.specs.declared.words.InitAsk.{InitAsk}
 use Rattle.rd_commands.specs.declared.words.OneQuestionAsk.{OneQuestionAsk}
 use Rattle.rd_commands.specs.declared.words.ServeAsk.{ServeAsk}
-use Rattle.rd_commands.specs.declared.words.SiftAsk.{SiftAsk}
 use Rattle.rd_commands.specs.declared.words.StaffKeyAsk.{StaffKeyAsk}
 use Rattle.rd_commands.specs.declared.words.WhenAsk.{WhenAsk}
 use Rattle.rd_program.specs.Asked.{IsClockDue}
@@ -43,14 +42,15 @@ use Rattle.rd_program.specs.Doors.{AsksPath, AsksSums, AsksThen}
 use Rattle.rd_program.specs.Extracting.{Extracts, OfImage, RefusesExtract}
 use Rattle.rd_program.specs.Importing.{RefusesImport, TellsRows}
 use Rattle.rd_program.specs.Inits.{LeavesInit, MakesDesk, RefusesInit, done_line}
-use Rattle.rd_program.specs.Leaves.{HasBoth, IsDayAt, IsSame, Leaves, LeavesServe, LeavesStore, NamesOpening, OnEnded, StepsOf, TakesIn, TakesUnlessDry, moment_of}
+use Rattle.rd_program.specs.Leaves.{HasBoth, IsDayAt, IsSame, Leaves, LeavesServe, LeavesStore, NamesOpening, OnEnded, StepsOf, TakesUnlessDry, moment_of}
 use Rattle.rd_program.specs.OnTime.{IsBehindIn, WasOnTime, is_dated, must_be_on_time}
-use Rattle.rd_program.specs.Rows.{IsBadSheetDue, TakesSheetIn}
+use Rattle.rd_program.specs.Rows.{IsBadSheetDue}
 use Rattle.rd_program.specs.Serving.{AreLimitsOf, IsUnasked, RefusesServe, WritesOnceLent, serve_text}
 use Rattle.rd_program.specs.Showing.{AnswersOneQuestion, EndsWith, badge_of}
-use Rattle.rd_program.specs.Sifting.{IsSiftRefusal, SiftsSheetIn, way_asked}
+use Rattle.rd_program.specs.Sifting.{SiftsSheetIn, fate_of}
 use Rattle.rd_program.specs.StaffKeys.{LeavesStaffKey, PutsStaff, RefusesStaffKey}
 use Rattle.rd_program.specs.Visiting.{ServesDoor}
+use Rattle.rd_program.specs.declared.import.Way.{Way}
 use Rattle.rd_program.specs.World.{ChangesFolders, ChangesStore, ChangesStoreAndDoors, OpensStore, World}
 use Rattle.rd_program.specs.World.Wanted.{NewAt, StoreAt}
 
@@ -165,29 +165,18 @@ module _ {S D : Type 0} (g : Ghosts S) (before after : World S D) where
       pub opening : IfErr result (NamesOpeningAt ask.store.now)
 
     -- `import` takes in the images of a sheet at a moment, row by row, and writes the line of each, which says what became of
-    -- it; or it names why it ends before the last. Nothing else changes.
-    pub record DoesImport (ask : ImportAsk) (result : Result Done Refusal) : Type 0 where
+    -- it; or it names why it ends before the last. With `--dry-run` the lines say what would become of the rows, and the desk
+    -- is as it was; with `--keep-going` it goes on past files that it cannot read. Nothing else changes.
+    pub record DoesImport (ask : ImportAsk) (way : Way) (result : Result Done Refusal) : Type 0 where
       pub frame : ChangesStore before after
       pub store : UsesStore ask.store.now result
-      pub leaves : LeavesAt ask.store.now (LeavesStore g (TakesIn (sha256 ask.key.now) (Days ask.when)))
+      pub leaves : LeavesAt ask.store.now (LeavesStore g (TakesUnlessDry way.dry_run (sha256 ask.key.now) (Days ask.when)))
       pub moment : AsksAt ask.store.now ask.when true result
-      pub rows : IfOk result (λ done. EndsAt ask.store.now (TakesSheetIn g before.files (sha256 ask.key.now) (Days ask.when) (before.sheets ask.sheet.now) out written done))
-      pub tells : MatchResult result (TellsRows out written) (RefusesImport out written)
+      pub rows : IfOk result (λ done. EndsAt ask.store.now
+          (SiftsSheetIn g before.files way (sha256 ask.key.now) (Days ask.when) (before.sheets ask.sheet.now) out written done))
+      pub tells : MatchResult result (λ done. TellsRows way.dry_run out written (fate_of done)) (RefusesImport out written)
       pub opening : IfErr result (NamesOpeningAt ask.store.now)
       pub bad_sheet : IfErr result (λ refusal. IfSome (before.sheets ask.sheet.now) (λ bytes. IsBadSheetDue bytes refusal))
-
-    -- With `--dry-run` the lines say what would become of the rows, and the desk is as it was; with `--keep-going` it goes on
-    -- past files that it cannot read.
-    pub record DoesSift (ask : SiftAsk) (result : Result Done Refusal) : Type 0 where
-      pub frame : ChangesStore before after
-      pub store : UsesStore ask.import.store.now result
-      pub leaves : LeavesAt ask.import.store.now (LeavesStore g (TakesUnlessDry ask.dry_run (sha256 ask.import.key.now) (Days ask.import.when)))
-      pub moment : AsksAt ask.import.store.now ask.import.when true result
-      pub rows : IfOk result (λ done. EndsAt ask.import.store.now
-          (SiftsSheetIn g before.files (way_asked ask) (sha256 ask.import.key.now) (Days ask.import.when) (before.sheets ask.import.sheet.now) out written done))
-      pub refused : IfErr result IsSiftRefusal
-      pub opening : IfErr result (NamesOpeningAt ask.import.store.now)
-      pub bad_sheet : IfErr result (λ refusal. IfSome (before.sheets ask.import.sheet.now) (λ bytes. IsBadSheetDue bytes refusal))
 
     -- `serve` writes where visits come, takes as many there as its words say, replies to each, and says how many there were; or
     -- it names why it ends before that. It writes nothing before a door is lent.
@@ -213,8 +202,8 @@ Does g told coming before after io (Init ask) result = DoesInit g before after i
 Does g told coming before after io (StaffKey ask) result = DoesStaffKey g before after io.out io.written ask result
 Does g told coming before after io (Copy ask) result = DoesCopy g before after io.out io.written ask result
 Does g told coming before after io (OneQuestion ask) result = DoesQuestion g before after io.out io.written ask result
-Does g told coming before after io (Import ask) result = DoesImport g before after io.out io.written ask result
-Does g told coming before after io (Sift ask) result = DoesSift g before after io.out io.written ask result
+Does g told coming before after io (Import ask) result = DoesImport g before after io.out io.written ask (record { dry_run = false; keep_going = false }) result
+Does g told coming before after io (Sift ask) result = DoesImport g before after io.out io.written ask.import (record { dry_run = ask.dry_run; keep_going = ask.keep_going }) result
 Does g told coming before after io (Serve ask) result = DoesServe g before after io.out io.written told coming ask result
 
 -- ---- a run of the program

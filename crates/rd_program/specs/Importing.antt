@@ -1,18 +1,15 @@
 -- What the command `import` gives.
-use Rattle.std.specs.Prelude.{◌≡◌, ◌⊎◌, ℕ, Err, List, Ok, Option, Result, All, ◌++◌, codes}
+use Rattle.std.specs.Prelude.{◌≡◌, ◌⊎◌, ℕ, Bool, List, Option, All, ◌++◌, codes, false, true}
 use Rattle.std.specs.Fmt.{decimal}
 use Rattle.std.specs.Io.KnownBytes.{Appends, Keeps}
 use Rattle.std.specs.List.{concat}
-use Rattle.rd_protocol.specs.Refusals.{name_of}
-use Rattle.rd_protocol.specs.declared.response.Response.{Response}
-use Rattle.rd_protocol.specs.declared.response.Response.TheVariants.{Refused}
 use Rattle.rd_commands.specs.Output.{AppendsPart}
 use Rattle.rd_commands.specs.Printed.{line_feed}
 use Rattle.rd_program.specs.Serving.{IsClockRefusal, IsOpenRefusal}
-use Rattle.rd_commands.specs.declared.done.Done.{Done}
-use Rattle.rd_commands.specs.declared.done.Done.TheVariants.{InPart, Whole}
 use Rattle.rd_commands.specs.declared.refusal.Refusal.{Refusal}
 use Rattle.rd_commands.specs.declared.refusal.Refusal.TheVariants.{BadSheet, Device, NoMemory, Store}
+use Rattle.rd_program.specs.declared.import.Fate.{Fate}
+use Rattle.rd_program.specs.declared.import.Fate.TheVariants.{Done}
 
 -- the line of an accession, which says in a word what became of it
 abbrev pub accession_line : ℕ → List ℕ → List ℕ
@@ -22,13 +19,23 @@ accession_line acc word = decimal acc ++ (codes " " ++ (word ++ line_feed))
 abbrev pub bad_row_line : ℕ → List ℕ
 bad_row_line number = codes "row " ++ (decimal number ++ (codes " bad-row" ++ line_feed))
 
--- a line that says that an image was taken in
-abbrev pub IsDoneLine : List ℕ → Type 0
-IsDoneLine line = (acc : ℕ) × (line ≡ accession_line acc (codes "done"))
+-- the line that says that the file of the row with this number cannot be read
+abbrev pub lost_row_line : ℕ → List ℕ
+lost_row_line number = codes "row " ++ (decimal number ++ (codes " device" ++ line_feed))
+
+-- what the line of an accession says of an image that is taken in, or would be
+abbrev pub done_word : Bool → List ℕ
+done_word false = codes "done"
+done_word true = codes "would-be-done"
+
+-- a line that says that an image is taken in, or would be
+abbrev pub IsDoneLine : Bool → List ℕ → Type 0
+IsDoneLine dry_run line = (acc : ℕ) × (line ≡ accession_line acc (done_word dry_run))
 
 -- a line that says what became of a row
 abbrev pub IsRowLine : List ℕ → Type 0
-IsRowLine line = ((acc : ℕ) × (word : List ℕ) × (line ≡ accession_line acc word)) ⊎ ((number : ℕ) × (line ≡ bad_row_line number))
+IsRowLine line =
+    ((acc : ℕ) × (word : List ℕ) × (line ≡ accession_line acc word)) ⊎ ((number : ℕ) × ((line ≡ bad_row_line number) ⊎ (line ≡ lost_row_line number)))
 
 -- A writer has gained lines for which this holds.
 pub record GainsLines (P : List ℕ → Type 0) (old new : Option (List ℕ)) : Type 0 where
@@ -54,30 +61,15 @@ pub record GainsFrontOfLine (old new : Option (List ℕ)) : Type 0 where
   pub is : IsRowLine line
   pub gained : AppendsPart old new line
 
--- the lines of rows: if all was done, each line says that an image was taken in
-abbrev pub TellsRows : Option (List ℕ) → Option (List ℕ) → Done → Type 0
-TellsRows old new Whole = GainsLines IsDoneLine old new
-TellsRows old new InPart = GainsLines IsRowLine old new
+-- the lines of rows: if all was done, or would be, each line says so
+abbrev pub TellsRows : Bool → Option (List ℕ) → Option (List ℕ) → Fate → Type 0
+TellsRows dry_run old new Done = GainsLines (IsDoneLine dry_run) old new
+TellsRows dry_run old new other = GainsLines IsRowLine old new
 
 -- the line of one row
-abbrev pub TellsRow : Option (List ℕ) → Option (List ℕ) → Done → Type 0
-TellsRow old new Whole = GainsLine IsDoneLine old new
-TellsRow old new InPart = GainsLine IsRowLine old new
-
--- what the line of an accession says of the desk's answer: that it is done, or the name of the refusal
-abbrev pub word_of : Response → List ℕ
-word_of (Refused refusal) = name_of refusal
-word_of answer = codes "done"
-
--- whether the desk's answer says that the row is done
-abbrev pub done_by : Response → Done
-done_by (Refused refusal) = InPart
-done_by answer = Whole
-
--- there was an answer, and the line that says it was written
-abbrev pub TellsAnswer : {X : Type 0} → ℕ → Result Response X → Option (List ℕ) → Option (List ℕ) → Done → Type 0
-TellsAnswer acc (Ok answer) old new done = Appends old new (accession_line acc (word_of answer)) × (done ≡ done_by answer)
-TellsAnswer acc (Err fault) old new done = ⊥
+abbrev pub TellsRow : Bool → Option (List ℕ) → Option (List ℕ) → Fate → Type 0
+TellsRow dry_run old new Done = GainsLine (IsDoneLine dry_run) old new
+TellsRow dry_run old new other = GainsLine IsRowLine old new
 
 -- the device failed, memory ran out, or the store failed
 abbrev pub IsRowRefusal : Refusal → Type 0

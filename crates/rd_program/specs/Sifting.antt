@@ -1,8 +1,7 @@
 -- What becomes of the rows of a sheet where files that cannot be read are passed, and where nothing is taken in: the line
 -- that is written of each, and the desk after it. Where nothing is taken in, the desks after the first are what the desk
 -- would be, and nobody keeps them.
-use Rattle.std.specs.Prelude.{◌≡◌, ◌⊎◌, ◌+◌, ℕ, ℤ, Bool, Err, IfSome, List, [], ◌∷◌, ◌++◌, Ok, Option, Result, Some, codes, false, true}
-use Rattle.std.specs.Fmt.{decimal}
+use Rattle.std.specs.Prelude.{◌≡◌, ◌⊎◌, ◌+◌, ℕ, ℤ, Bool, Err, IfSome, List, [], ◌∷◌, Ok, Option, Result, Some, false, true}
 use Rattle.std.specs.Io.KnownBytes.{Appends}
 use Rattle.std.specs.List.{concat}
 use Rattle.sqlite.specs.Held.{Held, state}
@@ -16,21 +15,17 @@ use Rattle.rd_protocol.specs.declared.request.Request.{Request}
 use Rattle.rd_protocol.specs.declared.request.What.TheVariants.{PutImage}
 use Rattle.rd_protocol.specs.declared.response.Response.{Response}
 use Rattle.rd_protocol.specs.declared.response.Response.TheVariants.{Refused}
-use Rattle.rd_commands.specs.Printed.{line_feed}
 use Rattle.rd_commands.specs.Sheets.{IsBad, Says}
-use Rattle.rd_commands.specs.declared.refusal.Refusal.{Refusal}
-use Rattle.rd_commands.specs.declared.refusal.Refusal.TheVariants.{BadSheet}
 use Rattle.rd_commands.specs.declared.sheet.SheetRow.{SheetRow}
 use Rattle.rd_desk.specs.Shelving.{StandsBeside}
 use Rattle.rd_desk.specs.declared.would_take.Shelved.{Shelved}
-use Rattle.rd_program.specs.Importing.{IsImportRefusal, IsRowRefusal, accession_line, bad_row_line}
+use Rattle.rd_program.specs.Importing.{accession_line, bad_row_line, done_word, lost_row_line}
 use Rattle.rd_commands.specs.declared.done.Done.{Done as Ending}
 use Rattle.rd_commands.specs.declared.done.Done.TheVariants.{InPart, Whole}
-use Rattle.rd_commands.specs.declared.words.SiftAsk.{SiftAsk}
 use Rattle.rd_program.specs.Rows.{IsSheetOf}
-use Rattle.rd_program.specs.declared.sift.Fate.{Fate}
-use Rattle.rd_program.specs.declared.sift.Fate.TheVariants.{Denied, Done, Lost}
-use Rattle.rd_program.specs.declared.sift.Way.{Way}
+use Rattle.rd_program.specs.declared.import.Fate.{Fate}
+use Rattle.rd_program.specs.declared.import.Fate.TheVariants.{Denied, Done, Lost}
+use Rattle.rd_program.specs.declared.import.Way.{Way}
 
 -- of rows together: a lost one counts more than a refused one, and that more than one that is done
 abbrev pub worse : Fate → Fate → Fate
@@ -39,16 +34,7 @@ worse Denied Done = Denied
 worse Denied other = other
 worse Lost other = Lost
 
--- the line of a row whose file cannot be read
-abbrev pub lost_row_line : ℕ → List ℕ
-lost_row_line number = codes "row " ++ (decimal number ++ (codes " device" ++ line_feed))
-
--- what the line of an accession says of an image that is taken in, or would be
-abbrev pub done_word : Bool → List ℕ
-done_word false = codes "done"
-done_word true = codes "would-be-done"
-
--- what it says of an answer: that, or the name of the refusal
+-- what the line of an accession says of an answer: that it is done, or would be, or the name of the refusal
 abbrev pub word_by : Bool → Response → List ℕ
 word_by dry_run (Refused refusal) = name_of refusal
 word_by dry_run answer = done_word dry_run
@@ -112,12 +98,6 @@ SiftsSheetIn g files way badge Days sheet out written done before last =
     IsOpen g last → (stood : Desk) × SpellsDesk (state g before).now stood
     × ((day : ℤ) × Days day × SiftsSheet files way badge day sheet out written (fate_of done) stood (desk g last))
 
--- ---- refusals
-
--- why the command fails
-abbrev pub IsSiftRefusal : Refusal → Type 0
-IsSiftRefusal refusal = (refusal ≡ BadSheet) ⊎ (IsRowRefusal refusal ⊎ IsImportRefusal refusal)
-
 -- ---- one row, over a connection
 
 -- there was an answer, and the line that says it was written
@@ -155,7 +135,3 @@ abbrev pub SiftsOn : {S : Type 0} → Ghosts S → (List ℕ → Option (List �
     → Held S → Held S → Type 0
 SiftsOn g files way badge Days sheet out written done before after =
     IsOpen g after → (day : ℤ) × Days day × SiftsSheet files way badge day sheet out written (fate_of done) (desk g before) (desk g after)
-
--- how the words of a command say that the rows are taken
-abbrev pub way_asked : SiftAsk → Way
-way_asked ask = record { dry_run = ask.dry_run; keep_going = ask.keep_going }

@@ -17,11 +17,10 @@ use crate::completing::{completed, read_operands};
 use crate::copy::copy;
 use crate::export_check::ask_once;
 use crate::extract::extract;
-use crate::import::import;
+use crate::import::{Way, import};
 use crate::init::init;
 use crate::machine::Machine;
 use crate::serve::serve;
-use crate::sift::sift;
 use crate::staff_key::staff_key;
 use rd_commands::cat::cat;
 use rd_commands::list::list;
@@ -31,7 +30,7 @@ use std::io::{Read, Write};
 
 /// Does what a command asks for.
 ///
-/// It fails as `cat`, `list`, `init`, `serve`, `import`, `sift`, `extract`, `ask_once`, `staff_key` and `copy` do.
+/// It fails as `cat`, `list`, `init`, `serve`, `import`, `extract`, `ask_once`, `staff_key` and `copy` do.
 fn perform<R: Read, W: Write, M: Machine>(
     alloc: Global,
     ask: Ask,
@@ -55,8 +54,20 @@ fn perform<R: Read, W: Write, M: Machine>(
         Ask::Files(ask) => whole(list(alloc, ask, input, output, machine)),
         Ask::Init(ask) => whole(init(ask, output, machine)),
         Ask::Serve(ask) => whole(serve(alloc, ask, output, machine)),
-        Ask::Import(ask) => import(alloc, ask, output, machine),
-        Ask::Sift(ask) => sift(alloc, ask, output, machine),
+        Ask::Import(ask) => {
+            let way = Way {
+                dry_run: false,
+                keep_going: false,
+            };
+            import(alloc, ask, way, output, machine)
+        }
+        Ask::Sift(ask) => {
+            let way = Way {
+                dry_run: ask.dry_run,
+                keep_going: ask.keep_going,
+            };
+            import(alloc, ask.import, way, output, machine)
+        }
         Ask::Extract(ask) => whole(extract(alloc, ask, input, output, machine)),
         Ask::OneQuestion(ask) => ask_once(alloc, ask, output, machine),
         Ask::StaffKey(ask) => whole(staff_key(alloc, ask, output, machine)),

@@ -1,32 +1,36 @@
-//! Takes in images, row by row of a sheet.
+//! Takes in images, row by row of a sheet, or tells what would become of the rows.
 
-ghost use Rattle.rd_store.specs.Held.{IsOpen, desk as desk_in};
-ghost use Rattle.std.specs.Prelude.{◌≡◌, IfErr, IfOk, IfSome, IsTrue, OnErr, OnOk, Some, true};
+ghost use Rattle.std.specs.Prelude.{◌≡◌, IfErr, IfNone, IfOk, IfSome, IsTrue, OnErr, OnOk, Some, false, true};
 ghost use Rattle.std.specs.Io.KnownBytes.{Appends};
 ghost use Rattle.csv.specs.Records.{fields_of};
 ghost use Rattle.sha2.specs.Sha256.{sha256};
 ghost use Rattle.rd_policy.specs.Days.{IsDay};
+ghost use Rattle.rd_store.specs.Held.{Reads, desk as desk_in};
 ghost use Rattle.rd_desk.specs.Served.{Responds};
-ghost use Rattle.rd_program.specs.Importing as spec;
+ghost use Rattle.rd_desk.specs.Shelving.{WouldAnswer};
+ghost use Rattle.rd_commands.specs.Output.{AppendsPart, IsFlushed};
+ghost use Rattle.rd_commands.specs.Refusals.{IsDeviceOrMemory};
+ghost use Rattle.rd_commands.specs.Sheets.{IsWithin, Says};
 ghost use Rattle.rd_program.specs.Asked.{AsksOn};
 ghost use Rattle.rd_program.specs.Does.{AsksAt, UsesStore};
 ghost use Rattle.rd_program.specs.World.{ChangesClock, ChangesStore};
-ghost use Rattle.rd_program.specs.Rows.{GivesLine, IsBadSheetDue, IsRowTaken, TakesImage, TakesSheet, TakesSheetIn, TakesSheetOn};
+ghost use Rattle.rd_program.specs.Leaves.{GivesBack, IsDayAt, IsSame, Leaves, LeavesDesk, LeavesStore, NamesOpening, TakesFields, TakesRow, TakesUnlessDry, moment_of};
+ghost use Rattle.rd_program.specs.Rows.{IsBadSheetDue};
 ghost use Rattle.rd_program.specs.Showing.{EndsWith};
-ghost use Rattle.rd_program.specs.Importing.{RefusesImport, RefusesRow, RefusesRows, TellsAnswer, TellsRow, TellsRows, bad_row_line, accession_line};
-ghost use Rattle.rd_program.specs.Leaves.{GivesBack, IsDayAt, Leaves, LeavesDesk, LeavesStore, NamesOpening, TakesFields, TakesIn, TakesRow, moment_of};
-ghost use Rattle.rd_commands.specs.Output.{AppendsPart, IsFlushed};
-ghost use Rattle.rd_commands.specs.Refusals.{IsDeviceOrMemory};
-ghost use Rattle.rd_commands.specs.Sheets.{IsWithin};
+ghost use Rattle.rd_program.specs.Importing as told;
+ghost use Rattle.rd_program.specs.Sifting as spec;
+ghost use Rattle.rd_program.specs.Importing.{IsRowRefusal, RefusesImport, RefusesRow, RefusesRows, TellsRow, TellsRows, accession_line, bad_row_line, lost_row_line};
+ghost use Rattle.rd_program.specs.Sifting.{SiftsOn, SiftsOne, SiftsRows, SiftsSheetIn, TellsFate};
 
 use crate::machine::{Machine, file_at, sheet_at};
 use crate::noted::{note_answer, note_bad_row};
 use crate::open_desk::{day_on_time, open_desk};
 use csv::{ByteRecord, ReaderBuilder};
 use rd_commands::{
-    Done, ImportAsk, Refusal, RowNote, SheetRow, is_header, next_row, row_of, write_whole,
+    Done, ImportAsk, MachineFault, Refusal, RowNote, SheetRow, is_header, next_row, row_of,
+    write_whole,
 };
-use rd_desk::{Desk, Items, Request, Response, Unavailable, What};
+use rd_desk::{Desk, Items, Request, Response, Shelf, Shelved, Unavailable, What};
 use sha2::{Digest, Sha256};
 use sqlite::Alter;
 use std::alloc::Global;
@@ -34,17 +38,17 @@ use std::io::Write;
 
 /// Who gives images, and when.
 #[derive(Clone, Copy)]
-pub(crate) struct Giver {
+struct Giver {
     /// The SHA-256 of the desk key.
-    pub(crate) badge: [u8; 32],
+    badge: [u8; 32],
     /// The day, counted from 1970-01-01.
-    pub(crate) day: i32,
+    day: i32,
 }
 
 /// Asks a desk to take in the image of a row, and gives its answer.
 ///
 /// It fails with `Unavailable` when the store fails or memory runs out.
-pub(crate) fn put_image<S: Alter + Drop>(
+fn put_image<S: Alter + Drop>(
     alloc: Global,
     row: SheetRow,
     bytes: Vec<u8>,
@@ -71,7 +75,7 @@ pub(crate) fn put_image<S: Alter + Drop>(
 /// Writes the line of an accession, which says in a word what became of its row, and flushes the output.
 ///
 /// It fails with `NoMemory`, and with `Device` when a write or the flush fails.
-pub(crate) fn tell_accession<M: Machine, W: Write>(
+fn tell_accession<M: Machine, W: Write>(
     alloc: Global,
     acc: u32,
     word: &str,
@@ -90,7 +94,7 @@ pub(crate) fn tell_accession<M: Machine, W: Write>(
 /// Writes a line that says that a row is bad, and flushes the output. Rows are counted from 1.
 ///
 /// It fails with `NoMemory`, and with `Device` when a write or the flush fails.
-pub(crate) fn tell_bad_row<M: Machine, W: Write>(
+fn tell_bad_row<M: Machine, W: Write>(
     alloc: Global,
     number: u64,
     output: &mut W,
@@ -105,144 +109,259 @@ pub(crate) fn tell_bad_row<M: Machine, W: Write>(
     write_whole::<M, W>(output, line.as_bytes())
 }
 
-/// What the line of an accession says of a desk's answer: that it is done, or the name of the refusal.
-fn word_of(answer: &Response) -> &'static str
-    ensures { result.now ≡ spec.word_of answer.now }
+/// How the rows of a sheet are taken.
+#[derive(Clone, Copy)]
+pub(crate) struct Way {
+    /// Whether nothing is taken in.
+    pub(crate) dry_run: bool,
+    /// Whether it goes on after a file that cannot be read.
+    pub(crate) keep_going: bool,
+}
+
+/// What became of a row, or of all rows.
+#[derive(Clone, Copy, PartialEq, Eq)]
+pub(crate) enum Fate {
+    /// It is done, or would be.
+    Done,
+    /// It is refused.
+    Denied,
+    /// Its file could not be read.
+    Lost,
+}
+
+impl Fate {
+    /// The worse of two.
+    fn worse(self, other: Fate) -> Fate
+        ensures { result ≡ spec.worse self other }
+    {
+        match (self, other) {
+            (Fate::Done, other) => other,
+            (Fate::Denied, Fate::Lost) | (Fate::Lost, _) => Fate::Lost,
+            (Fate::Denied, Fate::Done | Fate::Denied) => Fate::Denied,
+        }
+    }
+}
+
+/// Writes the line of a row whose file cannot be read, and flushes the output. Rows are counted from 1.
+///
+/// It fails with `NoMemory`, and with `Device` when a write or the flush fails.
+fn tell_lost_row<M: Machine, W: Write>(
+    alloc: Global,
+    number: u64,
+    output: &mut W,
+) -> Result<(), Refusal>
+    ensures done { OnOk result (Appends (W.contents output.old) (W.contents output.new) (lost_row_line number)) }
+    ensures cut { OnErr result (AppendsPart (W.contents output.old) (W.contents output.new) (lost_row_line number)) }
+    ensures flushed { OnOk result (IsTrue (M.flushed (W.contents output.new))) }
+    ensures refused { IfErr result IsDeviceOrMemory }
+{
+    let mut line = String::new(alloc);
+    write!(line, "row {number} device\n")?;
+    write_whole::<M, W>(output, line.as_bytes())
+}
+
+/// What the line of an accession says of an image that is taken in, or would be.
+fn done_word(dry_run: bool) -> &'static str
+    ensures { result.now ≡ told.done_word dry_run }
+{
+    if dry_run { "would-be-done" } else { "done" }
+}
+
+/// What the line of an accession says of an answer.
+fn word_by(dry_run: bool, answer: &Response) -> &'static str
+    ensures { result.now ≡ spec.word_by dry_run answer.now }
 {
     match answer {
         Response::Refused(reason) => reason.name(),
-        _ => "done",
+        _ => done_word(dry_run),
     }
 }
 
-/// Whether an answer is that all was done.
-fn done_by(answer: &Response) -> Done
-    ensures { result ≡ spec.done_by answer.now }
+/// What became of a row, by the answer of the desk.
+fn fate_by(answer: &Response) -> Fate
+    ensures { result ≡ spec.fate_by answer.now }
 {
     match answer {
-        Response::Refused(_) => Done::InPart,
-        _ => Done::Whole,
+        Response::Refused(_) => Fate::Denied,
+        _ => Fate::Done,
     }
 }
 
-/// Writes a line with what a desk answers about an accession.
+/// Asks a desk to take in the image of a row, or what it would answer after the earlier rows.
+///
+/// It fails with `Unavailable` when the store fails or memory runs out.
+fn answer_to_row<M: Machine>(
+    alloc: Global,
+    row: SheetRow,
+    bytes: Vec<u8>,
+    way: Way,
+    giver: Giver,
+    desk: &mut Desk<M::Disk>,
+    shelf: &mut Shelf,
+) -> Result<Response, Unavailable>
+    requires day { IsDay giver.day }
+    requires within { IsWithin row }
+    ensures zone { desk.new.zone ≡ desk.old.zone }
+    ensures dry { way.dry_run ≡ true → Reads M.Disk.Store desk.old.store desk.new.store result
+        (WouldAnswer shelf.old.images.items shelf.new.images.items (desk_in M.Disk.Store desk.old.store) giver.badge (spec.shelved_row row.entry) bytes.items) }
+    ensures wet { way.dry_run ≡ false → Responds M.Disk.Store desk.old.store desk.new.store giver.day
+        (spec.put_of giver.badge row.entry bytes.items) result }
+    ensures shelf { way.dry_run ≡ false → shelf.new.images.items ≡ shelf.old.images.items }
+{
+    if !way.dry_run {
+        return put_image(alloc, row, bytes, giver, desk);
+    }
+    let digest = row.digest;
+    let image = Shelved {
+        acc: row.acc,
+        kind: row.kind,
+        deed: row.deed,
+        digest,
+    };
+    desk.would_take(alloc, &giver.badge, image, bytes.as_slice(), shelf)
+}
+
+/// The bytes of the file of a row; `None` if it cannot be read and the run goes on after it. Rows are counted from 1.
+///
+/// It fails with `Device` when the file cannot be read and the run does not go on, and with `NoMemory`.
+fn row_bytes<M: Machine>(
+    alloc: Global,
+    file: &str,
+    number: u64,
+    way: Way,
+    machine: &mut M,
+) -> Result<Option<Vec<u8>>, Refusal>
+    ensures read { IfOk result (λ found. IfSome found (λ bytes. IfSome ((M.seen machine.old).files file.now) (λ shown. bytes.items ≡ shown))) }
+    ensures lost { IfOk result (λ found. IfNone found (way.keep_going ≡ true)) }
+    ensures same { machine.new ≡ machine.old }
+    ensures refused { IfErr result IsRowRefusal }
+{
+    let fault = match file_at(alloc, file, machine) {
+        Ok(bytes) => return Ok(Some(bytes)),
+        Err(fault) => fault,
+    };
+    machine.note_row(number, RowNote::Unread);
+    if way.keep_going && fault == MachineFault::Failed {
+        return Ok(None);
+    }
+    Err(fault.or(Refusal::Device))
+}
+
+/// Writes a line with what a desk answers about an accession, or would answer.
 ///
 /// It fails with `Store` when there is no answer, with `NoMemory`, and with `Device` when a write or the flush fails.
-fn tell_answer<M: Machine, W: Write>(
+fn tell_fate<M: Machine, W: Write>(
     alloc: Global,
     acc: u32,
+    dry_run: bool,
     answer: Result<Response, Unavailable>,
     output: &mut W,
-) -> Result<Done, Refusal>
-    ensures written { IfOk result (TellsAnswer acc answer (W.contents output.old) (W.contents output.new)) }
+) -> Result<Fate, Refusal>
+    ensures written { IfOk result (TellsFate acc dry_run answer (W.contents output.old) (W.contents output.new)) }
     ensures flushed { OnOk result (IsTrue (M.flushed (W.contents output.new))) }
     ensures refused { IfErr result (RefusesRow (W.contents output.old) (W.contents output.new)) }
 {
     let Ok(answer) = answer else {
         return Err(Refusal::Store);
     };
-    tell_accession::<M, W>(alloc, acc, word_of(&answer), output)?;
-    Ok(done_by(&answer))
+    tell_accession::<M, W>(alloc, acc, word_by(dry_run, &answer), output)?;
+    Ok(fate_by(&answer))
 }
 
-/// Takes in the image of a row, and writes a line that says what became of it. Rows are counted from 1.
+/// Takes a row, and writes its line. Rows are counted from 1.
 ///
-/// It fails with `Device` when it cannot read the image's file, with `Store` when the desk is
-/// unavailable, with `NoMemory`, and with `Device` when a write or the flush fails.
+/// It fails as `row_bytes` and `tell_fate` do.
 fn import_row<W: Write, M: Machine>(
     alloc: Global,
     row: SheetRow,
     number: u64,
+    way: Way,
     giver: Giver,
     desk: &mut Desk<M::Disk>,
+    shelf: &mut Shelf,
     output: &mut W,
     machine: &mut M,
-) -> Result<Done, Refusal>
+) -> Result<Fate, Refusal>
     requires day { IsDay giver.day }
     requires within { IsWithin row }
     ensures zone { desk.new.zone ≡ desk.old.zone }
-    ensures takes { LeavesDesk M.Disk.Store (TakesRow giver.badge giver.day row.entry)
-        desk.old.store desk.new.store }
     ensures same { machine.new ≡ machine.old }
-    ensures row { IfOk result (λ done. GivesLine M.Disk.Store
-        (λ line. TakesImage (M.seen machine.old).files giver.badge giver.day row.entry line done)
-        (W.contents output.old) (W.contents output.new) desk.old.store desk.new.store) }
-    ensures written { IfOk result (TellsRow (W.contents output.old) (W.contents output.new)) }
+    ensures dry { way.dry_run ≡ true → LeavesDesk M.Disk.Store IsSame desk.old.store desk.new.store }
+    ensures wet { way.dry_run ≡ false → LeavesDesk M.Disk.Store (TakesRow giver.badge giver.day row.entry) desk.old.store desk.new.store }
+    ensures row { IfOk result (λ fate. (fields : _) → Says fields row.entry → SiftsOne M.Disk.Store (M.seen machine.old).files way giver.badge giver.day number fields
+        fate shelf.old.images.items shelf.new.images.items (W.contents output.old) (W.contents output.new) desk.old.store desk.new.store) }
+    ensures written { IfOk result (TellsRow way.dry_run (W.contents output.old) (W.contents output.new)) }
     ensures flushed { OnOk result (IsTrue (M.flushed (W.contents output.new))) }
     ensures refused { IfErr result (RefusesRow (W.contents output.old) (W.contents output.new)) }
 {
-    let bytes = match file_at(alloc, row.file, machine) {
-        Ok(bytes) => bytes,
-        Err(fault) => {
-            machine.note_row(number, RowNote::Unread);
-            return Err(fault.or(Refusal::Device));
-        }
+    let Some(bytes) = row_bytes(alloc, row.file, number, way, machine)? else {
+        tell_lost_row::<M, W>(alloc, number, output)?;
+        return Ok(Fate::Lost);
     };
     let found = bytes.len();
-    let answer = put_image(alloc, row, bytes, giver, desk);
+    let answer = answer_to_row::<M>(alloc, row, bytes, way, giver, desk, shelf);
     note_answer(number, row, found, &answer, machine);
-    tell_answer::<M, W>(alloc, row.acc, answer, output)
+    tell_fate::<M, W>(alloc, row.acc, way.dry_run, answer, output)
 }
 
-/// Takes in the image of the row with these fields, and writes a line that says what became of it,
-/// or that the row is bad. Rows are counted from 1.
+/// Takes the row with these fields, and writes its line. Rows are counted from 1.
 ///
 /// It fails as `import_row` does.
 fn import_fields<W: Write, M: Machine>(
     alloc: Global,
     fields: &ByteRecord,
     number: u64,
+    way: Way,
     giver: Giver,
     desk: &mut Desk<M::Disk>,
+    shelf: &mut Shelf,
     output: &mut W,
     machine: &mut M,
-) -> Result<Done, Refusal>
+) -> Result<Fate, Refusal>
     requires day { IsDay giver.day }
     ensures zone { desk.new.zone ≡ desk.old.zone }
-    ensures takes { LeavesDesk M.Disk.Store (TakesFields giver.badge giver.day (fields_of fields.now))
-        desk.old.store desk.new.store }
     ensures same { machine.new ≡ machine.old }
-    ensures row { IfOk result (λ done. GivesLine M.Disk.Store
-        (λ line. IsRowTaken (M.seen machine.old).files giver.badge giver.day number (fields_of fields.now) line done)
-        (W.contents output.old) (W.contents output.new) desk.old.store desk.new.store) }
-    ensures written { IfOk result (TellsRow (W.contents output.old) (W.contents output.new)) }
+    ensures dry { way.dry_run ≡ true → LeavesDesk M.Disk.Store IsSame desk.old.store desk.new.store }
+    ensures wet { way.dry_run ≡ false → LeavesDesk M.Disk.Store (TakesFields giver.badge giver.day (fields_of fields.now)) desk.old.store desk.new.store }
+    ensures row { IfOk result (λ fate. SiftsOne M.Disk.Store (M.seen machine.old).files way giver.badge giver.day number (fields_of fields.now)
+        fate shelf.old.images.items shelf.new.images.items (W.contents output.old) (W.contents output.new) desk.old.store desk.new.store) }
+    ensures written { IfOk result (TellsRow way.dry_run (W.contents output.old) (W.contents output.new)) }
     ensures flushed { OnOk result (IsTrue (M.flushed (W.contents output.new))) }
     ensures refused { IfErr result (RefusesRow (W.contents output.old) (W.contents output.new)) }
 {
     match row_of(fields) {
-        Some(row) => import_row(alloc, row, number, giver, desk, output, machine),
+        Some(row) => import_row(alloc, row, number, way, giver, desk, shelf, output, machine),
         None => {
             note_bad_row(number, fields, machine);
             tell_bad_row::<M, W>(alloc, number, output)?;
-            Ok(Done::InPart)
+            Ok(Fate::Denied)
         }
     }
 }
 
-/// Takes in the images of a sheet, row by row, and writes a line for each that says what became of
-/// it.
+/// Takes the rows of a sheet in turn, and writes their lines.
 ///
-/// It fails with `BadSheet` when the header is another, and at a row of another length; the rows
-/// before that one are done. It also fails as `import_row` does.
+/// It fails with `BadSheet` when the header is another, and at a row of another length; the rows before that one are done.
+/// It also fails as `import_row` does.
 fn import_rows<W: Write, M: Machine>(
     alloc: Global,
     sheet: &[u8],
+    way: Way,
     giver: Giver,
     desk: &mut Desk<M::Disk>,
     output: &mut W,
     machine: &mut M,
-) -> Result<Done, Refusal>
+) -> Result<Fate, Refusal>
     requires day { IsDay giver.day }
-    ensures written { IfOk result (TellsRows (W.contents output.old) (W.contents output.new)) }
-    ensures flushed { OnOk result (IsFlushed M.flushed (W.contents output.old) (W.contents output.new)) }
-    ensures refused { IfErr result (RefusesRows (W.contents output.old) (W.contents output.new)) }
-    ensures bad_sheet { IfErr result (IsBadSheetDue sheet.now) }
-    ensures takes { LeavesDesk M.Disk.Store (TakesIn giver.badge (λ day. day ≡ giver.day))
-        desk.old.store desk.new.store }
+    ensures zone { desk.new.zone ≡ desk.old.zone }
     ensures same { machine.new ≡ machine.old }
-    ensures rows { IfOk result (λ done. IsOpen M.Disk.Store desk.new.store
-        → TakesSheet (M.seen machine.old).files giver.badge giver.day (Some sheet.now) (W.contents output.old) (W.contents output.new) done
-        (desk_in M.Disk.Store desk.old.store) (desk_in M.Disk.Store desk.new.store)) }
+    ensures takes { LeavesDesk M.Disk.Store (TakesUnlessDry way.dry_run giver.badge (λ day. day ≡ giver.day)) desk.old.store desk.new.store }
+    ensures rows { IfOk result (λ fate. SiftsRows M.Disk.Store (M.seen machine.old).files way giver.badge giver.day sheet.now
+        (W.contents output.old) (W.contents output.new) fate desk.old.store desk.new.store) }
+    ensures flushed { OnOk result (IsFlushed M.flushed (W.contents output.old) (W.contents output.new)) }
+    ensures bad_sheet { IfErr result (IsBadSheetDue sheet.now) }
+    ensures written { IfOk result (TellsRows way.dry_run (W.contents output.old) (W.contents output.new)) }
+    ensures refused { IfErr result (RefusesRows (W.contents output.old) (W.contents output.new)) }
 {
     let mut reader = ReaderBuilder::new()
         .has_headers(false)
@@ -251,42 +370,59 @@ fn import_rows<W: Write, M: Machine>(
     if !next_row(&mut reader, &mut fields)? || !is_header(&fields) {
         return Err(Refusal::BadSheet);
     }
-    let mut done = Done::Whole;
+    let mut shelf = Shelf::new(alloc);
+    let mut fate = Fate::Done;
     for number in 1..u64::MAX {
         if !next_row(&mut reader, &mut fields)? {
-            return Ok(done);
+            return Ok(fate);
         }
-        let row = import_fields(alloc, &fields, number, giver, desk, output, machine)?;
-        done = done.and(row);
+        let row = import_fields(
+            alloc, &fields, number, way, giver, desk, &mut shelf, output, machine,
+        )?;
+        fate = fate.worse(row);
     }
     // No memory holds a sheet of so many rows.
     Err(Refusal::NoMemory)
 }
 
-/// Takes in the images of the sheet that the command names, at the moment that it names.
+/// How the command ends, by what became of all rows.
+///
+/// It fails with `Device` when the file of a row could not be read.
+fn ended_by(fate: Fate) -> Result<Done, Refusal>
+    ensures ended { IfOk result (λ done. fate ≡ spec.fate_of done) }
+    ensures lost { IfErr result (λ refusal. refusal ≡ Refusal.Device) }
+{
+    match fate {
+        Fate::Done => Ok(Done::Whole),
+        Fate::Denied => Ok(Done::InPart),
+        Fate::Lost => Err(Refusal::Device),
+    }
+}
+
+/// Takes the rows of the sheet that the command names, at the moment that it names.
 ///
 /// It fails with `Clock` when the clock fails, the moment has no day, or the clock shows a day that is more than one day
-/// before that of a recorded check, with `Store` when the checks cannot be read, with `Device` when the sheet cannot be
-/// read, with `NoMemory`, and as `import_rows` does.
+/// before that of a recorded check, with `Store` when the checks cannot be read, with `Device` when it cannot read the sheet
+/// or, at its end, the file of a row, with `NoMemory`, and as `import_rows` does.
 fn import_sheet<W: Write, M: Machine>(
     alloc: Global,
     ask: ImportAsk,
+    way: Way,
     desk: &mut Desk<M::Disk>,
     output: &mut W,
     machine: &mut M,
 ) -> Result<Done, Refusal>
-    ensures written { IfOk result (TellsRows (W.contents output.old) (W.contents output.new)) }
+    ensures moment { AsksOn M.Disk.Store true ask.entry.when (M.seen machine.old).clock desk.old.zone desk.old.store desk.new.store result }
+    ensures frame { ChangesClock (M.seen machine.old) (M.seen machine.new) }
+    ensures takes { LeavesDesk M.Disk.Store (TakesUnlessDry way.dry_run (sha256 ask.entry.key.now)
+        (IsDayAt (moment_of ask.entry.when.seconds (M.seen machine.old).clock) desk.old.zone)) desk.old.store desk.new.store }
+    ensures rows { IfOk result (λ done. SiftsOn M.Disk.Store (M.seen machine.old).files way (sha256 ask.entry.key.now)
+        (IsDayAt (moment_of ask.entry.when.seconds (M.seen machine.old).clock) desk.old.zone) ((M.seen machine.old).sheets ask.entry.sheet.now)
+        (W.contents output.old) (W.contents output.new) done desk.old.store desk.new.store) }
+    ensures written { IfOk result (λ done. TellsRows way.dry_run (W.contents output.old) (W.contents output.new) (spec.fate_of done)) }
     ensures flushed { OnOk result (IsFlushed M.flushed (W.contents output.old) (W.contents output.new)) }
     ensures refused { IfErr result (RefusesImport (W.contents output.old) (W.contents output.new)) }
-    ensures moment { AsksOn M.Disk.Store true ask.entry.when (M.seen machine.old).clock desk.old.zone desk.old.store desk.new.store result }
     ensures bad_sheet { IfErr result (λ refusal. IfSome ((M.seen machine.old).sheets ask.entry.sheet.now) (λ bytes. IsBadSheetDue bytes refusal)) }
-    ensures takes { LeavesDesk M.Disk.Store (TakesIn (sha256 ask.entry.key.now)
-        (IsDayAt (moment_of ask.entry.when.seconds (M.seen machine.old).clock) desk.old.zone)) desk.old.store desk.new.store }
-    ensures rows { IfOk result (λ done. IsOpen M.Disk.Store desk.new.store
-        → TakesSheetOn (M.seen machine.old).files (sha256 ask.entry.key.now) (IsDayAt (moment_of ask.entry.when.seconds (M.seen machine.old).clock) desk.old.zone)
-        ((M.seen machine.old).sheets ask.entry.sheet.now) (W.contents output.old) (W.contents output.new) done
-        (desk_in M.Disk.Store desk.old.store) (desk_in M.Disk.Store desk.new.store)) }
-    ensures frame { ChangesClock (M.seen machine.old) (M.seen machine.new) }
 {
     let day = day_on_time(ask.when, desk, machine)?;
     let sheet = match sheet_at(alloc, ask.sheet, machine) {
@@ -295,39 +431,40 @@ fn import_sheet<W: Write, M: Machine>(
     };
     let badge = Sha256::digest(ask.key);
     let giver = Giver { badge, day };
-    import_rows(alloc, sheet.as_slice(), giver, desk, output, machine)
+    ended_by(import_rows(alloc, sheet.as_slice(), way, giver, desk, output, machine)?)
 }
 
-/// Takes the images of a sheet into the desk in the file of a store, row by row, and writes a line
-/// for each that says what became of it. It flushes each line.
+/// Takes the images of a sheet into the desk in the file of a store, row by row, or tells what would become of the rows, and
+/// writes a line for each that says so. It flushes each line.
 ///
-/// It fails with `NotADesk`, `Version`, `Inconsistent` and `Store` when it cannot open the desk,
-/// then as `import_sheet` does. The images taken in before stay.
+/// It fails with `NotADesk`, `Version`, `Inconsistent` and `Store` when it cannot open the desk, then as `import_sheet` does.
+/// The images taken in before stay.
 pub(crate) fn import<W: Write, M: Machine>(
     alloc: Global,
     ask: ImportAsk,
+    way: Way,
     output: &mut W,
     machine: &mut M,
 ) -> Result<Done, Refusal>
-    ensures written { IfOk result (TellsRows (W.contents output.old) (W.contents output.new)) }
-    ensures flushed { OnOk result (IsFlushed M.flushed (W.contents output.old) (W.contents output.new)) }
-    ensures refused { IfErr result (RefusesImport (W.contents output.old) (W.contents output.new)) }
-    ensures takes { Leaves (M.seen machine.old).left ((M.seen machine.old).stands ask.entry.store.now) (M.seen machine.new).left
-        (LeavesStore M.Disk.Store (TakesIn (sha256 ask.entry.key.now)
-        (IsDayAt (moment_of ask.entry.when.seconds (M.seen machine.old).clock) ask.entry.when.zone))) }
-    ensures rows { IfOk result (λ done. EndsWith ((M.seen machine.old).stands ask.entry.store.now) (M.seen machine.new).left
-        (TakesSheetIn M.Disk.Store (M.seen machine.old).files (sha256 ask.entry.key.now)
-        (IsDayAt (moment_of ask.entry.when.seconds (M.seen machine.old).clock) ask.entry.when.zone)
-        ((M.seen machine.old).sheets ask.entry.sheet.now) (W.contents output.old) (W.contents output.new) done)) }
-    ensures moment { AsksAt M.Disk.Store (M.seen machine.old) (M.seen machine.new) ask.entry.store.now ask.entry.when true result }
     ensures frame { ChangesStore (M.seen machine.old) (M.seen machine.new) }
     ensures store { UsesStore M.Disk.Store (M.seen machine.old) (M.seen machine.new) ask.entry.store.now result }
     ensures back { GivesBack (M.seen machine.old).shows (M.seen machine.old).left (M.seen machine.new).left }
+    ensures moment { AsksAt M.Disk.Store (M.seen machine.old) (M.seen machine.new) ask.entry.store.now ask.entry.when true result }
+    ensures takes { Leaves (M.seen machine.old).left ((M.seen machine.old).stands ask.entry.store.now) (M.seen machine.new).left
+        (LeavesStore M.Disk.Store (TakesUnlessDry way.dry_run (sha256 ask.entry.key.now)
+        (IsDayAt (moment_of ask.entry.when.seconds (M.seen machine.old).clock) ask.entry.when.zone))) }
+    ensures rows { IfOk result (λ done. EndsWith ((M.seen machine.old).stands ask.entry.store.now) (M.seen machine.new).left
+        (SiftsSheetIn M.Disk.Store (M.seen machine.old).files way (sha256 ask.entry.key.now)
+        (IsDayAt (moment_of ask.entry.when.seconds (M.seen machine.old).clock) ask.entry.when.zone)
+        ((M.seen machine.old).sheets ask.entry.sheet.now) (W.contents output.old) (W.contents output.new) done)) }
+    ensures written { IfOk result (λ done. TellsRows way.dry_run (W.contents output.old) (W.contents output.new) (spec.fate_of done)) }
+    ensures flushed { OnOk result (IsFlushed M.flushed (W.contents output.old) (W.contents output.new)) }
+    ensures refused { IfErr result (RefusesImport (W.contents output.old) (W.contents output.new)) }
     ensures bad_sheet { IfErr result (λ refusal. IfSome ((M.seen machine.old).sheets ask.entry.sheet.now) (λ bytes. IsBadSheetDue bytes refusal)) }
     ensures opens { IfErr result (NamesOpening M.Disk.Store ((M.seen machine.old).stands ask.entry.store.now) (M.seen machine.new).left) }
 {
     let mut desk = open_desk(alloc, ask.store, ask.when.zone, machine)?;
-    let imported = import_sheet(alloc, ask, &mut desk, output, machine);
+    let imported = import_sheet(alloc, ask, way, &mut desk, output, machine);
     machine.release(&mut Some(desk.into_store().into_connection()));
     imported
 }

@@ -18,7 +18,6 @@ mod open_desk;
 mod operands;
 mod serve;
 mod show;
-mod sift;
 mod staff_key;
 
 pub use dispatch::{Why, run};

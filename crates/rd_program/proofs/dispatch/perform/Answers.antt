@@ -118,16 +118,16 @@ returns-in-Import-clause-does g c =
 
 pub returns-in-Sift-clause-does : goal.returns-in-Sift-clause-does
 returns-in-Sift-clause-does g c =
-    subst (λ ask. Does g.M.Disk.Store g.M.Door.Door.told g.M.Door.Door.coming (g.M.Machine.seen c.args.machine.now) (g.M.Machine.seen c.sift.new.machine)
-    (record { input = g.R.Read.remaining c.args.input.now; out = g.W.Write.contents c.args.output.now; written = g.W.Write.contents c.sift.new.output }) ask c.sift.result) (sym c.in-Sift.is) (record {
-      frame = c.sift.ensures.frame;
-      store = c.sift.ensures.store;
-      leaves = c.sift.ensures.takes;
-      moment = c.sift.ensures.moment;
-      rows = c.sift.ensures.sifted;
-      refused = c.sift.ensures.refused;
-      opening = c.sift.ensures.opens;
-      bad_sheet = c.sift.ensures.bad_sheet;
+    subst (λ ask. Does g.M.Disk.Store g.M.Door.Door.told g.M.Door.Door.coming (g.M.Machine.seen c.args.machine.now) (g.M.Machine.seen c.import-in-Sift.new.machine)
+    (record { input = g.R.Read.remaining c.args.input.now; out = g.W.Write.contents c.args.output.now; written = g.W.Write.contents c.import-in-Sift.new.output }) ask c.import-in-Sift.result) (sym c.in-Sift.is) (record {
+      frame = c.import-in-Sift.ensures.frame;
+      store = c.import-in-Sift.ensures.store;
+      leaves = c.import-in-Sift.ensures.takes;
+      moment = c.import-in-Sift.ensures.moment;
+      rows = c.import-in-Sift.ensures.rows;
+      tells = match_both c.import-in-Sift.result _ _ c.import-in-Sift.ensures.written c.import-in-Sift.ensures.refused;
+      opening = c.import-in-Sift.ensures.opens;
+      bad_sheet = c.import-in-Sift.ensures.bad_sheet;
     })
 
 pub returns-in-Serve-clause-does : goal.returns-in-Serve-clause-does
@@ -232,8 +232,7 @@ returns-in-Serve-clause-flushed g c =
     (flushed_once g.M.Files.flushed (g.W.Write.contents c.args.output.now) (g.W.Write.contents c.serve.new.output) c.serve.result c.serve.ensures.flushed)
 
 pub returns-in-Import-clause-flushed : goal.returns-in-Import-clause-flushed
-returns-in-Import-clause-flushed g c =
-    c.import.ensures.flushed
+returns-in-Import-clause-flushed g c = c.import.ensures.flushed
 
 pub returns-in-OneQuestion-clause-flushed : goal.returns-in-OneQuestion-clause-flushed
 returns-in-OneQuestion-clause-flushed g c =
@@ -253,8 +252,7 @@ pub returns-in-Extract-clause-flushed : goal.returns-in-Extract-clause-flushed
 returns-in-Extract-clause-flushed g c = ok_whole _ c.extract.result c.whole-in-Extract.result c.whole-in-Extract.ensures c.extract.ensures.flushed
 
 pub returns-in-Sift-clause-flushed : goal.returns-in-Sift-clause-flushed
-returns-in-Sift-clause-flushed g c =
-    c.sift.ensures.flushed
+returns-in-Sift-clause-flushed g c = c.import-in-Sift.ensures.flushed
 
 -- ---- the connection that is given back
 

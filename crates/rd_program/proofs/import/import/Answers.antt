@@ -1,7 +1,8 @@
 use Rattle.std.proofs.Common.{◌∙◌, IsTrue, ap, subst, sym, true, refl}
 use Rattle.sha2.specs.Sha256.{sha256}
-use Rattle.rd_program.specs.Leaves.{IsDayAt, LeavesDesk, TakesIn, moment_of}
-use Rattle.rd_program.proofs.RowLemmas.{opening_no_sheet, sheet_ended, shown_before}
+use Rattle.rd_program.specs.Leaves.{IsDayAt, LeavesDesk, TakesUnlessDry, moment_of}
+use Rattle.rd_program.proofs.RowLemmas.{opening_no_sheet, shown_before}
+use Rattle.rd_program.proofs.SiftLemmas.{sift_ended}
 use Rattle.rd_program.proofs.ShowLemmas.{passed_on}
 use Rattle.rd_store.specs.Held.{desk}
 use Rattle.rd_program.proofs.Named.{asked_then}
@@ -23,16 +24,16 @@ returns-clause-takes g c =
     let badge = sha256 c.args.ask.key.now in
     let told = c.args.ask.when.seconds in
     let clock = (g.M.Machine.seen c.args.machine.now).clock in
-    let later = subst (λ m. LeavesDesk g.M.Disk.Store (TakesIn badge (IsDayAt (moment_of told m) c.in_ok-desk.desk.zone)) opened last) (ap (λ (w : World _ _). w.clock) c.open_desk.ensures.frame) c.import_sheet-imported.ensures.takes in
-    let takes = subst (λ z. LeavesDesk g.M.Disk.Store (TakesIn badge (IsDayAt (moment_of told clock) z)) opened last) c.in_ok-desk.ensures.zone later in
+    let later = subst (λ m. LeavesDesk g.M.Disk.Store (TakesUnlessDry c.args.way.dry_run badge (IsDayAt (moment_of told m) c.in_ok-desk.desk.zone)) opened last) (ap (λ (w : World _ _). w.clock) c.open_desk.ensures.frame) c.import_sheet-imported.ensures.takes in
+    let takes = subst (λ z. LeavesDesk g.M.Disk.Store (TakesUnlessDry c.args.way.dry_run badge (IsDayAt (moment_of told clock) z)) opened last) c.in_ok-desk.ensures.zone later in
     desk_left g.M.Disk.Store (g.M.Machine.seen c.args.machine.now).left ((g.M.Machine.seen c.args.machine.now).stands c.args.ask.store.now) (g.M.Machine.seen c.release.new.self).left
-    (TakesIn badge (IsDayAt (moment_of told clock) c.args.ask.when.zone)) opened last c.into_connection.result
+    (TakesUnlessDry c.args.way.dry_run badge (IsDayAt (moment_of told clock) c.args.ask.when.zone)) opened last c.into_connection.result
     c.in_ok-desk.ensures.opened takes (c.into_connection.ensures.same ∙ c.into_store.ensures) c.release.ensures.left
 
 pub returns-in_err-desk-clause-takes : goal.returns-in_err-desk-clause-takes
 returns-in_err-desk-clause-takes g c =
     unopened_left g.M.Disk.Store (g.M.Machine.seen c.args.machine.now).left ((g.M.Machine.seen c.args.machine.now).stands c.args.ask.store.now) (g.M.Machine.seen c.open_desk.new.machine).left
-    (TakesIn (sha256 c.args.ask.key.now) (IsDayAt (moment_of c.args.ask.when.seconds (g.M.Machine.seen c.args.machine.now).clock) c.args.ask.when.zone)) c.in_err-desk.field-0.0
+    (TakesUnlessDry c.args.way.dry_run (sha256 c.args.ask.key.now) (IsDayAt (moment_of c.args.ask.when.seconds (g.M.Machine.seen c.args.machine.now).clock) c.args.ask.when.zone)) c.in_err-desk.field-0.0
     c.in_err-desk.ensures.refused c.in_err-desk.ensures.left
 
 pub returns-clause-rows : goal.returns-clause-rows
@@ -40,10 +41,11 @@ returns-clause-rows g c =
     let told = c.args.ask.when.seconds in
     let before = c.args.machine.now in
     let opened = c.open_desk.new.machine in
-    sheet_ended g.M.Disk.Store (g.M.Machine.seen before).files (g.M.Machine.seen opened).files (sha256 c.args.ask.key.now)
-    (IsDayAt (moment_of told (g.M.Machine.seen before).clock) c.args.ask.when.zone) (IsDayAt (moment_of told (g.M.Machine.seen opened).clock) c.in_ok-desk.desk.zone)
-    ((g.M.Machine.seen before).sheets c.args.ask.sheet.now) ((g.M.Machine.seen opened).sheets c.args.ask.sheet.now) (g.W.Write.contents c.args.output.now) (g.W.Write.contents c.import_sheet-imported.new.output)
-    c.import_sheet-imported.result ((g.M.Machine.seen before).stands c.args.ask.store.now) (g.M.Machine.seen c.release.new.self).left
+    sift_ended g.M.Disk.Store (g.M.Machine.seen before).files (g.M.Machine.seen opened).files c.args.way
+    (IsDayAt (moment_of told (g.M.Machine.seen before).clock) c.args.ask.when.zone) ((g.M.Machine.seen before).sheets c.args.ask.sheet.now)
+    (g.W.Write.contents c.args.output.now) (g.W.Write.contents c.import_sheet-imported.new.output) c.import_sheet-imported.result (sha256 c.args.ask.key.now)
+    (IsDayAt (moment_of told (g.M.Machine.seen opened).clock) c.in_ok-desk.desk.zone) ((g.M.Machine.seen opened).sheets c.args.ask.sheet.now)
+    ((g.M.Machine.seen before).stands c.args.ask.store.now) (g.M.Machine.seen c.release.new.self).left
     c.in_ok-desk.desk.store c.import_sheet-imported.new.desk.store c.into_connection.result (ap (λ (w : World _ _). w.files) c.open_desk.ensures.frame) (ap (λ (w : World _ _). w.sheets c.args.ask.sheet.now) c.open_desk.ensures.frame)
     (λ day at. subst (λ m. IsDayAt (moment_of told m) c.args.ask.when.zone day) (ap (λ (w : World _ _). w.clock) c.open_desk.ensures.frame) (subst (λ z. IsDayAt (moment_of told (g.M.Machine.seen opened).clock) z day) c.in_ok-desk.ensures.zone at))
     c.in_ok-desk.ensures.opened c.import_sheet-imported.ensures.takes.lasts (c.into_connection.ensures.same ∙ c.into_store.ensures) c.release.ensures.left c.import_sheet-imported.ensures.rows

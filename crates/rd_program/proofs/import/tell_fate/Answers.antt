@@ -2,7 +2,9 @@ use Rattle.std.proofs.Common.{subst, sym}
 use Rattle.std.specs.Io.KnownBytes.{Appends}
 use Rattle.rd_program.specs.Importing.{accession_line}
 use Rattle.rd_program.specs.Sifting.{TellsFate}
-use Rattle.rd_program.proofs.sift.tell_fate.Goals as goal
+use Rattle.std.proofs.Common.{inr, refl, rules}
+use Rattle.rd_program.proofs.ImportLemmas.{accession_refused, none_of_line}
+use Rattle.rd_program.proofs.import.tell_fate.Goals as goal
 
 pub returns-clause-written : goal.returns-clause-written
 returns-clause-written g c =
@@ -11,3 +13,10 @@ returns-clause-written g c =
           c.in_ok-tell_accession.ensures.done,
       c.fate_by.ensures,
     )
+
+pub returns-in_err-tell_accession-clause-refused : goal.returns-in_err-tell_accession-clause-refused
+returns-in_err-tell_accession-clause-refused g c =
+    let refused = accession_refused c.args.acc c.word_by.result.now _ _ _ c.in_err-tell_accession.ensures.refused c.in_err-tell_accession.ensures.cut in search rules
+
+pub returns-in_default-clause-refused : goal.returns-in_default-clause-refused
+returns-in_default-clause-refused g c = (inr (inr refl), none_of_line (g.W.Write.contents c.args.output.now))

@@ -1,5 +1,0 @@
-use Rattle.rd_program.proofs.ImportLemmas.{done_answer}
-use Rattle.rd_program.proofs.import.done_by.Goals as goal
-
-pub returns-in_default : goal.returns-in_default
-returns-in_default c = (done_answer _ c.in_default.not-Refused).1
