@@ -28,7 +28,7 @@ unasked told clock other r same dayless = subst (λ c. IsUnasked (moment_of told
 -- ---- why the clock is named
 
 -- a desk that was opened and is still so, or was read
-opened_to_read : {S : Type 0} (g : Ghosts S) (before opened last : Held S) → IsMigrated g before opened → IsStillOrRead g opened last → IsOpenedToRead g before last
+pub opened_to_read : {S : Type 0} (g : Ghosts S) (before opened last : Held S) → IsMigrated g before opened → IsStillOrRead g opened last → IsOpenedToRead g before last
 opened_to_read g before opened last at (inl still) = inl (subst (IsMigrated g before) (sym still) at)
 opened_to_read g before opened last at (inr keeps) = inr (opened, at, keeps)
 

@@ -19,7 +19,12 @@ module _ {S D : Type 0} (old mid new : World S D) where
       subst (ChangesStore old) (sym back)
       (ap (λ (w : World S D). record w { clock = mid.clock; stands = new.stands; left = new.left; wanted = mid.wanted; sums = mid.sums }) changes)
 
-  -- a door is lent
+  -- a door is lent, after the clock was looked at
+  pub clock_doors : ChangesClock old mid → ChangesDoors mid new → ChangesDoors old new
+  clock_doors clock doors =
+      subst (ChangesDoors old) (sym doors) (ap (λ (w : World S D). record w { clock = new.clock; doors = new.doors; limits = new.limits }) clock)
+
+  -- after a store was opened
   pub opened_doors : OpensStore old mid → ChangesDoors mid new → ChangesStoreAndDoors old new
   opened_doors opened doors =
       subst (ChangesStoreAndDoors old) (sym doors)

@@ -1,22 +1,26 @@
 -- What words leave of the store, by what is asked for.
-use Rattle.std.proofs.Common.{◌≡◌, ℕ, List, [], Option, Some, Result, Ok, Err, IfErr, IfSome, append-nil, inl, inr, subst, sym}
+use Rattle.std.proofs.Common.{◌≡◌, ◌⊎◌, ℕ, List, [], Option, Some, Result, Ok, Err, IfErr, IfSome, append-nil, inl, inr, subst, sym}
 use Rattle.std.proofs.KnownBytes.{Appends-kept, Appends-trans}
 use Rattle.std.specs.Io.KnownBytes.{Appends, Keeps}
 use Rattle.sqlite.specs.Held.{Held}
 use Rattle.sqlite.specs.Store.{Ghosts}
 use Rattle.rd_store.specs.Held.{Lasts}
-use Rattle.rd_store.specs.Migrated.{IsMigrated}
+use Rattle.rd_store.specs.Migrated.{IsMigrated, IsNotMigrated}
+use Rattle.rd_store.specs.declared.faults.OpenFault.TheVariants as open_fault
 use Rattle.rd_store.proofs.Laws.{lasts_then}
 use Rattle.rd_http.specs.declared.serve.Ended.{Ended}
 use Rattle.rd_http.specs.declared.serve.Ended.TheVariants as ended
-use Rattle.rd_program.specs.Leaves.{HasListened, Leaves, LeavesServe}
+use Rattle.rd_program.specs.Asked.{IsOpenedToRead, IsStillOrRead}
+use Rattle.rd_program.specs.Leaves.{Leaves, LeavesUnopened}
+use Rattle.rd_program.specs.Visiting.{HasListened, LeavesServe}
 use Rattle.rd_commands.specs.Output.{AppendsPart}
 use Rattle.rd_commands.specs.Serving.{Place}
 use Rattle.rd_commands.specs.Refusals.{IsDeviceOrMemory}
-use Rattle.rd_program.specs.Serving.{RefusesToEnd, listening_at, served_line}
+use Rattle.rd_program.specs.Serving.{IsOpenRefusal, RefusesToEnd, RefusesVisits, listening_at, served_line}
 use Rattle.rd_commands.specs.declared.refusal.Refusal.{Refusal}
-use Rattle.rd_commands.specs.declared.refusal.Refusal.TheVariants.{Device, NoMemory}
-use Rattle.rd_program.proofs.LeftStores.{after_opening}
+use Rattle.rd_commands.specs.declared.refusal.Refusal.TheVariants.{Clock, Device, NoMemory, Store}
+use Rattle.rd_program.proofs.DaylessMoments.{opened_to_read}
+use Rattle.rd_program.proofs.LeftStores.{after_opening, leaves_weaker, none_left}
 
 -- ---- visits
 
@@ -27,21 +31,36 @@ module _ {S : Type 0} (g : Ghosts S) where
   lasts_left was old new opened last conn is lasts same took =
       after_opening g was old new (Lasts g) opened last conn is (λ before at. lasts_then g before opened last at.lasts lasts) same took
 
-  pub unserved_left : (was old new : Option (Held S)) (opened conn : Held S) → IfSome old (λ before. IsMigrated g before opened)
-      → conn ≡ opened → IfSome new (λ held. Some conn ≡ Some held) → Leaves was old new (Lasts g)
-  unserved_left was old new opened conn is same took = after_opening g was old new (Lasts g) opened opened conn is (λ before at. at.lasts) same took
+  -- where there were none the desk was opened, and at most read
+  pub read_left : (was old new : Option (Held S)) (opened last conn : Held S) → IfSome old (λ before. IsMigrated g before opened) → IsStillOrRead g opened last
+      → conn ≡ last → IfSome new (λ held. Some conn ≡ Some held) → Leaves was old new (IsOpenedToRead g)
+  read_left was old new opened last conn is read same took =
+      after_opening g was old new (IsOpenedToRead g) opened last conn is (λ before at. opened_to_read g before opened last at read) same took
 
-  -- where there were none the desk was opened, and nothing more was done
-  pub opened_left : (was old new : Option (Held S)) (opened conn : Held S) → IfSome old (λ before. IsMigrated g before opened)
-      → conn ≡ opened → IfSome new (λ held. Some conn ≡ Some held) → Leaves was old new (IsMigrated g)
-  opened_left was old new opened conn is same took = after_opening g was old new (IsMigrated g) opened opened conn is (λ before at. at) same took
+  -- no visits were served, for this reason
+  pub serve_not_begun : (was old new : Option (Held S)) (place : Place) (out written : Option (List ℕ)) (refusal : Refusal) → RefusesVisits place out written refusal
+      → Leaves was old new (IsOpenedToRead g) → LeavesServe g was old new place out written refusal
+  serve_not_begun was old new place out written Clock kept left = inr left
+  serve_not_begun was old new place out written Device failed left = inr left
+  serve_not_begun was old new place out written NoMemory failed left = inr left
+  serve_not_begun was old new place out written Store kept left =
+      leaves_weaker was old new (IsOpenedToRead g) (λ before after. IsNotMigrated g before after open_fault.Sql ⊎ IsOpenedToRead g before after) (λ before after read. inr read) left
+  serve_not_begun was old new place out written refusal failed left = absurd failed.0
 
-  -- the device failed, or memory was refused, before the first
-  pub serve_not_begun : (was old new : Option (Held S)) (place : Place) (out written : Option (List ℕ)) (refusal : Refusal) → IsDeviceOrMemory refusal
-      → Leaves was old new (IsMigrated g) → LeavesServe g was old new place out written refusal
-  serve_not_begun was old new place out written Device failure left = inr left
-  serve_not_begun was old new place out written NoMemory failure left = inr left
-  serve_not_begun was old new place out written refusal failure left = absurd failure
+  -- nor was a desk opened
+  pub serve_unopened : (was old new : Option (Held S)) (place : Place) (out written : Option (List ℕ)) (refusal : Refusal) → IsOpenRefusal refusal
+      → LeavesUnopened g was old new refusal → LeavesServe g was old new place out written refusal
+  serve_unopened was old new place out written refusal (inl is) left =
+      subst (LeavesServe g was old new place out written) (sym is) (subst (LeavesUnopened g was old new) is left)
+  serve_unopened was old new place out written refusal (inr (inl is)) left =
+      subst (LeavesServe g was old new place out written) (sym is) (subst (LeavesUnopened g was old new) is left)
+  serve_unopened was old new place out written refusal (inr (inr (inl is))) left =
+      subst (LeavesServe g was old new place out written) (sym is) (subst (LeavesUnopened g was old new) is left)
+  serve_unopened was old new place out written refusal (inr (inr (inr (inl is)))) left =
+      subst (LeavesServe g was old new place out written) (sym is) (leaves_weaker was old new (λ before after. IsNotMigrated g before after open_fault.Sql)
+      (λ before after. IsNotMigrated g before after open_fault.Sql ⊎ IsOpenedToRead g before after) (λ before after failed. inl failed) (subst (LeavesUnopened g was old new) is left))
+  serve_unopened was old new place out written refusal (inr (inr (inr (inr is)))) left =
+      subst (LeavesServe g was old new place out written) (sym is) (inr (none_left was old new (IsOpenedToRead g) (subst (LeavesUnopened g was old new) is left)))
 
   -- after they began, the first line is written
   listened_part : (place : Place) (visits : ℕ) (out mid written : Option (List ℕ)) → Appends out mid (listening_at place) → AppendsPart mid written (served_line visits)
@@ -63,7 +82,7 @@ module _ {S : Type 0} (g : Ghosts S) where
   ended_left was old new ended.Count place visits out mid written refusal first refused =
       of_device was old new place out written refusal refused.0 (listened_part place visits out mid written first refused.1)
   ended_left was old new ended.Clock place visits out mid written refusal first refused =
-      subst (LeavesServe g was old new place out written) (sym refused.0) (listened_kept place out mid written first refused.1)
+      subst (LeavesServe g was old new place out written) (sym refused.0) (inl (listened_kept place out mid written first refused.1))
   ended_left was old new ended.Shut place visits out mid written refusal first refused =
       subst (LeavesServe g was old new place out written) (sym refused.0) (inl (listened_kept place out mid written first refused.1))
 

@@ -1,8 +1,10 @@
 -- A desk that is asked whether the clock is behind its checks, before it is asked what the command asks.
 use Rattle.std.proofs.Common.{◌≡◌, ◌≢◌, ◌⊎◌, ◌∙◌, Bool, ℕ, ℤ, List, Option, Result, Ok, Err, IfErr, IfOk, IfSome, IsTrue, None, OnOk, Some, ap, false, inl, inr, refl, subst, sym, true}
+use Rattle.std.specs.Prelude.{MatchBool}
 use Rattle.sqlite.specs.Held.{Held}
 use Rattle.sqlite.specs.Store.{Ghosts}
 use Rattle.rd_holdings.specs.State.{Desk}
+use Rattle.rd_policy.specs.Days.{HasDay}
 use Rattle.rd_policy.specs.Zones.{day_number}
 use Rattle.rd_policy.specs.declared.zone.Zone.{Zone}
 use Rattle.rd_protocol.specs.declared.refusal.Refusal.TheVariants as desk_refusal
@@ -13,10 +15,9 @@ use Rattle.rd_commands.specs.declared.refusal.Refusal.{Refusal}
 use Rattle.rd_commands.specs.declared.refusal.Refusal.TheVariants.{NoAccession, StaffOnly, Store, UnknownKey}
 use Rattle.rd_commands.specs.declared.words.Question.{Question}
 use Rattle.rd_commands.specs.declared.words.Question.TheVariants.{Catalogue, Check, Show}
-use Rattle.rd_commands.specs.declared.words.Shown.{Shown}
 use Rattle.rd_program.specs.Asking.{IsAskRefusal}
 use Rattle.rd_program.specs.Leaves.{Checks, IsDayAt, IsSame, LeavesDesk, StepsOf, TakesIn, moment_of}
-use Rattle.rd_program.specs.OnTime.{IsOnTime, StoodOnTime, WasOnTime, is_dated, must_be_on_time}
+use Rattle.rd_program.specs.OnTime.{IsBehind, IsOnTime, IsOnTimeBy, ServesOnTime, StoodOnTime, WasOnTime, must_be_on_time}
 use Rattle.rd_program.specs.Serving.{IsClockRefusal}
 use Rattle.rd_program.specs.Showing.{IsDueOn, IsRefusedFor, OfDesk}
 use Rattle.rd_program.proofs.DeskSteps.{steps_on, takes_on}
@@ -76,9 +77,6 @@ still_steps g old new badge Days Catalogue leaves = leaves
 still_steps g old new badge Days (Show what) leaves = leaves
 still_steps g old new badge Days (Check acc) leaves = record { lasts = leaves.lasts; reached = λ is_open. inl (leaves.reached is_open) }
 
-pub still_takes : {S : Type 0} (g : Ghosts S) (old new : Held S) (badge : List ℕ) (Days : ℤ → Type 0) → LeavesDesk g IsSame old new → LeavesDesk g (TakesIn badge Days) old new
-still_takes g old new badge Days leaves = record { lasts = leaves.lasts; reached = λ is_open. inl (leaves.reached is_open) }
-
 -- ---- why no day is found
 
 pub day_asks : (refusal : Refusal) → IsClockRefusal refusal ⊎ (refusal ≡ Store) → IsAskRefusal refusal
@@ -120,10 +118,6 @@ module _ {S : Type 0} (g : Ghosts S) (old mid new : Held S) (lasts : Lasts g mid
       → OnOk r (IfSome clock (λ seconds. IsOpen g new → IsOnTime (day_number seconds zone) (desk g old)))
   on_time_from r moment trusting held at on = on_clock r (subst (λ m. IsDayAt (moment_of m clock) zone day) (none_held moment trusting held) at) (on held)
 
--- what is shown is the same on every day
-pub show_undated : (what : Shown) (asked : Question) → asked ≡ Show what → is_dated asked ≡ true → ⊥
-show_undated what asked is dated = unset (subst (λ q. is_dated q ≡ true) is dated)
-
 -- ---- the desk that stood
 
 module _ {S : Type 0} (g : Ghosts S) (old new : Option (Held S)) (opened last conn : Held S) (clock : Option ℤ) (zone : Zone) where
@@ -139,3 +133,47 @@ module _ {S : Type 0} (g : Ghosts S) (old new : Option (Held S)) (opened last co
       go (Some seconds) on =
           ends_with g old new opened last conn (StoodOnTime g (day_number seconds zone)) is
           (λ before at is_open. (desk g opened, at.is (lasts.was_open is_open), on is_open)) same took
+
+-- ---- visits by the clock
+
+-- a clock that is looked at shows what it shows next, and does not fail where it shows that
+pub shown_some : (clock : Option ℤ) (seconds : ℤ) → IfSome clock (λ moment. seconds ≡ moment) → IfSome clock (λ moment. Some seconds ≡ Some moment)
+shown_some None seconds is = tt
+shown_some (Some moment) seconds is = ap Some is
+
+no_both : {T E : Type 0} (r : Result T E) (fault : E) (value : T) → r ≡ Err fault → r ≡ Ok value → ⊥
+no_both r fault value failed given = cc
+
+pub shown_none : {E : Type 0} (r : Result ℤ E) (fault : E) (clock : Option ℤ) → r ≡ Err fault → IfSome clock (λ moment. r ≡ Ok moment) → IfSome clock (λ moment. None ≡ Some moment)
+shown_none r fault None failed sure = tt
+shown_none r fault (Some moment) failed sure = absurd (no_both r fault moment failed sure)
+
+-- a day that is not behind is on time
+pub late_on_time : {S E : Type 0} (g : Ghosts S) (r : Result Bool E) (shown : Option ℤ) (seconds day : ℤ) (zone : Zone) (old new : Held S) → shown ≡ Some seconds
+    → IfOk r (λ late. IsOpen g new → MatchBool late (IsBehind day (desk g old)) (IsOnTime day (desk g old))) → day ≡ day_number seconds zone
+    → IfOk r (λ late. late ≡ false → IsOnTimeBy g shown zone old new)
+late_on_time g (Err error) shown seconds day zone old new is found by = tt
+late_on_time g (Ok late) shown seconds day zone old new is found by = λ timely. subst (λ o. IsOnTimeBy g o zone old new) (sym is) (λ has is_open.
+    subst (λ d. IsOnTime d (desk g old)) by (subst (λ b. MatchBool b (IsBehind day (desk g old)) (IsOnTime day (desk g old))) timely (found is_open)))
+
+-- the moment that was looked at is that of the clock
+pub clock_on_time : {S : Type 0} (g : Ghosts S) (clock shown : Option ℤ) (zone : Zone) (old mid new : Held S) → (IsOpen g new → IsOpen g mid)
+    → IfSome clock (λ moment. shown ≡ Some moment) → IsOnTimeBy g shown zone old mid → IsOnTimeBy g clock zone old new
+clock_on_time g None shown zone old mid new was sure on = tt
+clock_on_time g (Some seconds) shown zone old mid new was sure on = λ has is_open. go (subst (λ o. IsOnTimeBy g o zone old mid) sure on) has is_open
+  where
+    go : IsOnTimeBy g (Some seconds) zone old mid → HasDay seconds → IsOpen g new → IsOnTime (day_number seconds zone) (desk g old)
+    go on has is_open = on has (was is_open)
+
+-- and so it was by the desk that stood
+pub served_on_time : {S : Type 0} (g : Ghosts S) (old new : Option (Held S)) (opened last conn : Held S) (clock later : Option ℤ) (zone asked : Zone)
+    → IfSome old (λ before. IsMigrated g before opened) → Lasts g opened last → conn ≡ last → IfSome new (λ held. Some conn ≡ Some held)
+    → later ≡ clock → zone ≡ asked → IsOnTimeBy g later zone opened last → ServesOnTime g clock asked old new
+served_on_time g old new opened last conn clock later zone asked is lasts same took shown by on =
+    go clock (subst (λ z. IsOnTimeBy g clock z opened last) by (subst (λ c. IsOnTimeBy g c zone opened last) shown on))
+  where
+    go : (c : Option ℤ) → IsOnTimeBy g c asked opened last → ServesOnTime g c asked old new
+    go None on = tt
+    go (Some seconds) on = λ has.
+        ends_with g old new opened last conn (StoodOnTime g (day_number seconds asked)) is
+        (λ before at is_open. (desk g opened, at.is (lasts.was_open is_open), on has is_open)) same took

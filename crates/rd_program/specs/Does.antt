@@ -42,14 +42,14 @@ use Rattle.rd_program.specs.Doors.{AsksPath, AsksSums, AsksThen}
 use Rattle.rd_program.specs.Extracting.{Extracts, OfImage, RefusesExtract}
 use Rattle.rd_program.specs.Importing.{RefusesImport, TellsRows}
 use Rattle.rd_program.specs.Inits.{LeavesInit, MakesDesk, RefusesInit, done_line}
-use Rattle.rd_program.specs.Leaves.{HasBoth, IsDayAt, IsSame, Leaves, LeavesServe, LeavesStore, NamesOpening, OnEnded, StepsOf, TakesUnlessDry, moment_of}
-use Rattle.rd_program.specs.OnTime.{IsBehindIn, WasOnTime, is_dated, must_be_on_time}
+use Rattle.rd_program.specs.Leaves.{HasBoth, IsDayAt, IsSame, Leaves, LeavesStore, NamesOpening, OnEnded, StepsOf, TakesUnlessDry, moment_of}
+use Rattle.rd_program.specs.OnTime.{IsBehindIn, ServesOnTime, WasOnTime, is_dated, must_be_on_time}
 use Rattle.rd_program.specs.Rows.{IsBadSheetDue}
 use Rattle.rd_program.specs.Serving.{AreLimitsOf, IsUnasked, RefusesServe, WritesOnceLent, serve_text}
 use Rattle.rd_program.specs.Showing.{AnswersOneQuestion, EndsWith, badge_of}
 use Rattle.rd_program.specs.Sifting.{SiftsSheetIn, fate_of}
 use Rattle.rd_program.specs.StaffKeys.{LeavesStaffKey, PutsStaff, RefusesStaffKey}
-use Rattle.rd_program.specs.Visiting.{ServesDoor}
+use Rattle.rd_program.specs.Visiting.{LeavesServe, ServesDoor}
 use Rattle.rd_program.specs.declared.import.Way.{Way}
 use Rattle.rd_program.specs.World.{ChangesFolders, ChangesStore, ChangesStoreAndDoors, OpensStore, World}
 use Rattle.rd_program.specs.World.Wanted.{NewAt, StoreAt}
@@ -66,7 +66,7 @@ pub record Io : Type 0 where
 module _ {S D : Type 0} (g : Ghosts S) (before after : World S D) where
   -- A connection to the store at a path was asked for, and to no other. A machine that shows its connections had one for it
   -- where the command ends well, and has taken one back.
-  pub record UsesStore (path : List ℕ) (result : Result Done Refusal) : Type 0 where
+  pub record UsesStore {T : Type 0} (path : List ℕ) (result : Result T Refusal) : Type 0 where
     pub asked : AsksPath before.wanted path after.wanted
     pub there : OnEnded result (HasBoth before.shows (before.stands path) after.left)
 
@@ -179,7 +179,8 @@ module _ {S D : Type 0} (g : Ghosts S) (before after : World S D) where
       pub bad_sheet : IfErr result (λ refusal. IfSome (before.sheets ask.sheet.now) (λ bytes. IsBadSheetDue bytes refusal))
 
     -- `serve` writes where visits come, takes as many there as its words say, replies to each, and says how many there were; or
-    -- it names why it ends before that. It writes nothing before a door is lent.
+    -- it names why it ends before that. It writes nothing before a door is lent, and nothing by a clock that is behind the
+    -- recorded checks and is not trusted.
     pub record DoesServe (told : D → Option VisitsSoFar) (coming : D → Option (List Coming)) (ask : ServeAsk) (result : Result Done Refusal) : Type 0 where
       pub frame : ChangesStoreAndDoors before after
       pub store : UsesStore ask.store.now result
@@ -192,6 +193,7 @@ module _ {S D : Type 0} (g : Ghosts S) (before after : World S D) where
           (before.stands ask.store.now) after.left)
       pub limits : OnOk result (IsTrue before.shows → IsSomeAnd after.limits (AreLimitsOf ask.timeouts))
       pub lent : WritesOnceLent before.shows after.limits out written
+      pub on_time : ask.is_trusting ≡ false → Keeps out written ⊎ ServesOnTime g before.clock ask.zone (before.stands ask.store.now) after.left
 
 -- what a command does
 abbrev pub Does : {S D : Type 0} → Ghosts S → (D → Option VisitsSoFar) → (D → Option (List Coming)) → World S D → World S D → Io → Ask → Result Done Refusal → Type 0

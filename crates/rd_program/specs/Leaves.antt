@@ -2,8 +2,7 @@
 -- that the machine took back, if the machine shows both. If there was no connection, the machine
 -- took none back, and nothing more is stated of such a run: only the machine knows what is in the
 -- file then.
-use Rattle.std.specs.Prelude.{◌≡◌, ◌⊎◌, ⊤, ◌++◌, ℕ, ℤ, List, [], ◌∷◌, Err, IfSome, IsSome, IsTrue, Bool, None, Ok, Option, Result, Some, false, true}
-use Rattle.std.specs.Io.KnownBytes.{Appends}
+use Rattle.std.specs.Prelude.{◌≡◌, ◌⊎◌, ⊤, ℕ, ℤ, List, [], ◌∷◌, Err, IfSome, IsSome, IsTrue, Bool, None, Ok, Option, Result, Some, false, true}
 use Rattle.sqlite.specs.Store.{Ghosts}
 use Rattle.sqlite.specs.Effect.{Database}
 use Rattle.sqlite.specs.Held.{Held, state}
@@ -12,18 +11,16 @@ use Rattle.rd_policy.specs.Zones.{day_number}
 use Rattle.rd_policy.specs.declared.zone.Zone.{Zone}
 use Rattle.rd_store.specs.Created.{IsUntouched}
 use Rattle.rd_store.specs.Held.{IsOpen, Lasts, desk}
-use Rattle.rd_store.specs.Migrated.{IsMigrated, IsNotMigrated, SpellsDesk}
+use Rattle.rd_store.specs.Migrated.{IsNotMigrated, SpellsDesk}
 use Rattle.rd_holdings.specs.State.{Desk}
 use Rattle.rd_store.specs.declared.faults.OpenFault.TheVariants as open_fault
 use Rattle.rd_protocol.specs.Replies.{IsStep}
 use Rattle.rd_protocol.specs.declared.request.What.{What}
 use Rattle.rd_protocol.specs.declared.request.What.TheVariants as request
-use Rattle.rd_program.specs.Serving.{listening_at}
-use Rattle.rd_commands.specs.Serving.{Place}
 use Rattle.rd_commands.specs.Refusals.{status_of}
 use Rattle.rd_commands.specs.Sheets.{Says}
 use Rattle.rd_commands.specs.declared.refusal.Refusal.{Refusal}
-use Rattle.rd_commands.specs.declared.refusal.Refusal.TheVariants.{Clock, Device, Inconsistent, NoMemory, NotADesk, Store, Version}
+use Rattle.rd_commands.specs.declared.refusal.Refusal.TheVariants.{Inconsistent, NoMemory, NotADesk, Store, Version}
 use Rattle.rd_commands.specs.declared.sheet.SheetRow.{SheetRow}
 use Rattle.rd_commands.specs.declared.words.Question.{Question}
 use Rattle.rd_commands.specs.declared.words.Question.TheVariants as question
@@ -97,21 +94,6 @@ IsOfOpenDesk NotADesk = ⊥
 IsOfOpenDesk Version = ⊥
 IsOfOpenDesk Inconsistent = ⊥
 IsOfOpenDesk refusal = ⊤
-
--- ---- visits
-
--- the line that says where visits come was written, and perhaps more
-abbrev pub HasListened : Place → Option (List ℕ) → Option (List ℕ) → Type 0
-HasListened place old new = (more : List ℕ) × Appends old new (listening_at place ++ more)
-
--- What stands after `serve` fails: no desk was opened; or one was, and nothing more was done, unless
--- the line about visits was written, and visits may have come.
-abbrev pub LeavesServe : {S : Type 0} → Ghosts S → Option (Held S) → Option (Held S) → Option (Held S) → Place
-    → Option (List ℕ) → Option (List ℕ) → Refusal → Type 0
-LeavesServe g was old new place out written Clock = HasListened place out written
-LeavesServe g was old new place out written Device = HasListened place out written ⊎ Leaves was old new (IsMigrated g)
-LeavesServe g was old new place out written NoMemory = HasListened place out written ⊎ Leaves was old new (IsMigrated g)
-LeavesServe g was old new place out written refusal = LeavesUnopened g was old new refusal
 
 -- ---- what a desk is asked
 

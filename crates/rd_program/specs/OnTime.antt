@@ -37,6 +37,11 @@ WasOnTime g clock zone stood left = IfSome clock (λ seconds. EndsWith stood lef
 abbrev pub StoodBehind : {S : Type 0} → Ghosts S → ℤ → Held S → Held S → Type 0
 StoodBehind g day before last = IsOpen g last → (found : Desk) × SpellsDesk (state g before).now found × IsBehind day found
 
+-- The desk that stood was on time by the clock, if the machine shows that and its moment has a day: each visit finds a
+-- moment that has none.
+abbrev pub ServesOnTime : {S : Type 0} → Ghosts S → Option ℤ → Zone → Option (Held S) → Option (Held S) → Type 0
+ServesOnTime g clock zone stood left = IfSome clock (λ seconds. HasDay seconds → EndsWith stood left (StoodOnTime g (day_number seconds zone)))
+
 -- ---- inside
 
 -- the answer to a question depends on the day
@@ -62,3 +67,7 @@ abbrev pub IsBehindIn : {S : Type 0} → Ghosts S → Bool → Bool → Option �
 IsBehindIn g dated must moment zone stood left Clock =
     IfSome moment (λ seconds. HasDay seconds → (dated ≡ true) × IsTrue must × EndsWith stood left (StoodBehind g (day_number seconds zone)))
 IsBehindIn g dated must moment zone stood left refusal = ⊤
+
+-- an open desk was on time by the moment, if there is one and it has a day
+abbrev pub IsOnTimeBy : {S : Type 0} → Ghosts S → Option ℤ → Zone → Held S → Held S → Type 0
+IsOnTimeBy g shown zone opened last = IfSome shown (λ seconds. HasDay seconds → IsOpen g last → IsOnTime (day_number seconds zone) (desk g opened))

@@ -72,13 +72,21 @@ IsUnaskedRefusal refusal = IsOpenRefusal refusal ⊎ IsClockRefusal refusal
 abbrev pub IsUnasked : {T : Type 0} → Option ℤ → Result T Refusal → Type 0
 IsUnasked moment result = IfSome moment (λ seconds. ¬ HasDay seconds → IsRefused IsUnaskedRefusal result)
 
--- Why `serve` fails, and what was written then: nothing if the desk was not opened, the first line
--- if a moment had no day, and a front part of both lines if the device failed or memory ran out.
+-- Why `serve` fails, and what was written then: nothing if the desk was not opened, or its checks were not read; nothing if
+-- the clock is behind, and the first line if a moment had no day; and a front part of both lines if the device failed or
+-- memory ran out.
 abbrev pub RefusesServe : Refusal → Place → ℕ → Option (List ℕ) → Option (List ℕ) → Type 0
-RefusesServe Clock place count old new = Appends old new (listening_at place)
+RefusesServe Clock place count old new = Keeps old new ⊎ Appends old new (listening_at place)
 RefusesServe Device place count old new = AppendsPart old new (serve_text place count)
 RefusesServe NoMemory place count old new = AppendsPart old new (serve_text place count)
 RefusesServe refusal place count old new = Keeps old new × IsOpenRefusal refusal
+
+-- Why no visits are served, and what was written then: nothing if the clock is behind or the checks were not read, and a front
+-- part of the first line if the device failed or memory ran out.
+abbrev pub RefusesVisits : Place → Option (List ℕ) → Option (List ℕ) → Refusal → Type 0
+RefusesVisits place old new Clock = Keeps old new
+RefusesVisits place old new Store = Keeps old new
+RefusesVisits place old new refusal = IsDeviceOrMemory refusal × AppendsPart old new (listening_at place)
 
 -- Why a run of visits that ended so is no success, and what was written then: after all visits the
 -- device failed or memory ran out, a moment had no day, or the door shut.

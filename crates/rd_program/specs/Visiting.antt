@@ -1,16 +1,24 @@
 -- What `serve` does at the door that the words name.
-use Rattle.std.specs.Prelude.{◌≡◌, ℕ, IfSome, IsSomeAnd, List, Option}
+use Rattle.std.specs.Prelude.{◌≡◌, ◌⊎◌, ◌++◌, ℕ, IfSome, IsSomeAnd, List, Option}
+use Rattle.std.specs.Io.KnownBytes.{Appends}
 use Rattle.sqlite.specs.Held.{Held, state}
 use Rattle.sqlite.specs.Store.{Ghosts}
 use Rattle.rd_policy.specs.declared.zone.Zone.{Zone}
 use Rattle.rd_store.specs.Held.{IsOpen, desk}
-use Rattle.rd_store.specs.Migrated.{SpellsDesk}
+use Rattle.rd_store.specs.Migrated.{IsNotMigrated, SpellsDesk}
+use Rattle.rd_store.specs.declared.faults.OpenFault.TheVariants as open_fault
 use Rattle.rd_holdings.specs.State.{Desk}
 use Rattle.rd_messages.specs.DoorVisits.{Coming, VisitsSoFar}
 use Rattle.rd_http.specs.Runs.{HasRun}
 use Rattle.rd_http.specs.Visits.{IsReplied}
 use Rattle.rd_http.specs.declared.serve.Ended.TheVariants.{Count}
 use Rattle.rd_http.specs.declared.serve.Served.{Served}
+use Rattle.rd_commands.specs.Serving.{Place}
+use Rattle.rd_commands.specs.declared.refusal.Refusal.{Refusal}
+use Rattle.rd_commands.specs.declared.refusal.Refusal.TheVariants.{Clock, Device, NoMemory, Store}
+use Rattle.rd_program.specs.Asked.{IsOpenedToRead}
+use Rattle.rd_program.specs.Leaves.{Leaves, LeavesUnopened}
+use Rattle.rd_program.specs.Serving.{listening_at}
 use Rattle.rd_program.specs.Showing.{EndsWith}
 
 -- The visits of a door, by what it tells of them before and after, are those of a run over a desk with the clocks of a
@@ -36,3 +44,20 @@ pub record ServesVisits {S D : Type 0} (g : Ghosts S) (told : D → Option Visit
 abbrev pub ServesDoor : {S D : Type 0} → Ghosts S → (D → Option VisitsSoFar) → (D → Option (List Coming)) → ℕ → Zone → Option D → Option D → Option (Held S) → Option (Held S) → Type 0
 ServesDoor g told coming count zone door later stood left =
     IfSome door (λ before. IsSomeAnd later (λ after. EndsWith stood left (ServesVisits g told coming count zone before after)))
+
+-- ---- what is left where it fails
+
+-- the line that says where visits come was written, and perhaps more
+abbrev pub HasListened : Place → Option (List ℕ) → Option (List ℕ) → Type 0
+HasListened place old new = (more : List ℕ) × Appends old new (listening_at place ++ more)
+
+-- What stands after `serve` fails: no desk was opened; or one was, and at most read since; unless the line about visits was
+-- written, and visits may have come.
+abbrev pub LeavesServe : {S : Type 0} → Ghosts S → Option (Held S) → Option (Held S) → Option (Held S) → Place
+    → Option (List ℕ) → Option (List ℕ) → Refusal → Type 0
+LeavesServe g was old new place out written Clock = HasListened place out written ⊎ Leaves was old new (IsOpenedToRead g)
+LeavesServe g was old new place out written Device = HasListened place out written ⊎ Leaves was old new (IsOpenedToRead g)
+LeavesServe g was old new place out written NoMemory = HasListened place out written ⊎ Leaves was old new (IsOpenedToRead g)
+LeavesServe g was old new place out written Store =
+    Leaves was old new (λ before after. IsNotMigrated g before after open_fault.Sql ⊎ IsOpenedToRead g before after)
+LeavesServe g was old new place out written refusal = LeavesUnopened g was old new refusal

@@ -1,10 +1,10 @@
 //! Opens the desk in the file of a store, and finds the day on which to ask it.
 
-ghost use Rattle.std.specs.Prelude.{◌≡◌, ◌⊎◌, Err, IfErr, IfOk, IfSome, IsSome, IsTrue, MatchBool, None, Ok, false, true};
+ghost use Rattle.std.specs.Prelude.{◌≡◌, ◌⊎◌, Err, IfErr, IfOk, IfSome, IsSome, IsTrue, MatchBool, None, Ok, Some, false, true};
 ghost use Rattle.rd_program.specs.Doors.{AsksPath};
 ghost use Rattle.rd_program.specs.Asked.{IsClockOn, IsStillOrRead};
 ghost use Rattle.rd_program.specs.Leaves.{GivesBack, IsDayAt, LeavesUnopened, moment_of};
-ghost use Rattle.rd_program.specs.OnTime.{IsBehind, IsBehindOn, IsOnTime, must_be_on_time};
+ghost use Rattle.rd_program.specs.OnTime.{IsBehind, IsBehindOn, IsOnTime, IsOnTimeBy, must_be_on_time};
 ghost use Rattle.rd_program.specs.World.{ChangesClock, OpensStore};
 ghost use Rattle.rd_program.specs.Serving.{IsClockRefusal, IsDayless, IsOpenRefusal};
 ghost use Rattle.rd_store.specs.Held.{IsOpen, Keeps, desk as desk_in};
@@ -208,6 +208,7 @@ pub(crate) fn day_on_time<S: Alter, M: Machine>(
 pub(crate) fn clock_shown<M: Machine>(is_trusting: bool, machine: &mut M) -> Option<i64>
     ensures shown { IfSome result (λ seconds. IfSome (M.seen machine.old).clock (λ moment. seconds ≡ moment)) }
     ensures trusted { IsTrue is_trusting → result ≡ None }
+    ensures sure { is_trusting ≡ false → IfSome (M.seen machine.old).clock (λ moment. result ≡ Some moment) }
     ensures frame { ChangesClock (M.seen machine.old) (M.seen machine.new) }
 {
     if is_trusting {
@@ -219,21 +220,22 @@ pub(crate) fn clock_shown<M: Machine>(is_trusting: bool, machine: &mut M) -> Opt
     }
 }
 
-/// Whether an open desk has recorded a check of a later day than the one after the day of a moment, or does not say. It
-/// changes nothing. It says no if there is no moment, and if the moment has no day: each visit finds that too.
-pub(crate) fn is_late<S: Alter>(shown: Option<i64>, desk: &mut Desk<S>) -> bool
-    ensures moment { IsTrue result → IsSome shown }
+/// Whether an open desk has recorded a check of a later day than the one after the day of a moment. It changes nothing. It
+/// says no if there is no moment, and if the moment has no day: each visit finds that too.
+///
+/// It fails with `Store`.
+pub(crate) fn is_late<S: Alter>(shown: Option<i64>, desk: &mut Desk<S>) -> Result<bool, Refusal>
+    ensures moment { IfOk result (λ late. IsTrue late → IsSome shown) }
     ensures reads { IsStillOrRead S.Store desk.old.store desk.new.store }
     ensures zone { desk.new.zone ≡ desk.old.zone }
+    ensures on_time { IfOk result (λ late. late ≡ false → IsOnTimeBy S.Store shown desk.old.zone desk.old.store desk.new.store) }
+    ensures refused { IfErr result (λ refusal. refusal ≡ Refusal.Store) }
 {
-    let Some(seconds) = shown else {
-        return false;
-    };
-    let Ok(day) = desk.day(seconds) else {
-        return false;
-    };
-    match is_behind(day, desk) {
-        Ok(behind) => behind,
-        Err(_) => true,
+    match shown {
+        Some(seconds) => match desk.day(seconds) {
+            Ok(day) => is_behind(day, desk),
+            Err(_) => Ok(false),
+        },
+        None => Ok(false),
     }
 }

@@ -1,15 +1,17 @@
-ghost use Rattle.std.specs.Prelude.{◌≡◌, IfErr, IfOk, IfSome, IsSomeAnd, IsTrue, OnErr, OnOk};
-ghost use Rattle.std.specs.Io.KnownBytes.{Appends};
+ghost use Rattle.std.specs.Prelude.{◌≡◌, ◌⊎◌, IfErr, IfOk, IfSome, IsSomeAnd, IsTrue, OnErr, OnOk, false};
+ghost use Rattle.std.specs.Io.KnownBytes.{Appends, Keeps};
 ghost use Rattle.std.specs.String.{string_bytes};
 ghost use Rattle.rd_store.specs.Held.{Lasts};
 ghost use Rattle.rd_commands.specs.Serving.{place_of};
-ghost use Rattle.rd_program.specs.Doors.{AsksPath};
-ghost use Rattle.rd_program.specs.Leaves.{GivesBack, HasBoth, Leaves, LeavesServe, OnEnded};
+ghost use Rattle.rd_program.specs.Does.{UsesStore};
+ghost use Rattle.rd_program.specs.Asked.{IsStillOrRead};
+ghost use Rattle.rd_program.specs.Leaves.{GivesBack, Leaves};
+ghost use Rattle.rd_program.specs.OnTime.{IsOnTimeBy, ServesOnTime};
 ghost use Rattle.rd_program.specs.World.{ChangesDoors, ChangesStoreAndDoors};
-ghost use Rattle.rd_program.specs.Visiting.{RunsVisits, ServesDoor};
+ghost use Rattle.rd_program.specs.Visiting.{LeavesServe, RunsVisits, ServesDoor};
 ghost use Rattle.rd_commands.specs.Output.{AppendsPart};
 ghost use Rattle.rd_commands.specs.Refusals.{IsDeviceOrMemory};
-ghost use Rattle.rd_program.specs.Serving.{AreLimitsOf, RefusesServe, RefusesToEnd, WritesOnceLent, listening_at, listening_line, listening_on, serve_text, served_line};
+ghost use Rattle.rd_program.specs.Serving.{AreLimitsOf, RefusesServe, RefusesToEnd, RefusesVisits, WritesOnceLent, listening_at, listening_line, listening_on, serve_text, served_line};
 
 use crate::machine::Machine;
 use crate::open_desk::{clock_shown, is_late, open_desk};
@@ -93,23 +95,11 @@ fn time_limits(timeouts: Timeouts) -> TimeLimits
     }
 }
 
-/// A run that has served nobody, since the clock is behind the recorded checks.
-fn none_served() -> Served
-    ensures { result.ended ≡ Ended.Clock }
-{
-    Served {
-        visits: 0,
-        read_faults: 0,
-        write_faults: 0,
-        ended: Ended::Clock,
-    }
-}
-
-/// Serves visits at the place that the command names. It serves nobody, and the run ends as by a moment without a day, if
-/// the clock is not trusted and shows a day that is more than one day before that of a recorded check, or if the checks
-/// cannot be read.
+/// Serves visits at the place that the command names, unless the clock is not trusted and shows a day that is more than one
+/// day before that of a recorded check.
 ///
-/// It fails with `Device` when it cannot open the place or a write fails, and with `NoMemory`.
+/// It fails with `Clock` then, with `Store` when the checks cannot be read, with `Device` when it cannot open the place or a
+/// write fails, and with `NoMemory`.
 fn serve_visits<W: Write, M: Machine>(
     alloc: Global,
     ask: ServeAsk,
@@ -118,34 +108,36 @@ fn serve_visits<W: Write, M: Machine>(
     machine: &mut M,
 ) -> Result<Served, Refusal>
     ensures listening { OnOk result (Appends (W.contents output.old) (W.contents output.new) (listening_at (place_of ask.entry.place))) }
-    ensures cut { OnErr result (AppendsPart (W.contents output.old) (W.contents output.new) (listening_at (place_of ask.entry.place))) }
-    ensures refused { IfErr result IsDeviceOrMemory }
+    ensures refused { IfErr result (RefusesVisits (place_of ask.entry.place) (W.contents output.old) (W.contents output.new)) }
     ensures count { IfOk result (λ served. served.ended ≡ Ended.Count → served.visits ≡ ask.entry.count) }
     ensures lasts { IfOk result (λ _. Lasts M.Disk.Store desk.old.store desk.new.store) }
-    ensures unserved { IfErr result (λ _. desk.new.store ≡ desk.old.store) }
+    ensures unserved { IfErr result (λ _. IsStillOrRead M.Disk.Store desk.old.store desk.new.store) }
     ensures lent { WritesOnceLent (M.seen machine.old).shows (M.seen machine.new).limits (W.contents output.old) (W.contents output.new) }
     ensures frame { ChangesDoors (M.seen machine.old) (M.seen machine.new) }
     ensures limits { IfOk result (λ _. IsTrue (M.seen machine.old).shows → IsSomeAnd (M.seen machine.new).limits (AreLimitsOf ask.entry.timeouts)) }
     ensures visits { IfOk result (λ served. served.ended ≡ Ended.Count → IfSome ((M.seen machine.old).doors (place_of ask.entry.place))
         (λ before. IsSomeAnd ((M.seen machine.new).doors (place_of ask.entry.place)) (λ after.
         RunsVisits M.Disk.Store M.Door.told M.Door.coming desk.old.zone before after served desk.old.store desk.new.store))) }
+    ensures on_time { ask.entry.is_trusting ≡ false → OnOk result (IsOnTimeBy M.Disk.Store (M.seen machine.old).clock desk.old.zone desk.old.store desk.new.store) }
+    ensures begun_on_time { ask.entry.is_trusting ≡ false → OnErr result (Keeps (W.contents output.old) (W.contents output.new)
+        ⊎ IsOnTimeBy M.Disk.Store (M.seen machine.old).clock desk.old.zone desk.old.store desk.new.store) }
 {
     let shown = clock_shown(ask.is_trusting, machine);
+    let late = is_late(shown, desk)?;
+    if late {
+        return Err(Refusal::Clock);
+    }
     let door = match machine.listen(ask.place, time_limits(ask.timeouts)) {
         Ok(door) => door,
         Err(fault) => return Err(fault.or(Refusal::Device)),
     };
     tell_listening::<M, W>(alloc, ask.place, output)?;
-    if is_late(shown, desk) {
-        return Ok(none_served());
-    }
     Ok(serve_many(alloc, door, desk, ask.count))
 }
 
 /// Writes how many visits a run served, or fails as the run ended.
 ///
-/// It fails with `Clock` when a moment has no day or the clock is behind, with `Device` when the door shuts
-/// or a write fails, and with `NoMemory`.
+/// It fails with `Clock` when a moment has no day, with `Device` when the door shuts or a write fails, and with `NoMemory`.
 fn tell_ended<M: Machine, W: Write>(
     alloc: Global,
     served: Served,
@@ -167,8 +159,7 @@ fn tell_ended<M: Machine, W: Write>(
 /// end, how many there were, and flushes each line.
 ///
 /// It fails with `NotADesk`, `Version`, `Inconsistent` and `Store` when it cannot open the desk,
-/// then with `Device` when it cannot open the place, a write fails or the door shuts, with `Clock`
-/// when the clock is behind the recorded checks, as `serve_visits` says, or a moment has no day, and with `NoMemory`.
+/// then as `serve_visits` does, with `Device` when the door shuts, and with `Clock` when a moment has no day.
 pub(crate) fn serve<W: Write, M: Machine>(
     alloc: Global,
     ask: ServeAsk,
@@ -188,9 +179,10 @@ pub(crate) fn serve<W: Write, M: Machine>(
     ensures lent { WritesOnceLent (M.seen machine.old).shows (M.seen machine.new).limits (W.contents output.old) (W.contents output.new) }
     ensures flushed { OnOk result (IsTrue (M.flushed (W.contents output.new))) }
     ensures back { GivesBack (M.seen machine.old).shows (M.seen machine.old).left (M.seen machine.new).left }
-    ensures there { OnEnded result (HasBoth (M.seen machine.old).shows ((M.seen machine.old).stands ask.entry.store.now) (M.seen machine.new).left) }
-    ensures asked { AsksPath (M.seen machine.old).wanted ask.entry.store.now (M.seen machine.new).wanted }
+    ensures store { UsesStore M.Disk.Store (M.seen machine.old) (M.seen machine.new) ask.entry.store.now result }
     ensures frame { ChangesStoreAndDoors (M.seen machine.old) (M.seen machine.new) }
+    ensures on_time { ask.entry.is_trusting ≡ false → Keeps (W.contents output.old) (W.contents output.new)
+        ⊎ ServesOnTime M.Disk.Store (M.seen machine.old).clock ask.entry.zone ((M.seen machine.old).stands ask.entry.store.now) (M.seen machine.new).left }
 {
     let mut desk = open_desk(alloc, ask.store, ask.zone, machine)?;
     let served = serve_visits(alloc, ask, &mut desk, output, machine);

@@ -135,12 +135,13 @@ returns-in-Serve-clause-does g c =
     subst (λ ask. Does g.M.Disk.Store g.M.Door.Door.told g.M.Door.Door.coming (g.M.Machine.seen c.args.machine.now) (g.M.Machine.seen c.serve.new.machine)
     (record { input = g.R.Read.remaining c.args.input.now; out = g.W.Write.contents c.args.output.now; written = g.W.Write.contents c.serve.new.output }) ask c.whole-in-Serve.result) (sym c.in-Serve.is) (record {
       frame = c.serve.ensures.frame;
-      store = record { asked = c.serve.ensures.asked; there = ended_whole _ c.serve.result c.whole-in-Serve.result c.whole-in-Serve.ensures c.serve.ensures.there };
+      store = record { asked = c.serve.ensures.store.asked; there = ended_whole _ c.serve.result c.whole-in-Serve.result c.whole-in-Serve.ensures c.serve.ensures.store.there };
       leaves = c.serve.ensures.lasts;
       so = at_both c.serve.result c.whole-in-Serve.result _ _ c.whole-in-Serve.ensures (c.serve.ensures.done) (at_err_both c.serve.result _ _ c.serve.ensures.refused c.serve.ensures.left);
       visits = ok_whole _ c.serve.result c.whole-in-Serve.result c.whole-in-Serve.ensures c.serve.ensures.visits;
       limits = ok_whole _ c.serve.result c.whole-in-Serve.result c.whole-in-Serve.ensures c.serve.ensures.limits;
       lent = c.serve.ensures.lent;
+      on_time = c.serve.ensures.on_time;
     })
 
 -- ---- no refusal is a mistake in the words

@@ -1,18 +1,16 @@
-use Rattle.std.proofs.Common.{◌∙◌, IsTrue, ap, inl, refl, rules, subst, sym}
+use Rattle.std.proofs.Common.{◌∙◌, IsTrue, ap, inl, inr, refl, rules, subst, sym}
 use Rattle.std.proofs.KnownBytes.{Keeps-refl}
 use Rattle.rd_commands.specs.Serving.{place_of}
 use Rattle.rd_program.proofs.Named.{asked_then}
-use Rattle.rd_program.proofs.LeftStores.{gives_back, has_both, on_ended_always, opening_fails}
+use Rattle.rd_program.proofs.LeftStores.{gives_back, has_both, on_ended_always, opening_fails, still_same}
+use Rattle.rd_program.proofs.OnTimeLemmas.{served_on_time}
+use Rattle.rd_program.proofs.ShowLemmas.{passed_on}
 use Rattle.rd_program.proofs.VisitLemmas.{lent_kept, lent_limits, limits_kept, serves_door}
-use Rattle.rd_program.proofs.LeftStoresByWords.{lasts_left, opened_left, serve_ended, serve_not_begun, unserved_left}
+use Rattle.rd_program.proofs.LeftStoresByWords.{lasts_left, read_left, serve_ended, serve_not_begun, serve_unopened}
 use Rattle.rd_program.proofs.ServeLines.{both_lines, ends, not_listening, not_opened}
 use Rattle.rd_program.specs.World.{World}
 use Rattle.rd_program.proofs.Frames.{doors_back, opened_doors}
 use Rattle.rd_program.proofs.serve.serve.Goals as goal
-
-pub returns-in_err-served-clause-refused : goal.returns-in_err-served-clause-refused
-returns-in_err-served-clause-refused g c =
-    let refused = not_listening _ (place_of c.args.ask.place) c.args.ask.count _ _ c.in_err-served.ensures.refused c.in_err-served.ensures.cut in search rules
 
 pub returns-clause-done : goal.returns-clause-done
 returns-clause-done g c =
@@ -29,22 +27,6 @@ returns-in_err-desk-clause-refused g c =
     let refused = not_opened _ (place_of c.args.ask.place) c.args.ask.count (g.W.Write.contents c.args.output.now) c.in_err-desk.ensures.refused in search rules
 
 -- ---- what is left of the store
-
-pub returns-in_err-served-clause-lasts : goal.returns-in_err-served-clause-lasts
-returns-in_err-served-clause-lasts g c =
-    unserved_left g.M.Disk.Store (g.M.Machine.seen c.args.machine.now).left ((g.M.Machine.seen c.args.machine.now).stands c.args.ask.store.now) (g.M.Machine.seen c.release.new.self).left
-    c.in_ok-desk.desk.store c.into_connection.result c.in_ok-desk.ensures.opened
-    (c.into_connection.ensures.same ∙ c.into_store.ensures ∙ c.in_err-served.ensures.unserved) c.release.ensures.left
-
-pub returns-in_err-served-clause-left : goal.returns-in_err-served-clause-left
-returns-in_err-served-clause-left g c =
-    let was = (g.M.Machine.seen c.args.machine.now).left in
-    let stood = (g.M.Machine.seen c.args.machine.now).stands c.args.ask.store.now in
-    let left = (g.M.Machine.seen c.release.new.self).left in
-    let refused = serve_not_begun g.M.Disk.Store was stood left (place_of c.args.ask.place) (g.W.Write.contents c.args.output.now) (g.W.Write.contents c.serve_visits-served.new.output) _
-    c.in_err-served.ensures.refused
-    (opened_left g.M.Disk.Store was stood left c.in_ok-desk.desk.store c.into_connection.result c.in_ok-desk.ensures.opened
-    (c.into_connection.ensures.same ∙ c.into_store.ensures ∙ c.in_err-served.ensures.unserved) c.release.ensures.left) in search rules
 
 pub returns-clause-lasts : goal.returns-clause-lasts
 returns-clause-lasts g c =
@@ -83,29 +65,6 @@ returns-clause-limits g c =
     limits_kept c.tell_ended.result (g.M.Machine.seen c.args.machine.now).shows (g.M.Machine.seen c.open_desk.new.machine).shows (g.M.Machine.seen c.serve_visits-served.new.machine).limits
     (g.M.Machine.seen c.release.new.self).limits c.args.ask.timeouts (ap (λ (w : World _ _). w.shows) c.open_desk.ensures.frame) (ap (λ (w : World _ _). w.limits) c.release.ensures.frame) c.in_ok-served.ensures.limits
 
-pub returns-clause-there : goal.returns-clause-there
-returns-clause-there g c =
-    on_ended_always c.tell_ended.result _ (has_both (g.M.Machine.seen c.args.machine.now).shows ((g.M.Machine.seen c.args.machine.now).stands c.args.ask.store.now) (g.M.Machine.seen c.release.new.self).left _
-    c.in_ok-desk.ensures.there (λ shows. c.release.ensures.back (subst (λ b. IsTrue b) (sym ((ap (λ (w : World _ _). w.shows) c.serve_visits-served.ensures.frame) ∙ (ap (λ (w : World _ _). w.shows) c.open_desk.ensures.frame))) shows)))
-
-pub returns-in_err-served-clause-there : goal.returns-in_err-served-clause-there
-returns-in_err-served-clause-there g c =
-    on_ended_always c.from_residual-in_err-served.result _ (has_both (g.M.Machine.seen c.args.machine.now).shows ((g.M.Machine.seen c.args.machine.now).stands c.args.ask.store.now) (g.M.Machine.seen c.release.new.self).left _
-    c.in_ok-desk.ensures.there (λ shows. c.release.ensures.back (subst (λ b. IsTrue b) (sym ((ap (λ (w : World _ _). w.shows) c.serve_visits-served.ensures.frame) ∙ (ap (λ (w : World _ _). w.shows) c.open_desk.ensures.frame))) shows)))
-
-pub returns-in_err-desk-clause-there : goal.returns-in_err-desk-clause-there
-returns-in_err-desk-clause-there g c = opening_fails c.from_residual.result c.in_err-desk.field-0.0 _ c.from_residual.ensures.1 c.in_err-desk.ensures.refused
-
-pub returns-clause-asked : goal.returns-clause-asked
-returns-clause-asked g c =
-    asked_then (g.M.Machine.seen c.args.machine.now).wanted (g.M.Machine.seen c.open_desk.new.machine).wanted (g.M.Machine.seen c.release.new.self).wanted c.args.ask.store.now c.open_desk.ensures.asked
-    ((ap (λ (w : World _ _). w.wanted) c.release.ensures.frame) ∙ (ap (λ (w : World _ _). w.wanted) c.serve_visits-served.ensures.frame))
-
-pub returns-in_err-served-clause-asked : goal.returns-in_err-served-clause-asked
-returns-in_err-served-clause-asked g c =
-    asked_then (g.M.Machine.seen c.args.machine.now).wanted (g.M.Machine.seen c.open_desk.new.machine).wanted (g.M.Machine.seen c.release.new.self).wanted c.args.ask.store.now c.open_desk.ensures.asked
-    ((ap (λ (w : World _ _). w.wanted) c.release.ensures.frame) ∙ (ap (λ (w : World _ _). w.wanted) c.serve_visits-served.ensures.frame))
-
 -- ---- the door that was lent
 
 pub returns-in_err-desk-clause-lent : goal.returns-in_err-desk-clause-lent
@@ -136,3 +95,57 @@ returns-in_err-served-clause-frame g c =
 pub returns-in_err-desk-clause-frame : goal.returns-in_err-desk-clause-frame
 returns-in_err-desk-clause-frame g c =
     opened_doors (g.M.Machine.seen c.args.machine.now) (g.M.Machine.seen c.open_desk.new.machine) (g.M.Machine.seen c.open_desk.new.machine) c.open_desk.ensures.frame refl
+
+pub returns-in_err-served-clause-refused : goal.returns-in_err-served-clause-refused
+returns-in_err-served-clause-refused g c =
+    passed_on c.from_residual-in_err-served.result c.in_err-served.field-0.0 _ c.from_residual-in_err-served.ensures.1 (not_listening c.in_err-served.field-0.0 (place_of c.args.ask.place) c.args.ask.count _ _ c.in_err-served.ensures.refused)
+
+pub returns-in_err-served-clause-lasts : goal.returns-in_err-served-clause-lasts
+returns-in_err-served-clause-lasts g c =
+    lasts_left g.M.Disk.Store (g.M.Machine.seen c.args.machine.now).left ((g.M.Machine.seen c.args.machine.now).stands c.args.ask.store.now) (g.M.Machine.seen c.release.new.self).left
+    c.in_ok-desk.desk.store c.serve_visits-served.new.desk.store c.into_connection.result c.in_ok-desk.ensures.opened (still_same g.M.Disk.Store c.in_ok-desk.desk.store c.serve_visits-served.new.desk.store c.in_err-served.ensures.unserved).lasts
+    (c.into_connection.ensures.same ∙ c.into_store.ensures) c.release.ensures.left
+
+pub returns-in_err-served-clause-left : goal.returns-in_err-served-clause-left
+returns-in_err-served-clause-left g c =
+    passed_on c.from_residual-in_err-served.result c.in_err-served.field-0.0 _ c.from_residual-in_err-served.ensures.1
+    (serve_not_begun g.M.Disk.Store (g.M.Machine.seen c.args.machine.now).left ((g.M.Machine.seen c.args.machine.now).stands c.args.ask.store.now) (g.M.Machine.seen c.release.new.self).left (place_of c.args.ask.place) (g.W.Write.contents c.args.output.now) (g.W.Write.contents c.serve_visits-served.new.output) c.in_err-served.field-0.0
+    c.in_err-served.ensures.refused (read_left g.M.Disk.Store (g.M.Machine.seen c.args.machine.now).left ((g.M.Machine.seen c.args.machine.now).stands c.args.ask.store.now) (g.M.Machine.seen c.release.new.self).left c.in_ok-desk.desk.store c.serve_visits-served.new.desk.store c.into_connection.result c.in_ok-desk.ensures.opened c.in_err-served.ensures.unserved
+    (c.into_connection.ensures.same ∙ c.into_store.ensures) c.release.ensures.left))
+
+pub returns-in_err-desk-clause-left : goal.returns-in_err-desk-clause-left
+returns-in_err-desk-clause-left g c =
+    passed_on c.from_residual.result c.in_err-desk.field-0.0 _ c.from_residual.ensures.1
+    (serve_unopened g.M.Disk.Store (g.M.Machine.seen c.args.machine.now).left ((g.M.Machine.seen c.args.machine.now).stands c.args.ask.store.now) (g.M.Machine.seen c.open_desk.new.machine).left (place_of c.args.ask.place) (g.W.Write.contents c.args.output.now) (g.W.Write.contents c.args.output.now) c.in_err-desk.field-0.0 c.in_err-desk.ensures.refused c.in_err-desk.ensures.left)
+
+pub returns-clause-store : goal.returns-clause-store
+returns-clause-store g c = record {
+  asked = asked_then (g.M.Machine.seen c.args.machine.now).wanted (g.M.Machine.seen c.open_desk.new.machine).wanted (g.M.Machine.seen c.release.new.self).wanted c.args.ask.store.now c.open_desk.ensures.asked
+      ((ap (λ (w : World _ _). w.wanted) c.release.ensures.frame) ∙ (ap (λ (w : World _ _). w.wanted) c.serve_visits-served.ensures.frame));
+  there = on_ended_always c.tell_ended.result _ (has_both (g.M.Machine.seen c.args.machine.now).shows ((g.M.Machine.seen c.args.machine.now).stands c.args.ask.store.now) (g.M.Machine.seen c.release.new.self).left _ c.in_ok-desk.ensures.there (λ shows. c.release.ensures.back (subst (λ b. IsTrue b) (sym ((ap (λ (w : World _ _). w.shows) c.serve_visits-served.ensures.frame) ∙ (ap (λ (w : World _ _). w.shows) c.open_desk.ensures.frame))) shows)));
+}
+
+pub returns-in_err-served-clause-store : goal.returns-in_err-served-clause-store
+returns-in_err-served-clause-store g c = record {
+  asked = asked_then (g.M.Machine.seen c.args.machine.now).wanted (g.M.Machine.seen c.open_desk.new.machine).wanted (g.M.Machine.seen c.release.new.self).wanted c.args.ask.store.now c.open_desk.ensures.asked
+      ((ap (λ (w : World _ _). w.wanted) c.release.ensures.frame) ∙ (ap (λ (w : World _ _). w.wanted) c.serve_visits-served.ensures.frame));
+  there = on_ended_always c.from_residual-in_err-served.result _ (has_both (g.M.Machine.seen c.args.machine.now).shows ((g.M.Machine.seen c.args.machine.now).stands c.args.ask.store.now) (g.M.Machine.seen c.release.new.self).left _ c.in_ok-desk.ensures.there (λ shows. c.release.ensures.back (subst (λ b. IsTrue b) (sym ((ap (λ (w : World _ _). w.shows) c.serve_visits-served.ensures.frame) ∙ (ap (λ (w : World _ _). w.shows) c.open_desk.ensures.frame))) shows)));
+}
+
+pub returns-in_err-desk-clause-store : goal.returns-in_err-desk-clause-store
+returns-in_err-desk-clause-store g c = record {
+  asked = c.open_desk.ensures.asked;
+  there = opening_fails c.from_residual.result c.in_err-desk.field-0.0 _ c.from_residual.ensures.1 c.in_err-desk.ensures.refused;
+}
+
+pub returns-in_err-desk-clause-on_time : goal.returns-in_err-desk-clause-on_time
+returns-in_err-desk-clause-on_time g c = λ doubts. inl (Keeps-refl _)
+
+pub returns-in_err-served-clause-on_time : goal.returns-in_err-served-clause-on_time
+returns-in_err-served-clause-on_time g c = λ doubts. elim (c.in_err-served.ensures.begun_on_time doubts) [
+  | inl kept ↦ inl kept
+  | inr on ↦ inr (served_on_time g.M.Disk.Store ((g.M.Machine.seen c.args.machine.now).stands c.args.ask.store.now) (g.M.Machine.seen c.release.new.self).left c.in_ok-desk.desk.store c.serve_visits-served.new.desk.store c.into_connection.result (g.M.Machine.seen c.args.machine.now).clock (g.M.Machine.seen c.open_desk.new.machine).clock c.in_ok-desk.desk.zone c.args.ask.zone c.in_ok-desk.ensures.opened ((still_same g.M.Disk.Store c.in_ok-desk.desk.store c.serve_visits-served.new.desk.store c.in_err-served.ensures.unserved).lasts) (c.into_connection.ensures.same ∙ c.into_store.ensures) c.release.ensures.left (ap (λ (w : World _ _). w.clock) c.open_desk.ensures.frame) c.in_ok-desk.ensures.zone on)
+]
+
+pub returns-clause-on_time : goal.returns-clause-on_time
+returns-clause-on_time g c = λ doubts. inr (served_on_time g.M.Disk.Store ((g.M.Machine.seen c.args.machine.now).stands c.args.ask.store.now) (g.M.Machine.seen c.release.new.self).left c.in_ok-desk.desk.store c.serve_visits-served.new.desk.store c.into_connection.result (g.M.Machine.seen c.args.machine.now).clock (g.M.Machine.seen c.open_desk.new.machine).clock c.in_ok-desk.desk.zone c.args.ask.zone c.in_ok-desk.ensures.opened c.in_ok-served.ensures.lasts (c.into_connection.ensures.same ∙ c.into_store.ensures) c.release.ensures.left (ap (λ (w : World _ _). w.clock) c.open_desk.ensures.frame) c.in_ok-desk.ensures.zone (c.in_ok-served.ensures.on_time doubts))
