@@ -1,5 +1,5 @@
 -- The lines of an import.
-use Rattle.std.proofs.Common.{◌≡◌, ◌≢◌, ◌⊎◌, ℕ, Bool, List, [], ◌∷◌, ◌++◌, Option, Result, Ok, Err, IfErr, IfOk, OnOk, inl, inr, refl, subst, sym, arith}
+use Rattle.std.proofs.Common.{◌≡◌, ◌≢◌, ◌⊎◌, ℕ, Bool, List, [], ◌∷◌, ◌++◌, Option, Result, Ok, Err, IfErr, IfOk, OnErr, OnOk, inl, inr, refl, subst, sym, arith}
 use Rattle.std.proofs.lemmas.List.Elements.{All-nil, All-push, All-weaker}
 use Rattle.std.proofs.lemmas.List.Folds.{concat-append}
 use Rattle.std.specs.List.{concat}
@@ -143,6 +143,16 @@ sheet_failed machine_fault.NoMemory refusal is = inr (inl (inr is))
 pub day_failed : (refusal : Refusal) → IsClockRefusal refusal ⊎ (refusal ≡ Store) → IsImportRefusal refusal
 day_failed refusal (inl clock) = inr (inl clock)
 day_failed refusal (inr store) = inl (inr (inr (inr (inl store))))
+
+-- ---- what holds of any refusal
+
+pub on_err : {T E : Type 0} (r : Result T E) (P : Type 0) → P → OnErr r P
+on_err (Ok value) P holds = tt
+on_err (Err fault) P holds = holds
+
+pub on_err_weaker : {T E : Type 0} (r : Result T E) (P Q : Type 0) → (P → Q) → OnErr r P → OnErr r Q
+on_err_weaker (Ok value) P Q weaker holds = tt
+on_err_weaker (Err fault) P Q weaker holds = weaker holds
 
 -- ---- what was done whole
 

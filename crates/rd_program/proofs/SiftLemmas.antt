@@ -1,24 +1,26 @@
 -- The rows of a sheet that are taken past files that cannot be read, or only tried.
-use Rattle.std.proofs.Common.{◌≡◌, ◌+◌, ◌∙◌, ◌++◌, ◌∷◌, [], ℕ, ℤ, Bool, Err, IfNone, IfOk, IfSome, List, None, Ok, Option, Result, Some, ap, arith, false, inl, inr, length, length-append, refl, subst, sym, true}
+use Rattle.std.proofs.Common.{◌≡◌, ◌⊎◌, ◌+◌, ◌∙◌, ◌++◌, ◌∷◌, [], ℕ, ℤ, Bool, Err, IfNone, IfOk, IfSome, List, None, Ok, OnErr, Option, Result, Some, ap, arith, false, inl, inr, length, length-append, refl, subst, sym, true}
 use Rattle.std.specs.Borrow.{Bor}
 use Rattle.std.specs.Io.KnownBytes.{Appends}
 use Rattle.std.specs.List.{concat}
 use Rattle.std.specs.Prelude.{All}
-use Rattle.std.proofs.KnownBytes.{Appends-nil}
+use Rattle.std.proofs.KnownBytes.{Appends-kept, Appends-nil, Keeps-refl}
 use Rattle.std.proofs.lemmas.List.Elements.{All-nil, All-push}
 use Rattle.csv.specs.Machine.{next_record}
 use Rattle.csv.specs.Reading.{NextIs, ReadRecord, ReadsOn, default_config, has_failed, is_flexible, strip_bom, took_first}
 use Rattle.csv.specs.declared.parser.State.{State}
 use Rattle.csv.specs.declared.parser.State.TheVariants.{StartRecord}
 use Rattle.csv.specs.declared.reader.Reader.{Reader}
-use Rattle.sqlite.specs.Held.{Held}
+use Rattle.sqlite.specs.Held.{Held, state}
 use Rattle.sqlite.specs.Store.{Ghosts}
 use Rattle.rd_store.specs.Held.{IsOpen, Lasts, desk}
-use Rattle.rd_store.specs.Migrated.{IsMigrated}
+use Rattle.rd_store.specs.Migrated.{IsMigrated, SpellsDesk}
 use Rattle.rd_holdings.specs.State.{Desk}
+use Rattle.rd_protocol.specs.Replies.{IsAnswered}
 use Rattle.rd_protocol.specs.declared.refusal.Refusal.{Refusal as DeskRefusal}
 use Rattle.rd_protocol.specs.declared.response.Response.{Response}
 use Rattle.rd_protocol.specs.declared.response.Response.TheVariants.{Refused}
+use Rattle.rd_commands.specs.Output.{AppendsPart}
 use Rattle.rd_commands.specs.Sheets.{HasOtherLength, IsBad, Says, header}
 use Rattle.rd_commands.specs.declared.done.Done.{Done as Ending}
 use Rattle.rd_commands.specs.declared.refusal.Refusal.{Refusal}
@@ -31,12 +33,12 @@ use Rattle.rd_program.specs.Importing.{accession_line, bad_row_line, done_word, 
 use Rattle.rd_program.specs.Leaves.{IsSame, LeavesDesk, TakesFields, TakesUnlessDry}
 use Rattle.rd_program.specs.Rows.{HasRows, IsSheetOf}
 use Rattle.rd_program.specs.Showing.{EndsWith}
-use Rattle.rd_program.specs.Sifting.{AreRowsSifted, IsRowSifted, SiftsOn, SiftsOne, SiftsRows, SiftsSheet, SiftsSheetIn, StandsAfter, TellsFate, fate_by, fate_of, put_of, shelved_row, word_by, worse}
+use Rattle.rd_program.specs.Sifting.{AreRowsSifted, CutsFate, CutsLast, IsRowSifted, SiftsFront, SiftsOn, SiftsOne, SiftsRows, SiftsSheet, SiftsSheetIn, StandsAfter, StopsOn, StopsOne, StopsRows, StopsSheetIn, TellsFate, fate_by, fate_of, put_of, shelved_row, word_by, worse}
 use Rattle.rd_program.specs.declared.import.Fate.{Fate}
 use Rattle.rd_program.specs.declared.import.Fate.TheVariants.{Denied, Done, Lost}
 use Rattle.rd_program.specs.declared.import.Way.{Way}
 use Rattle.rd_program.proofs.DeskSteps.{row_more}
-use Rattle.rd_program.proofs.LeftStores.{desk_then}
+use Rattle.rd_program.proofs.LeftStores.{desk_left, desk_then}
 use Rattle.rd_program.proofs.OnTimeLemmas.{takes_from}
 use Rattle.rd_program.proofs.RowLemmas.{HasRead, IsAt, IsStrict, longer_no_sheet, next_none, next_some, reads_on, records_more, slice_rest, strict_first, strict_next}
 use Rattle.rd_program.proofs.ShowLemmas.{ends_with}
@@ -82,12 +84,9 @@ rows_then files way badge day number (first ∷ rows) (head ∷ lines) fate one 
   ap (λ f. worse f one) whole ∙ worse_assoc its others one,
 )
 
--- The rows that were read of a sheet, the lines that were written of them, and the desk after them; in a dry run, one that
--- stands beside the shelf.
-pub record SiftedSoFar {S : Type 0} (g : Ghosts S) (files : List ℕ → Option (List ℕ)) (way : Way) (badge : List ℕ) (day : ℤ) (sheet : List ℕ) (out written : Option (List ℕ))
-    (opened now : Held S) (reader : Reader (Bor (List ℕ))) (number : ℕ) (fate : Fate) (shelf : List Shelved) : Type 0 where
-  pub rows : List (List (List ℕ))
-  pub lines : List (List ℕ)
+-- The rows that were read of a sheet, their lines, and the desk after them; in a dry run, one that stands beside the shelf.
+pub record RowsSoFar {S : Type 0} (g : Ghosts S) (files : List ℕ → Option (List ℕ)) (way : Way) (badge : List ℕ) (day : ℤ) (sheet : List ℕ) (opened now : Held S)
+    (reader : Reader (Bor (List ℕ))) (number : ℕ) (fate : Fate) (shelf : List Shelved) (rows : List (List (List ℕ))) (lines : List (List ℕ)) : Type 0 where
   pub state : State
   pub rest : List ℕ
   pub at : IsAt reader state rest
@@ -95,10 +94,17 @@ pub record SiftedSoFar {S : Type 0} (g : Ghosts S) (files : List ℕ → Option 
   pub count : 1 + length rows ≡ number
   pub strict : IsStrict reader
   pub fit : All (λ fields. length fields ≡ length header) rows
-  pub gained : Appends out written (concat lines)
   pub taken : IsOpen g now → way.dry_run ≡ false → AreRowsSifted files way badge day 1 rows lines fate (desk g opened) (desk g now)
   pub tried : IsOpen g now → way.dry_run ≡ true → (desk g now ≡ desk g opened)
       × ((mid : Desk) × StandsBeside shelf (desk g opened) mid × AreRowsSifted files way badge day 1 rows lines fate (desk g opened) mid)
+
+-- and their lines were written
+pub record SiftedSoFar {S : Type 0} (g : Ghosts S) (files : List ℕ → Option (List ℕ)) (way : Way) (badge : List ℕ) (day : ℤ) (sheet : List ℕ) (out written : Option (List ℕ))
+    (opened now : Held S) (reader : Reader (Bor (List ℕ))) (number : ℕ) (fate : Fate) (shelf : List Shelved) : Type 0 where
+  pub rows : List (List (List ℕ))
+  pub lines : List (List ℕ)
+  pub so : RowsSoFar g files way badge day sheet opened now reader number fate shelf rows lines
+  pub gained : Appends out written (concat lines)
 
 -- the desk that stands stands beside a shelf without an image
 beside_none : (stood : Desk) → StandsBeside [] stood stood
@@ -117,42 +123,42 @@ module _ {S : Type 0} (g : Ghosts S) (files : List ℕ → Option (List ℕ)) (w
       record {
         rows = [];
         lines = [];
-        state = now.last;
-        rest = now.rest;
-        at = now.at;
-        has = (now.last, now.rest, subst (λ f. next_record default_config StartRecord [] [] (strip_bom sheet) ≡ Some (f, now.last, now.rest)) named next, (refl, refl));
-        count = refl;
-        strict = strict_first reader after found fields read on is named strict;
-        fit = All-nil (λ row. length row ≡ length header);
+        so = record {
+          state = now.last;
+          rest = now.rest;
+          at = now.at;
+          has = (now.last, now.rest, subst (λ f. next_record default_config StartRecord [] [] (strip_bom sheet) ≡ Some (f, now.last, now.rest)) named next, (refl, refl));
+          count = refl;
+          strict = strict_first reader after found fields read on is named strict;
+          fit = All-nil (λ row. length row ≡ length header);
+          taken = λ is_open wet. (refl, refl);
+          tried = λ is_open dry. (refl, (desk g opened, subst (λ s. StandsBeside s (desk g opened) (desk g opened)) (sym bare) (beside_none (desk g opened)), (refl, refl)));
+        };
         gained = Appends-nil out;
-        taken = λ is_open wet. (refl, refl);
-        tried = λ is_open dry. (refl, (desk g opened, subst (λ s. StandsBeside s (desk g opened) (desk g opened)) (sym bare) (beside_none (desk g opened)), (refl, refl)));
       }
 
   module _ (mid new : Held S) (written more : Option (List ℕ)) (reader after : Reader (Bor (List ℕ))) (number : ℕ) (fate one : Fate) (shelf next : List Shelved) where
     -- one row more
-    pub sifted_more : (found : Bool) (fields : List (List ℕ)) → (found ≡ true → ReadsOn reader after) → SiftedSoFar g files way badge day sheet out written opened mid reader number fate shelf
+    rows_more : (Gains : Option (List ℕ) → Option (List ℕ) → List ℕ → Type 0) (rows : List (List (List ℕ))) (lines : List (List ℕ)) (found : Bool) (fields : List (List ℕ))
+        → (found ≡ true → ReadsOn reader after) → RowsSoFar g files way badge day sheet opened mid reader number fate shelf rows lines
         → ReadRecord slice_rest reader after found fields → has_failed after ≡ has_failed reader → took_first after ≡ true → found ≡ true → (IsOpen g new → IsOpen g mid)
-        → SiftsOne g files way badge day number fields one shelf next written more mid new
-        → SiftedSoFar g files way badge day sheet out more opened new after (number + 1) (worse fate one) next
-    sifted_more found fields on so_far read kept took is was_open row =
+        → (row : SiftsOne g Gains files way badge day number fields one shelf next written more mid new)
+        → RowsSoFar g files way badge day sheet opened new after (number + 1) (worse fate one) next (rows ++ fields ∷ []) (lines ++ row.line ∷ [])
+    rows_more Gains rows lines found fields on so_far read kept took is was_open row =
         let strict = strict_next reader after found fields read on is so_far.strict in
         let now = reads_on reader after so_far.state so_far.rest found fields so_far.at read kept took in
         let then_next = next_some (next_record default_config so_far.state [] [] so_far.rest) fields now.last now.rest
         (subst (λ b. NextIs (next_record default_config so_far.state [] [] so_far.rest) b fields now.last now.rest) is now.next) in
         let count = so_far.count in
         record {
-          rows = so_far.rows ++ fields ∷ [];
-          lines = so_far.lines ++ row.line ∷ [];
           state = now.last;
           rest = now.rest;
           at = now.at;
-          has = records_more StartRecord (strip_bom sheet) (header ∷ so_far.rows) so_far.state now.last so_far.rest now.rest fields so_far.has then_next;
-          count = omega (arith, count, length-append so_far.rows (fields ∷ []));
+          has = records_more StartRecord (strip_bom sheet) (header ∷ rows) so_far.state now.last so_far.rest now.rest fields so_far.has then_next;
+          count = omega (arith, count, length-append rows (fields ∷ []));
           strict = strict.0;
-          fit = All-push (λ row. length row ≡ length header) so_far.rows fields so_far.fit strict.1;
-          gained = piece_more out written more so_far.lines row.line so_far.gained row.gained;
-          taken = λ is_open wet. rows_then files way badge day 1 so_far.rows so_far.lines fate one fields row.line (desk g opened) (desk g mid) (desk g new) (so_far.taken (was_open is_open) wet)
+          fit = All-push (λ row. length row ≡ length header) rows fields so_far.fit strict.1;
+          taken = λ is_open wet. rows_then files way badge day 1 rows lines fate one fields row.line (desk g opened) (desk g mid) (desk g new) (so_far.taken (was_open is_open) wet)
               (subst (λ n. IsRowSifted files way badge day n fields row.line one (desk g mid) (desk g new)) (sym count) (row.wet wet is_open));
           tried = λ is_open dry.
               let before = so_far.tried (was_open is_open) dry in
@@ -163,11 +169,22 @@ module _ {S : Type 0} (g : Ghosts S) (files : List ℕ → Option (List ℕ)) (w
                 (
                   left.0,
                   subst (λ d. StandsBeside next d left.0) before.0 left.2,
-                  rows_then files way badge day 1 so_far.rows so_far.lines fate one fields row.line (desk g opened) before.1.0 left.0 before.1.2
+                  rows_then files way badge day 1 rows lines fate one fields row.line (desk g opened) before.1.0 left.0 before.1.2
                       (subst (λ n. IsRowSifted files way badge day n fields row.line one before.1.0 left.0) (sym count) left.1),
                 ),
               );
         }
+
+    pub sifted_more : (found : Bool) (fields : List (List ℕ)) → (found ≡ true → ReadsOn reader after) → SiftedSoFar g files way badge day sheet out written opened mid reader number fate shelf
+        → ReadRecord slice_rest reader after found fields → has_failed after ≡ has_failed reader → took_first after ≡ true → found ≡ true → (IsOpen g new → IsOpen g mid)
+        → SiftsOne g Appends files way badge day number fields one shelf next written more mid new
+        → SiftedSoFar g files way badge day sheet out more opened new after (number + 1) (worse fate one) next
+    sifted_more found fields on so_far read kept took is was_open row = record {
+      rows = so_far.rows ++ fields ∷ [];
+      lines = so_far.lines ++ row.line ∷ [];
+      so = rows_more Appends so_far.rows so_far.lines found fields on so_far.so read kept took is was_open row;
+      gained = piece_more out written more so_far.lines row.line so_far.gained row.gained;
+    }
 
   -- no row more
   pub sifted_all : (now : Held S) (written : Option (List ℕ)) (reader after : Reader (Bor (List ℕ))) (number : ℕ) (fate : Fate) (shelf : List Shelved) (found : Bool) (fields : List (List ℕ))
@@ -175,22 +192,22 @@ module _ {S : Type 0} (g : Ghosts S) (files : List ℕ → Option (List ℕ)) (w
       → took_first after ≡ true → found ≡ false → SiftsRows g files way badge day sheet out written fate opened now
   sifted_all now written reader after number fate shelf found fields so_far read kept took is is_open = go way.dry_run refl
     where
-      ends : HasRead so_far.state so_far.rest found fields after
-      ends = reads_on reader after so_far.state so_far.rest found fields so_far.at read kept took
+      ends : HasRead so_far.so.state so_far.so.rest found fields after
+      ends = reads_on reader after so_far.so.state so_far.so.rest found fields so_far.so.at read kept took
 
       all : IsSheetOf sheet so_far.rows
       all = record {
-        last = so_far.state;
-        rest = so_far.rest;
-        has = so_far.has;
-        ends = next_none (next_record default_config so_far.state [] [] so_far.rest) fields ends.last ends.rest
-            (subst (λ b. NextIs (next_record default_config so_far.state [] [] so_far.rest) b fields ends.last ends.rest) is ends.next);
-        fit = so_far.fit;
+        last = so_far.so.state;
+        rest = so_far.so.rest;
+        has = so_far.so.has;
+        ends = next_none (next_record default_config so_far.so.state [] [] so_far.so.rest) fields ends.last ends.rest
+            (subst (λ b. NextIs (next_record default_config so_far.so.state [] [] so_far.so.rest) b fields ends.last ends.rest) is ends.next);
+        fit = so_far.so.fit;
       }
 
       go : (dry : Bool) → way.dry_run ≡ dry → SiftsSheet files way badge day (Some sheet) out written fate (desk g opened) (desk g now)
       go true dry =
-          let tried = so_far.tried is_open dry in record {
+          let tried = so_far.so.tried is_open dry in record {
             rows = so_far.rows;
             lines = so_far.lines;
             left = tried.1.0;
@@ -204,7 +221,7 @@ module _ {S : Type 0} (g : Ghosts S) (files : List ℕ → Option (List ℕ)) (w
         lines = so_far.lines;
         left = desk g now;
         is = all;
-        taken = so_far.taken is_open wet;
+        taken = so_far.so.taken is_open wet;
         stands = subst (λ b. StandsAfter b (desk g opened) (desk g now) (desk g now)) (sym wet) refl;
         gained = so_far.gained;
       }
@@ -214,7 +231,56 @@ module _ {S : Type 0} (g : Ghosts S) (files : List ℕ → Option (List ℕ)) (w
       → SiftedSoFar g files way badge day sheet out written opened now reader number fate shelf
       → HasOtherLength reader after → (rows : List (List (List ℕ))) → IsSheetOf sheet rows → ⊥
   sifted_no_sheet now written reader after number fate shelf so_far longer rows is =
-      longer_no_sheet sheet so_far.rows so_far.state so_far.rest reader after so_far.at so_far.has so_far.strict longer rows is
+      longer_no_sheet sheet so_far.rows so_far.so.state so_far.so.rest reader after so_far.so.at so_far.so.has so_far.so.strict longer rows is
+
+  -- ---- a run that ends before the last row
+
+  -- it ends after some rows
+  rows_front : (now : Held S) (written : Option (List ℕ)) (reader : Reader (Bor (List ℕ))) (number : ℕ) (fate : Fate) (shelf : List Shelved) (rows : List (List (List ℕ))) (lines : List (List ℕ))
+      → RowsSoFar g files way badge day sheet opened now reader number fate shelf rows lines → Appends out written (concat lines) ⊎ CutsLast lines out written → IsOpen g now
+      → SiftsFront files way badge day (Some sheet) out written (desk g opened) (desk g now)
+  rows_front now written reader number fate shelf rows lines so gained is_open = go way.dry_run refl
+    where
+      go : (dry : Bool) → way.dry_run ≡ dry → SiftsFront files way badge day (Some sheet) out written (desk g opened) (desk g now)
+      go true dry =
+          let tried = so.tried is_open dry in record {
+            rows = rows;
+            lines = lines;
+            fate = fate;
+            left = tried.1.0;
+            begins = (so.state, so.rest, so.has, so.fit);
+            taken = tried.1.2;
+            stands = subst (λ b. StandsAfter b (desk g opened) tried.1.0 (desk g now)) (sym dry) tried.0;
+            gained = gained;
+          }
+      go false wet = record {
+        rows = rows;
+        lines = lines;
+        fate = fate;
+        left = desk g now;
+        begins = (so.state, so.rest, so.has, so.fit);
+        taken = so.taken is_open wet;
+        stands = subst (λ b. StandsAfter b (desk g opened) (desk g now) (desk g now)) (sym wet) refl;
+        gained = gained;
+      }
+
+  -- no row is read
+  pub stops_between : (now : Held S) (written : Option (List ℕ)) (reader : Reader (Bor (List ℕ))) (number : ℕ) (fate : Fate) (shelf : List Shelved)
+      → SiftedSoFar g files way badge day sheet out written opened now reader number fate shelf → StopsRows g files way badge day sheet out written opened now
+  stops_between now written reader number fate shelf so_far = inr (rows_front now written reader number fate shelf so_far.rows so_far.lines so_far.so (inl so_far.gained))
+
+  -- a row is not done, or its line is not written whole
+  pub stops_at : (mid new : Held S) (written more : Option (List ℕ)) (reader after : Reader (Bor (List ℕ))) (number : ℕ) (fate : Fate) (shelf next : List Shelved) (found : Bool)
+      (fields : List (List ℕ)) → (found ≡ true → ReadsOn reader after) → SiftedSoFar g files way badge day sheet out written opened mid reader number fate shelf
+      → ReadRecord slice_rest reader after found fields → has_failed after ≡ has_failed reader → took_first after ≡ true → found ≡ true → (IsOpen g new → IsOpen g mid)
+      → StopsOne g files way badge day number fields shelf next written more mid new → StopsRows g files way badge day sheet out more opened new
+  stops_at mid new written more reader after number fate shelf next found fields on so_far read kept took is was_open (inl none) = inr (λ is_open.
+      subst (SiftsFront files way badge day (Some sheet) out more (desk g opened)) (sym (none.1 is_open))
+      (rows_front mid more reader number fate shelf so_far.rows so_far.lines so_far.so (inl (Appends-kept out written more (concat so_far.lines) so_far.gained none.0)) (was_open is_open)))
+  stops_at mid new written more reader after number fate shelf next found fields on so_far read kept took is was_open (inr (one, row)) = inr
+      (rows_front new more after (number + 1) (worse fate one) next (so_far.rows ++ fields ∷ []) (so_far.lines ++ row.line ∷ [])
+      (rows_more mid new written more reader after number fate one shelf next AppendsPart so_far.rows so_far.lines found fields on so_far.so read kept took is was_open row)
+      (inr (record { whole = so_far.lines; line = row.line; told = written; all = refl; gained = so_far.gained; part = row.gained })))
 
 -- ---- what is taken
 
@@ -233,37 +299,68 @@ still_sifts g false old new badge Days leaves = record { lasts = leaves.lasts; r
 
 -- ---- one row
 
--- a row whose file was read
-pub image_sifted : {S X : Type 0} (g : Ghosts S) (files : List ℕ → Option (List ℕ)) (way : Way) (badge : List ℕ) (day : ℤ) (number : ℕ) (row : SheetRow) (bytes : List ℕ)
-    (r : Result Response X) (told : Result Fate Refusal) (shelf next : List Shelved) (out written : Option (List ℕ)) (before after : Held S)
+-- a row whose file was read, and whose line was written
+image_told : {S : Type 0} (g : Ghosts S) (Gains : Option (List ℕ) → Option (List ℕ) → List ℕ → Type 0) (files : List ℕ → Option (List ℕ)) (way : Way) (badge : List ℕ) (day : ℤ) (number : ℕ)
+    (row : SheetRow) (bytes : List ℕ) (answer : Response) (fate : Fate) (shelf next : List Shelved) (out written : Option (List ℕ)) (before after : Held S)
     → IfSome (files row.file.now) (λ shown. bytes ≡ shown)
-    → (way.dry_run ≡ true → IsOpen g after → (desk g after ≡ desk g before) × IfOk r (WouldAnswer shelf next (desk g before) badge (shelved_row row) bytes))
-    → (way.dry_run ≡ false → IsOpen g after → IsResponse (desk g before) day (put_of badge row bytes) r (desk g after))
-    → IfOk told (TellsFate row.acc way.dry_run r out written)
-    → IfOk told (λ fate. (fields : List (List ℕ)) → Says fields row → SiftsOne g files way badge day number fields fate shelf next out written before after)
-image_sifted g files way badge day number row bytes r (Err refusal) shelf next out written before after read dry wet tells = tt
-image_sifted g files way badge day number row bytes (Err fault) (Ok fate) shelf next out written before after read dry wet tells = absurd tells
-image_sifted g files way badge day number row bytes (Ok answer) (Ok fate) shelf next out written before after read dry wet tells = λ fields says. record {
+    → (way.dry_run ≡ true → IsOpen g after → (desk g after ≡ desk g before) × WouldAnswer shelf next (desk g before) badge (shelved_row row) bytes answer)
+    → (way.dry_run ≡ false → IsOpen g after → IsAnswered (desk g before) day (put_of badge row bytes) answer (desk g after))
+    → Gains out written (accession_line row.acc (word_by way.dry_run answer)) → fate ≡ fate_by answer
+    → (fields : List (List ℕ)) → Says fields row → SiftsOne g Gains files way badge day number fields fate shelf next out written before after
+image_told g Gains files way badge day number row bytes answer fate shelf next out written before after read dry wet gained is fields says = record {
   line = accession_line row.acc (word_by way.dry_run answer);
-  gained = tells.0;
+  gained = gained;
   dry = λ is_dry is_open.
       let would = dry is_dry is_open in (
         would.0,
         λ mid beside. let left = would.1 day mid beside in (
           left.0,
-          inr (inl (row, says, record { bytes = bytes; read = read; answer = answer; answered = left.1; line_is = refl; fate_is = tells.1 })),
+          inr (inl (row, says, record { bytes = bytes; read = read; answer = answer; answered = left.1; line_is = refl; fate_is = is })),
           left.2,
         ),
       );
   wet = λ is_wet is_open.
-      inr (inl (row, says, record { bytes = bytes; read = read; answer = answer; answered = wet is_wet is_open; line_is = refl; fate_is = tells.1 }));
+      inr (inl (row, says, record { bytes = bytes; read = read; answer = answer; answered = wet is_wet is_open; line_is = refl; fate_is = is }));
 }
 
+module _ {S X : Type 0} (g : Ghosts S) (files : List ℕ → Option (List ℕ)) (way : Way) (badge : List ℕ) (day : ℤ) (number : ℕ) (row : SheetRow) (bytes : List ℕ) where
+  pub image_sifted : (r : Result Response X) (told : Result Fate Refusal) (shelf next : List Shelved) (out written : Option (List ℕ)) (before after : Held S)
+      → IfSome (files row.file.now) (λ shown. bytes ≡ shown)
+      → (way.dry_run ≡ true → IsOpen g after → (desk g after ≡ desk g before) × IfOk r (WouldAnswer shelf next (desk g before) badge (shelved_row row) bytes))
+      → (way.dry_run ≡ false → IsOpen g after → IsResponse (desk g before) day (put_of badge row bytes) r (desk g after))
+      → IfOk told (TellsFate row.acc way.dry_run r out written)
+      → IfOk told (λ fate. (fields : List (List ℕ)) → Says fields row → SiftsOne g Appends files way badge day number fields fate shelf next out written before after)
+  image_sifted r (Err refusal) shelf next out written before after read dry wet tells = tt
+  image_sifted (Err fault) (Ok fate) shelf next out written before after read dry wet tells = absurd tells
+  image_sifted (Ok answer) (Ok fate) shelf next out written before after read dry wet tells =
+      image_told g Appends files way badge day number row bytes answer fate shelf next out written before after read dry wet tells.0 tells.1
+
+  -- there was no answer, or its line was not written whole
+  pub image_stops : (r : Result Response X) (told : Result Fate Refusal) (shelf next : List Shelved) (out written : Option (List ℕ)) (before after : Held S)
+      → IfSome (files row.file.now) (λ shown. bytes ≡ shown)
+      → (way.dry_run ≡ true → IsOpen g after → (desk g after ≡ desk g before) × IfOk r (WouldAnswer shelf next (desk g before) badge (shelved_row row) bytes))
+      → (way.dry_run ≡ false → IsOpen g after → IsResponse (desk g before) day (put_of badge row bytes) r (desk g after))
+      → OnErr told (CutsFate row.acc way.dry_run r out written)
+      → OnErr told ((fields : List (List ℕ)) → Says fields row → StopsOne g files way badge day number fields shelf next out written before after)
+  image_stops r (Ok fate) shelf next out written before after read dry wet cut = tt
+  image_stops (Err fault) (Err refusal) shelf next out written before after read dry wet kept = λ fields says. inl (kept, λ is_open. go way.dry_run refl is_open)
+    where
+      go : (is_dry : Bool) → way.dry_run ≡ is_dry → IsOpen g after → desk g after ≡ desk g before
+      go true is is_open = (dry is is_open).0
+      go false is is_open = wet is is_open
+  image_stops (Ok answer) (Err refusal) shelf next out written before after read dry wet cut = λ fields says.
+      inr (fate_by answer, image_told g AppendsPart files way badge day number row bytes answer (fate_by answer) shelf next out written before after read dry wet cut refl fields says)
+
+-- what is written where there is no answer
+pub cuts_none : {X : Type 0} (acc : ℕ) (dry_run : Bool) (r : Result Response X) (out : Option (List ℕ)) → ((answer : Response) → r ≡ Ok answer → ⊥) → CutsFate acc dry_run r out out
+cuts_none acc dry_run (Ok answer) out none = absurd (none answer refl)
+cuts_none acc dry_run (Err fault) out none = Keeps-refl out
+
 -- one whose file was not
-pub lost_sifted : {S : Type 0} (g : Ghosts S) (files : List ℕ → Option (List ℕ)) (way : Way) (badge : List ℕ) (day : ℤ) (number : ℕ) (row : SheetRow) (fields : List (List ℕ))
-    (shelf : List Shelved) (out written : Option (List ℕ)) (at : Held S) → way.keep_going ≡ true → Says fields row → Appends out written (lost_row_line number)
-    → SiftsOne g files way badge day number fields Lost shelf shelf out written at at
-lost_sifted g files way badge day number row fields shelf out written at going says gained = record {
+pub lost_sifted : {S : Type 0} (g : Ghosts S) (Gains : Option (List ℕ) → Option (List ℕ) → List ℕ → Type 0) (files : List ℕ → Option (List ℕ)) (way : Way) (badge : List ℕ) (day : ℤ) (number : ℕ) (row : SheetRow) (fields : List (List ℕ))
+    (shelf : List Shelved) (out written : Option (List ℕ)) (at : Held S) → way.keep_going ≡ true → Says fields row → Gains out written (lost_row_line number)
+    → SiftsOne g Gains files way badge day number fields Lost shelf shelf out written at at
+lost_sifted g Gains files way badge day number row fields shelf out written at going says gained = record {
   line = lost_row_line number;
   gained = gained;
   dry = λ dry is_open. (refl, λ mid beside. (mid, inr (inr (going, ((row, says), (refl, (refl, refl))))), beside));
@@ -271,10 +368,10 @@ lost_sifted g files way badge day number row fields shelf out written at going s
 }
 
 -- one that is bad
-pub bad_sifted : {S : Type 0} (g : Ghosts S) (files : List ℕ → Option (List ℕ)) (way : Way) (badge : List ℕ) (day : ℤ) (number : ℕ) (fields : List (List ℕ))
-    (shelf : List Shelved) (out written : Option (List ℕ)) (at : Held S) → IsBad fields → Appends out written (bad_row_line number)
-    → SiftsOne g files way badge day number fields Denied shelf shelf out written at at
-bad_sifted g files way badge day number fields shelf out written at bad gained = record {
+pub bad_sifted : {S : Type 0} (g : Ghosts S) (Gains : Option (List ℕ) → Option (List ℕ) → List ℕ → Type 0) (files : List ℕ → Option (List ℕ)) (way : Way) (badge : List ℕ) (day : ℤ) (number : ℕ) (fields : List (List ℕ))
+    (shelf : List Shelved) (out written : Option (List ℕ)) (at : Held S) → IsBad fields → Gains out written (bad_row_line number)
+    → SiftsOne g Gains files way badge day number fields Denied shelf shelf out written at at
+bad_sifted g Gains files way badge day number fields shelf out written at bad gained = record {
   line = bad_row_line number;
   gained = gained;
   dry = λ dry is_open. (refl, λ mid beside. (mid, inl (bad, (refl, (refl, refl))), beside));
@@ -326,6 +423,70 @@ module _ {S : Type 0} (g : Ghosts S) (files other : List ℕ → Option (List �
               ),
             )) back took
       ] holds
+
+-- a sheet whose rows were all taken
+pub whole_front : (files : List ℕ → Option (List ℕ)) (way : Way) (badge : List ℕ) (day : ℤ) (sheet : List ℕ) (out written : Option (List ℕ)) (fate : Fate) (stood after : Desk)
+    → SiftsSheet files way badge day (Some sheet) out written fate stood after → SiftsFront files way badge day (Some sheet) out written stood after
+whole_front files way badge day sheet out written fate stood after all = record {
+  rows = all.rows;
+  lines = all.lines;
+  fate = fate;
+  left = all.left;
+  begins = (all.is.last, all.is.rest, all.is.has, all.is.fit);
+  taken = all.taken;
+  stands = all.stands;
+  gained = inl all.gained;
+}
+
+front_shown : (files : List ℕ → Option (List ℕ)) (way : Way) (badge : List ℕ) (day : ℤ) (out written : Option (List ℕ)) (shown : Option (List ℕ)) (bytes : List ℕ) (stood after : Desk)
+    → IfSome shown (λ sheet. bytes ≡ sheet) → SiftsFront files way badge day (Some bytes) out written stood after → SiftsFront files way badge day shown out written stood after
+front_shown files way badge day out written None bytes stood after is front = record {
+  rows = front.rows;
+  lines = front.lines;
+  fate = front.fate;
+  left = front.left;
+  begins = tt;
+  taken = front.taken;
+  stands = front.stands;
+  gained = front.gained;
+}
+front_shown files way badge day out written (Some sheet) bytes stood after is front = subst (λ b. SiftsFront files way badge day (Some b) out written stood after) is front
+
+module _ {S : Type 0} (g : Ghosts S) (files other : List ℕ → Option (List ℕ)) (way : Way) (Days : ℤ → Type 0) (shown : Option (List ℕ)) (out written : Option (List ℕ)) where
+  -- a run that ends before the last row, over the desk that was read before
+  pub stops_on : (b badge bytes : List ℕ) (day : ℤ) (old mid new : Held S) → other ≡ files → LeavesDesk g IsSame old mid → (IsOpen g new → IsOpen g mid) → Days day → b ≡ badge
+      → IfSome shown (λ sheet. bytes ≡ sheet) → StopsRows g other way b day bytes out written mid new → StopsOn g files way badge Days shown out written old new
+  stops_on b badge bytes day old mid new same_files same was at same_badge is (inl none) = inl (none.0, desk_then g IsSame IsSame IsSame old mid new (λ d e f one two. two ∙ one) same none.1)
+  stops_on b badge bytes day old mid new same_files same was at same_badge is (inr rows) = inr (λ is_open. (
+    day,
+    at,
+    front_shown files way badge day out written shown bytes (desk g old) (desk g new) is
+        (subst (λ x. SiftsFront files way x day (Some bytes) out written (desk g old) (desk g new)) same_badge
+        (subst (λ f. SiftsFront f way b day (Some bytes) out written (desk g old) (desk g new)) same_files
+        (subst (λ d. SiftsFront other way b day (Some bytes) out written d (desk g new)) (same.reached (was is_open)) (rows is_open)))),
+  ))
+
+  -- over the desk that was opened
+  pub stop_ended : (r : Result Ending Refusal) (badge : List ℕ) (Others : ℤ → Type 0) (there : Option (List ℕ)) (was old new : Option (Held S)) (opened last conn : Held S) → other ≡ files
+      → there ≡ shown → ((day : ℤ) → Others day → Days day) → IfSome old (λ before. IsMigrated g before opened) → Lasts g opened last → conn ≡ last
+      → IfSome new (λ held. Some conn ≡ Some held) → OnErr r (StopsOn g other way badge Others there out written opened last)
+      → OnErr r (StopsSheetIn g files way badge Days shown out written was old new)
+  stop_ended (Ok done) badge Others there was old new opened last conn same here weaker is lasts back took stops = tt
+  stop_ended (Err refusal) badge Others there was old new opened last conn same here weaker is lasts back took (inl none) =
+      inl (none.0, desk_left g was old new IsSame opened last conn is none.1 back took)
+  stop_ended (Err refusal) badge Others there was old new opened last conn same here weaker is lasts back took (inr holds) =
+      inr (ends_with g old new opened last conn
+      (λ before last. IsOpen g last → (stood : Desk) × SpellsDesk (state g before).now stood × ((day : ℤ) × Days day × SiftsFront files way badge day shown out written stood (desk g last))) is
+      (λ before at o. let found = holds o in (
+        desk g opened,
+        at.is (lasts.was_open o),
+        (
+          found.0,
+          weaker found.0 found.1,
+          subst (λ f. SiftsFront f way badge found.0 shown out written (desk g opened) (desk g last)) same
+              (subst (λ s. SiftsFront other way badge found.0 s out written (desk g opened) (desk g last)) here found.2),
+        ),
+      )) back took)
 
 -- no row is taken in where none is to be, and otherwise rows on the day
 pub sifts_from : {S : Type 0} (g : Ghosts S) (dry : Bool) (old mid new : Held S) (b badge : List ℕ) (day : ℤ) (Days : ℤ → Type 0) → LeavesDesk g IsSame old mid → Days day → b ≡ badge

@@ -4,7 +4,7 @@
 -- `result` is how it ended: all is done; or a part is, since a row was refused or an image is changed; or it was refused.
 -- `g` is what a connection shows, and `told` and `coming` are what a door shows. A command that is refused ends with the
 -- status of its refusal and writes its line; else the status is 1 where a part is done, and 0 where all is.
-use Rattle.std.specs.Prelude.{◌≡◌, ◌⊎◌, ℕ, ℤ, Bool, IfErr, IfOk, IfSome, IsErr, IsSomeAnd, IsTrue, List, MatchResult, Ok, OnOk, Option, Result, Err, false, true}
+use Rattle.std.specs.Prelude.{◌≡◌, ◌⊎◌, ℕ, ℤ, Bool, IfErr, IfOk, IfSome, IsErr, IsSomeAnd, IsTrue, List, MatchResult, Ok, OnErr, OnOk, Option, Result, Err, false, true}
 use Rattle.std.specs.Io.KnownBytes.{Appends, Keeps}
 use Rattle.sha2.specs.Sha256.{sha256}
 use Rattle.sqlite.specs.Held.{Held}
@@ -47,7 +47,7 @@ use Rattle.rd_program.specs.OnTime.{IsBehindIn, ServesOnTime, WasOnTime, is_date
 use Rattle.rd_program.specs.Rows.{IsBadSheetDue}
 use Rattle.rd_program.specs.Serving.{AreLimitsOf, IsUnasked, RefusesServe, WritesOnceLent, serve_text}
 use Rattle.rd_program.specs.Showing.{AnswersOneQuestion, EndsWith, badge_of}
-use Rattle.rd_program.specs.Sifting.{SiftsSheetIn, fate_of}
+use Rattle.rd_program.specs.Sifting.{SiftsSheetIn, StopsSheetIn, fate_of}
 use Rattle.rd_program.specs.StaffKeys.{LeavesStaffKey, PutsStaff, RefusesStaffKey}
 use Rattle.rd_program.specs.Visiting.{LeavesServe, ServesDoor}
 use Rattle.rd_program.specs.declared.import.Way.{Way}
@@ -165,7 +165,7 @@ module _ {S D : Type 0} (g : Ghosts S) (before after : World S D) where
       pub opening : IfErr result (NamesOpeningAt ask.store.now)
 
     -- `import` takes in the images of a sheet at a moment, row by row, and writes the line of each, which says what became of
-    -- it; or it names why it ends before the last. With `--dry-run` the lines say what would become of the rows, and the desk
+    -- it; or it names why it ends before the last, and the lines say what became of the rows before. With `--dry-run` the lines say what would become of the rows, and the desk
     -- is as it was; with `--keep-going` it goes on past files that it cannot read. Nothing else changes.
     pub record DoesImport (ask : ImportAsk) (way : Way) (result : Result Done Refusal) : Type 0 where
       pub frame : ChangesStore before after
@@ -174,6 +174,7 @@ module _ {S D : Type 0} (g : Ghosts S) (before after : World S D) where
       pub moment : AsksAt ask.store.now ask.when true result
       pub rows : IfOk result (λ done. EndsAt ask.store.now
           (SiftsSheetIn g before.files way (sha256 ask.key.now) (Days ask.when) (before.sheets ask.sheet.now) out written done))
+      pub stopped : OnErr result (StopsSheetIn g before.files way (sha256 ask.key.now) (Days ask.when) (before.sheets ask.sheet.now) out written before.left (before.stands ask.store.now) after.left)
       pub tells : MatchResult result (λ done. TellsRows way.dry_run out written (fate_of done)) (RefusesImport out written)
       pub opening : IfErr result (NamesOpeningAt ask.store.now)
       pub bad_sheet : IfErr result (λ refusal. IfSome (before.sheets ask.sheet.now) (λ bytes. IsBadSheetDue bytes refusal))

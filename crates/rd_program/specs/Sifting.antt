@@ -1,8 +1,8 @@
 -- What becomes of the rows of a sheet where files that cannot be read are passed, and where nothing is taken in: the line
 -- that is written of each, and the desk after it. Where nothing is taken in, the desks after the first are what the desk
 -- would be, and nobody keeps them.
-use Rattle.std.specs.Prelude.{◌≡◌, ◌⊎◌, ◌+◌, ℕ, ℤ, Bool, Err, IfSome, List, [], ◌∷◌, Ok, Option, Result, Some, false, true}
-use Rattle.std.specs.Io.KnownBytes.{Appends}
+use Rattle.std.specs.Prelude.{◌≡◌, ◌⊎◌, ◌+◌, ◌++◌, ℕ, ℤ, All, Bool, Err, IfSome, List, [], ◌∷◌, Ok, Option, Result, Some, false, length, true}
+use Rattle.std.specs.Io.KnownBytes.{Appends, Keeps}
 use Rattle.std.specs.List.{concat}
 use Rattle.sqlite.specs.Held.{Held, state}
 use Rattle.sqlite.specs.Store.{Ghosts}
@@ -15,14 +15,18 @@ use Rattle.rd_protocol.specs.declared.request.Request.{Request}
 use Rattle.rd_protocol.specs.declared.request.What.TheVariants.{PutImage}
 use Rattle.rd_protocol.specs.declared.response.Response.{Response}
 use Rattle.rd_protocol.specs.declared.response.Response.TheVariants.{Refused}
-use Rattle.rd_commands.specs.Sheets.{IsBad, Says}
+use Rattle.csv.specs.declared.parser.State.{State}
+use Rattle.rd_commands.specs.Output.{AppendsPart}
+use Rattle.rd_commands.specs.Sheets.{IsBad, Says, header}
 use Rattle.rd_commands.specs.declared.sheet.SheetRow.{SheetRow}
 use Rattle.rd_desk.specs.Shelving.{StandsBeside}
 use Rattle.rd_desk.specs.declared.would_take.Shelved.{Shelved}
 use Rattle.rd_program.specs.Importing.{accession_line, bad_row_line, done_word, lost_row_line}
 use Rattle.rd_commands.specs.declared.done.Done.{Done as Ending}
 use Rattle.rd_commands.specs.declared.done.Done.TheVariants.{InPart, Whole}
-use Rattle.rd_program.specs.Rows.{IsSheetOf}
+use Rattle.rd_program.specs.Leaves.{IsSame, LeavesDesk, LeavesStore, Leaves}
+use Rattle.rd_program.specs.Rows.{HasRows, IsSheetOf}
+use Rattle.rd_program.specs.Showing.{EndsWith}
 use Rattle.rd_program.specs.declared.import.Fate.{Fate}
 use Rattle.rd_program.specs.declared.import.Fate.TheVariants.{Denied, Done, Lost}
 use Rattle.rd_program.specs.declared.import.Way.{Way}
@@ -85,6 +89,27 @@ pub record SiftsSheet (files : List ℕ → Option (List ℕ)) (way : Way) (badg
   pub stands : StandsAfter way.dry_run stood left after
   pub gained : Appends out written (concat lines)
 
+-- lines were written whole, one after the other, and a front part of this one
+pub record CutsLast (lines : List (List ℕ)) (out written : Option (List ℕ)) : Type 0 where
+  pub whole : List (List ℕ)
+  pub line : List ℕ
+  pub told : Option (List ℕ)
+  pub all : lines ≡ whole ++ line ∷ []
+  pub gained : Appends out told (concat whole)
+  pub part : AppendsPart told written line
+
+-- The first rows of a sheet are taken so, and then the run ends: the line of each is written, that of the last perhaps in
+-- part, and nothing is done about the next row.
+pub record SiftsFront (files : List ℕ → Option (List ℕ)) (way : Way) (badge : List ℕ) (day : ℤ) (sheet : Option (List ℕ)) (out written : Option (List ℕ)) (stood after : Desk) : Type 0 where
+  pub rows : List (List (List ℕ))
+  pub lines : List (List ℕ)
+  pub fate : Fate
+  pub left : Desk
+  pub begins : IfSome sheet (λ bytes. (last : State) × (rest : List ℕ) × HasRows bytes rows last rest × All (λ fields. length fields ≡ length header) rows)
+  pub taken : AreRowsSifted files way badge day 1 rows lines fate stood left
+  pub stands : StandsAfter way.dry_run stood left after
+  pub gained : Appends out written (concat lines) ⊎ CutsLast lines out written
+
 -- the fate of all rows where the command ends well
 abbrev pub fate_of : Ending → Fate
 fate_of Whole = Done
@@ -98,6 +123,15 @@ SiftsSheetIn g files way badge Days sheet out written done before last =
     IsOpen g last → (stood : Desk) × SpellsDesk (state g before).now stood
     × ((day : ℤ) × Days day × SiftsSheet files way badge day sheet out written (fate_of done) stood (desk g last))
 
+-- Where the command does not end well, nothing was taken in and nothing written; or, while the connection is open, the
+-- first rows are taken so by the desk that stood, and this one stands after them.
+abbrev pub StopsSheetIn : {S : Type 0} → Ghosts S → (List ℕ → Option (List ℕ)) → Way → List ℕ → (ℤ → Type 0) → Option (List ℕ) → Option (List ℕ) → Option (List ℕ)
+    → Option (Held S) → Option (Held S) → Option (Held S) → Type 0
+StopsSheetIn g files way badge Days sheet out written was stood left =
+    (Keeps out written × Leaves was stood left (LeavesStore g IsSame))
+    ⊎ EndsWith stood left (λ before last. IsOpen g last → (desk_before : Desk) × SpellsDesk (state g before).now desk_before
+    × ((day : ℤ) × Days day × SiftsFront files way badge day sheet out written desk_before (desk g last)))
+
 -- ---- one row, over a connection
 
 -- there was an answer, and the line that says it was written
@@ -105,15 +139,27 @@ abbrev pub TellsFate : {X : Type 0} → ℕ → Bool → Result Response X → O
 TellsFate acc dry_run (Ok answer) out written fate = Appends out written (accession_line acc (word_by dry_run answer)) × (fate ≡ fate_by answer)
 TellsFate acc dry_run (Err fault) out written fate = ⊥
 
--- A line was written of a row, and says what became of it. In a dry run that is so of each desk that stands beside the shelf, and
+-- the line was not written whole; or there was no answer, and nothing was written
+abbrev pub CutsFate : {X : Type 0} → ℕ → Bool → Result Response X → Option (List ℕ) → Option (List ℕ) → Type 0
+CutsFate acc dry_run (Ok answer) out written = AppendsPart out written (accession_line acc (word_by dry_run answer))
+CutsFate acc dry_run (Err fault) out written = Keeps out written
+
+-- A line was written of a row, whole or in part, and says what became of it. In a dry run that is so of each desk that stands beside the shelf, and
 -- what it leaves stands beside the new shelf, while the desk that stands is as it was; else it is so of the desk that stands.
-pub record SiftsOne {S : Type 0} (g : Ghosts S) (files : List ℕ → Option (List ℕ)) (way : Way) (badge : List ℕ) (day : ℤ) (number : ℕ) (fields : List (List ℕ)) (fate : Fate)
+pub record SiftsOne {S : Type 0} (g : Ghosts S) (Gains : Option (List ℕ) → Option (List ℕ) → List ℕ → Type 0) (files : List ℕ → Option (List ℕ)) (way : Way) (badge : List ℕ) (day : ℤ) (number : ℕ) (fields : List (List ℕ)) (fate : Fate)
     (shelf next : List Shelved) (out written : Option (List ℕ)) (before after : Held S) : Type 0 where
   pub line : List ℕ
-  pub gained : Appends out written line
+  pub gained : Gains out written line
   pub dry : way.dry_run ≡ true → IsOpen g after → (desk g after ≡ desk g before) × ((mid : Desk) → StandsBeside shelf (desk g before) mid
       → (last : Desk) × IsRowSifted files way badge day number fields line fate mid last × StandsBeside next (desk g before) last)
   pub wet : way.dry_run ≡ false → IsOpen g after → IsRowSifted files way badge day number fields line fate (desk g before) (desk g after)
+
+-- Nothing was done about a row, and nothing written of it; or its line was not written whole.
+abbrev pub StopsOne : {S : Type 0} → Ghosts S → (List ℕ → Option (List ℕ)) → Way → List ℕ → ℤ → ℕ → List (List ℕ) → List Shelved → List Shelved → Option (List ℕ) → Option (List ℕ)
+    → Held S → Held S → Type 0
+StopsOne g files way badge day number fields shelf next out written before after =
+    (Keeps out written × (IsOpen g after → desk g after ≡ desk g before))
+    ⊎ ((fate : Fate) × SiftsOne g AppendsPart files way badge day number fields fate shelf next out written before after)
 
 -- the image of a row, without its bytes
 abbrev pub shelved_row : SheetRow → Shelved
@@ -135,3 +181,14 @@ abbrev pub SiftsOn : {S : Type 0} → Ghosts S → (List ℕ → Option (List �
     → Held S → Held S → Type 0
 SiftsOn g files way badge Days sheet out written done before after =
     IsOpen g after → (day : ℤ) × Days day × SiftsSheet files way badge day sheet out written (fate_of done) (desk g before) (desk g after)
+
+-- Nothing was taken in and nothing written; or the first rows are taken so by the desk that stands.
+abbrev pub StopsRows : {S : Type 0} → Ghosts S → (List ℕ → Option (List ℕ)) → Way → List ℕ → ℤ → List ℕ → Option (List ℕ) → Option (List ℕ) → Held S → Held S → Type 0
+StopsRows g files way badge day sheet out written before after =
+    (Keeps out written × LeavesDesk g IsSame before after)
+    ⊎ (IsOpen g after → SiftsFront files way badge day (Some sheet) out written (desk g before) (desk g after))
+
+abbrev pub StopsOn : {S : Type 0} → Ghosts S → (List ℕ → Option (List ℕ)) → Way → List ℕ → (ℤ → Type 0) → Option (List ℕ) → Option (List ℕ) → Option (List ℕ) → Held S → Held S → Type 0
+StopsOn g files way badge Days sheet out written before after =
+    (Keeps out written × LeavesDesk g IsSame before after)
+    ⊎ (IsOpen g after → (day : ℤ) × Days day × SiftsFront files way badge day sheet out written (desk g before) (desk g after))

@@ -20,7 +20,7 @@ ghost use Rattle.rd_program.specs.Showing.{EndsWith};
 ghost use Rattle.rd_program.specs.Importing as told;
 ghost use Rattle.rd_program.specs.Sifting as spec;
 ghost use Rattle.rd_program.specs.Importing.{IsRowRefusal, RefusesImport, RefusesRow, RefusesRows, TellsRow, TellsRows, accession_line, bad_row_line, lost_row_line};
-ghost use Rattle.rd_program.specs.Sifting.{SiftsOn, SiftsOne, SiftsRows, SiftsSheetIn, TellsFate};
+ghost use Rattle.rd_program.specs.Sifting.{CutsFate, SiftsOn, SiftsOne, SiftsRows, SiftsSheetIn, StopsOn, StopsOne, StopsRows, StopsSheetIn, TellsFate};
 
 use crate::machine::{Machine, file_at, sheet_at};
 use crate::noted::{note_answer, note_bad_row};
@@ -258,6 +258,7 @@ fn tell_fate<M: Machine, W: Write>(
     output: &mut W,
 ) -> Result<Fate, Refusal>
     ensures written { IfOk result (TellsFate acc dry_run answer (W.contents output.old) (W.contents output.new)) }
+    ensures cut { OnErr result (CutsFate acc dry_run answer (W.contents output.old) (W.contents output.new)) }
     ensures flushed { OnOk result (IsTrue (M.flushed (W.contents output.new))) }
     ensures refused { IfErr result (RefusesRow (W.contents output.old) (W.contents output.new)) }
 {
@@ -288,8 +289,10 @@ fn import_row<W: Write, M: Machine>(
     ensures same { machine.new ≡ machine.old }
     ensures dry { way.dry_run ≡ true → LeavesDesk M.Disk.Store IsSame desk.old.store desk.new.store }
     ensures wet { way.dry_run ≡ false → LeavesDesk M.Disk.Store (TakesRow giver.badge giver.day row.entry) desk.old.store desk.new.store }
-    ensures row { IfOk result (λ fate. (fields : _) → Says fields row.entry → SiftsOne M.Disk.Store (M.seen machine.old).files way giver.badge giver.day number fields
-        fate shelf.old.images.items shelf.new.images.items (W.contents output.old) (W.contents output.new) desk.old.store desk.new.store) }
+    ensures row { IfOk result (λ fate. (fields : _) → Says fields row.entry → SiftsOne M.Disk.Store Appends (M.seen machine.old).files way giver.badge giver.day
+        number fields fate shelf.old.images.items shelf.new.images.items (W.contents output.old) (W.contents output.new) desk.old.store desk.new.store) }
+    ensures stopped { OnErr result ((fields : _) → Says fields row.entry → StopsOne M.Disk.Store (M.seen machine.old).files way giver.badge giver.day
+        number fields shelf.old.images.items shelf.new.images.items (W.contents output.old) (W.contents output.new) desk.old.store desk.new.store) }
     ensures written { IfOk result (TellsRow way.dry_run (W.contents output.old) (W.contents output.new)) }
     ensures flushed { OnOk result (IsTrue (M.flushed (W.contents output.new))) }
     ensures refused { IfErr result (RefusesRow (W.contents output.old) (W.contents output.new)) }
@@ -323,8 +326,10 @@ fn import_fields<W: Write, M: Machine>(
     ensures same { machine.new ≡ machine.old }
     ensures dry { way.dry_run ≡ true → LeavesDesk M.Disk.Store IsSame desk.old.store desk.new.store }
     ensures wet { way.dry_run ≡ false → LeavesDesk M.Disk.Store (TakesFields giver.badge giver.day (fields_of fields.now)) desk.old.store desk.new.store }
-    ensures row { IfOk result (λ fate. SiftsOne M.Disk.Store (M.seen machine.old).files way giver.badge giver.day number (fields_of fields.now)
+    ensures row { IfOk result (λ fate. SiftsOne M.Disk.Store Appends (M.seen machine.old).files way giver.badge giver.day number (fields_of fields.now)
         fate shelf.old.images.items shelf.new.images.items (W.contents output.old) (W.contents output.new) desk.old.store desk.new.store) }
+    ensures stopped { OnErr result (StopsOne M.Disk.Store (M.seen machine.old).files way giver.badge giver.day number (fields_of fields.now)
+        shelf.old.images.items shelf.new.images.items (W.contents output.old) (W.contents output.new) desk.old.store desk.new.store) }
     ensures written { IfOk result (TellsRow way.dry_run (W.contents output.old) (W.contents output.new)) }
     ensures flushed { OnOk result (IsTrue (M.flushed (W.contents output.new))) }
     ensures refused { IfErr result (RefusesRow (W.contents output.old) (W.contents output.new)) }
@@ -358,6 +363,8 @@ fn import_rows<W: Write, M: Machine>(
     ensures takes { LeavesDesk M.Disk.Store (TakesUnlessDry way.dry_run giver.badge (λ day. day ≡ giver.day)) desk.old.store desk.new.store }
     ensures rows { IfOk result (λ fate. SiftsRows M.Disk.Store (M.seen machine.old).files way giver.badge giver.day sheet.now
         (W.contents output.old) (W.contents output.new) fate desk.old.store desk.new.store) }
+    ensures stopped { OnErr result (StopsRows M.Disk.Store (M.seen machine.old).files way giver.badge giver.day sheet.now
+        (W.contents output.old) (W.contents output.new) desk.old.store desk.new.store) }
     ensures flushed { OnOk result (IsFlushed M.flushed (W.contents output.old) (W.contents output.new)) }
     ensures bad_sheet { IfErr result (IsBadSheetDue sheet.now) }
     ensures written { IfOk result (TellsRows way.dry_run (W.contents output.old) (W.contents output.new)) }
@@ -419,6 +426,9 @@ fn import_sheet<W: Write, M: Machine>(
     ensures rows { IfOk result (λ done. SiftsOn M.Disk.Store (M.seen machine.old).files way (sha256 ask.entry.key.now)
         (IsDayAt (moment_of ask.entry.when.seconds (M.seen machine.old).clock) desk.old.zone) ((M.seen machine.old).sheets ask.entry.sheet.now)
         (W.contents output.old) (W.contents output.new) done desk.old.store desk.new.store) }
+    ensures stopped { OnErr result (StopsOn M.Disk.Store (M.seen machine.old).files way (sha256 ask.entry.key.now)
+        (IsDayAt (moment_of ask.entry.when.seconds (M.seen machine.old).clock) desk.old.zone) ((M.seen machine.old).sheets ask.entry.sheet.now)
+        (W.contents output.old) (W.contents output.new) desk.old.store desk.new.store) }
     ensures written { IfOk result (λ done. TellsRows way.dry_run (W.contents output.old) (W.contents output.new) (spec.fate_of done)) }
     ensures flushed { OnOk result (IsFlushed M.flushed (W.contents output.old) (W.contents output.new)) }
     ensures refused { IfErr result (RefusesImport (W.contents output.old) (W.contents output.new)) }
@@ -457,6 +467,9 @@ pub(crate) fn import<W: Write, M: Machine>(
         (SiftsSheetIn M.Disk.Store (M.seen machine.old).files way (sha256 ask.entry.key.now)
         (IsDayAt (moment_of ask.entry.when.seconds (M.seen machine.old).clock) ask.entry.when.zone)
         ((M.seen machine.old).sheets ask.entry.sheet.now) (W.contents output.old) (W.contents output.new) done)) }
+    ensures stopped { OnErr result (StopsSheetIn M.Disk.Store (M.seen machine.old).files way (sha256 ask.entry.key.now)
+        (IsDayAt (moment_of ask.entry.when.seconds (M.seen machine.old).clock) ask.entry.when.zone) ((M.seen machine.old).sheets ask.entry.sheet.now)
+        (W.contents output.old) (W.contents output.new) (M.seen machine.old).left ((M.seen machine.old).stands ask.entry.store.now) (M.seen machine.new).left) }
     ensures written { IfOk result (λ done. TellsRows way.dry_run (W.contents output.old) (W.contents output.new) (spec.fate_of done)) }
     ensures flushed { OnOk result (IsFlushed M.flushed (W.contents output.old) (W.contents output.new)) }
     ensures refused { IfErr result (RefusesImport (W.contents output.old) (W.contents output.new)) }

@@ -1,8 +1,10 @@
-use Rattle.std.proofs.Common.{◌∙◌, IsTrue, ap, subst, sym, true, refl}
+use Rattle.std.proofs.Common.{◌∙◌, IsTrue, ap, inl, subst, sym, true, refl}
 use Rattle.sha2.specs.Sha256.{sha256}
-use Rattle.rd_program.specs.Leaves.{IsDayAt, LeavesDesk, TakesUnlessDry, moment_of}
+use Rattle.rd_program.specs.Leaves.{IsDayAt, IsSame, LeavesDesk, TakesUnlessDry, moment_of}
 use Rattle.rd_program.proofs.RowLemmas.{opening_no_sheet, shown_before}
-use Rattle.rd_program.proofs.SiftLemmas.{sift_ended}
+use Rattle.rd_program.proofs.SiftLemmas.{sift_ended, stop_ended}
+use Rattle.rd_program.proofs.ImportLemmas.{on_err}
+use Rattle.std.proofs.KnownBytes.{Keeps-refl}
 use Rattle.rd_program.proofs.ShowLemmas.{passed_on}
 use Rattle.rd_store.specs.Held.{desk}
 use Rattle.rd_program.proofs.Named.{asked_then}
@@ -95,3 +97,25 @@ pub returns-in_err-desk-clause-moment : goal.returns-in_err-desk-clause-moment
 returns-in_err-desk-clause-moment g c =
     unopened_at g.M.Disk.Store (g.M.Machine.seen c.args.machine.now) (g.M.Machine.seen c.open_desk.new.machine) (g.M.Machine.seen c.open_desk.new.machine) c.args.ask.store.now c.args.ask.when true c.from_residual.result
     c.in_err-desk.field-0.0 c.from_residual.ensures.1 c.in_err-desk.ensures.refused
+
+-- ---- the rows before the end
+
+pub returns-clause-stopped : goal.returns-clause-stopped
+returns-clause-stopped g c =
+    let told = c.args.ask.when.seconds in
+    let before = c.args.machine.now in
+    let opened = c.open_desk.new.machine in
+    stop_ended g.M.Disk.Store (g.M.Machine.seen before).files (g.M.Machine.seen opened).files c.args.way
+    (IsDayAt (moment_of told (g.M.Machine.seen before).clock) c.args.ask.when.zone) ((g.M.Machine.seen before).sheets c.args.ask.sheet.now)
+    (g.W.Write.contents c.args.output.now) (g.W.Write.contents c.import_sheet-imported.new.output) c.import_sheet-imported.result (sha256 c.args.ask.key.now)
+    (IsDayAt (moment_of told (g.M.Machine.seen opened).clock) c.in_ok-desk.desk.zone) ((g.M.Machine.seen opened).sheets c.args.ask.sheet.now)
+    (g.M.Machine.seen before).left ((g.M.Machine.seen before).stands c.args.ask.store.now) (g.M.Machine.seen c.release.new.self).left
+    c.in_ok-desk.desk.store c.import_sheet-imported.new.desk.store c.into_connection.result (ap (λ (w : World _ _). w.files) c.open_desk.ensures.frame) (ap (λ (w : World _ _). w.sheets c.args.ask.sheet.now) c.open_desk.ensures.frame)
+    (λ day at. subst (λ m. IsDayAt (moment_of told m) c.args.ask.when.zone day) (ap (λ (w : World _ _). w.clock) c.open_desk.ensures.frame) (subst (λ z. IsDayAt (moment_of told (g.M.Machine.seen opened).clock) z day) c.in_ok-desk.ensures.zone at))
+    c.in_ok-desk.ensures.opened c.import_sheet-imported.ensures.takes.lasts (c.into_connection.ensures.same ∙ c.into_store.ensures) c.release.ensures.left c.import_sheet-imported.ensures.stopped
+
+pub returns-in_err-desk-clause-stopped : goal.returns-in_err-desk-clause-stopped
+returns-in_err-desk-clause-stopped g c =
+    on_err c.from_residual.result _ (inl (Keeps-refl _,
+    unopened_left g.M.Disk.Store (g.M.Machine.seen c.args.machine.now).left ((g.M.Machine.seen c.args.machine.now).stands c.args.ask.store.now) (g.M.Machine.seen c.open_desk.new.machine).left
+    IsSame c.in_err-desk.field-0.0 c.in_err-desk.ensures.refused c.in_err-desk.ensures.left))

@@ -2,7 +2,10 @@ use Rattle.std.proofs.lemmas.Result.{IfOk-weaker}
 use Rattle.csv.specs.Records.{fields_of}
 use Rattle.rd_program.proofs.SiftLemmas.{bad_sifted}
 use Rattle.std.proofs.Common.{inl, inr, refl}
-use Rattle.rd_program.proofs.ImportLemmas.{row_refused}
+use Rattle.rd_program.proofs.ImportLemmas.{on_err, on_err_weaker, row_refused}
+use Rattle.std.specs.Io.KnownBytes.{Appends}
+use Rattle.rd_commands.specs.Output.{AppendsPart}
+use Rattle.rd_program.specs.declared.import.Fate.TheVariants.{Denied}
 use Rattle.rd_program.proofs.ShowLemmas.{passed_on}
 use Rattle.rd_program.proofs.import.import_fields.Goals as goal
 
@@ -11,7 +14,7 @@ returns-in-Some-clause-row g c = IfOk-weaker c.import_row.result _ _ (λ fate on
 
 pub returns-in_ok-tell_bad_row-in-None-clause-row : goal.returns-in_ok-tell_bad_row-in-None-clause-row
 returns-in_ok-tell_bad_row-in-None-clause-row g c =
-    bad_sifted g.M.Disk.Store _ c.args.way c.args.giver.badge c.args.giver.day c.args.number (fields_of c.args.fields.now) c.args.shelf.now.images.items _ _ c.args.desk.now.store
+    bad_sifted g.M.Disk.Store Appends _ c.args.way c.args.giver.badge c.args.giver.day c.args.number (fields_of c.args.fields.now) c.args.shelf.now.images.items _ _ c.args.desk.now.store
     c.in-None.ensures.bad c.in_ok-tell_bad_row-in-None.ensures.done
 
 pub returns-in_err-tell_bad_row-in-None-clause-refused : goal.returns-in_err-tell_bad_row-in-None-clause-refused
@@ -21,3 +24,12 @@ returns-in_err-tell_bad_row-in-None-clause-refused g c =
 
 pub returns-in_ok-tell_bad_row-in-None-clause-written : goal.returns-in_ok-tell_bad_row-in-None-clause-written
 returns-in_ok-tell_bad_row-in-None-clause-written g c = record { line = _; is = inr (c.args.number, inl refl); gained = c.in_ok-tell_bad_row-in-None.ensures.done }
+
+pub returns-in-Some-clause-stopped : goal.returns-in-Some-clause-stopped
+returns-in-Some-clause-stopped g c = on_err_weaker c.import_row.result _ _ (λ stops. stops (fields_of c.args.fields.now) c.in-Some.ensures.says) c.import_row.ensures.stopped
+
+pub returns-in_err-tell_bad_row-in-None-clause-stopped : goal.returns-in_err-tell_bad_row-in-None-clause-stopped
+returns-in_err-tell_bad_row-in-None-clause-stopped g c =
+    on_err c.from_residual.result _ (inr (Denied,
+    bad_sifted g.M.Disk.Store AppendsPart _ c.args.way c.args.giver.badge c.args.giver.day c.args.number (fields_of c.args.fields.now) c.args.shelf.now.images.items _ _ c.args.desk.now.store
+    c.in-None.ensures.bad c.in_err-tell_bad_row-in-None.ensures.cut))

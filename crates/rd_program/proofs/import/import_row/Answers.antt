@@ -1,13 +1,17 @@
 use Rattle.rd_program.proofs.DeskSteps.{row_taken}
-use Rattle.rd_program.proofs.SiftLemmas.{image_sifted, lost_sifted, none_is, some_is}
-use Rattle.std.proofs.Common.{inr, refl}
-use Rattle.rd_program.proofs.ImportLemmas.{answer_row, none_of_line, row_refused}
+use Rattle.rd_program.proofs.SiftLemmas.{image_sifted, image_stops, lost_sifted, none_is, some_is}
+use Rattle.std.proofs.Common.{inl, inr, refl}
+use Rattle.std.proofs.KnownBytes.{Keeps-refl}
+use Rattle.std.specs.Io.KnownBytes.{Appends}
+use Rattle.rd_commands.specs.Output.{AppendsPart}
+use Rattle.rd_program.specs.declared.import.Fate.TheVariants.{Lost}
+use Rattle.rd_program.proofs.ImportLemmas.{answer_row, none_of_line, on_err, row_refused}
 use Rattle.rd_program.proofs.ShowLemmas.{passed_on}
 use Rattle.rd_program.proofs.import.import_row.Goals as goal
 
 pub returns-in_default-clause-row : goal.returns-in_default-clause-row
 returns-in_default-clause-row g c = λ fields says.
-    lost_sifted g.M.Disk.Store _ c.args.way c.args.giver.badge c.args.giver.day c.args.number c.args.row fields c.args.shelf.now.images.items _ _ c.args.desk.now.store
+    lost_sifted g.M.Disk.Store Appends _ c.args.way c.args.giver.badge c.args.giver.day c.args.number c.args.row fields c.args.shelf.now.images.items _ _ c.args.desk.now.store
     (none_is _ c.in_default.is c.in_ok-bytes.ensures.lost) says c.in_ok-tell_lost_row.ensures.done
 
 pub returns-clause-row : goal.returns-clause-row
@@ -41,3 +45,23 @@ returns-in_default-clause-written g c = record { line = _; is = inr (c.args.numb
 
 pub returns-clause-written : goal.returns-clause-written
 returns-clause-written g c = answer_row c.args.row.acc c.args.way.dry_run c.answer_to_row-answer.result c.tell_fate.result _ _ c.tell_fate.ensures.written
+
+-- ---- a row that is not done, or whose line is not written whole
+
+pub returns-in_err-bytes-clause-stopped : goal.returns-in_err-bytes-clause-stopped
+returns-in_err-bytes-clause-stopped g c = on_err c.from_residual.result _ (λ fields says. inl (Keeps-refl _, λ is_open. refl))
+
+pub returns-in_err-tell_lost_row-clause-stopped : goal.returns-in_err-tell_lost_row-clause-stopped
+returns-in_err-tell_lost_row-clause-stopped g c =
+    on_err c.from_residual-in_err-tell_lost_row.result _ (λ fields says. inr (Lost,
+    lost_sifted g.M.Disk.Store AppendsPart _ c.args.way c.args.giver.badge c.args.giver.day c.args.number c.args.row fields c.args.shelf.now.images.items _ _ c.args.desk.now.store
+    (none_is _ c.in_default.is c.in_ok-bytes.ensures.lost) says c.in_err-tell_lost_row.ensures.cut))
+
+pub returns-clause-stopped : goal.returns-clause-stopped
+returns-clause-stopped g c =
+    let asked = c.answer_to_row-answer in
+    image_stops g.M.Disk.Store _ c.args.way c.args.giver.badge c.args.giver.day c.args.number c.args.row c.in-Some.bytes.items asked.result c.tell_fate.result
+    c.args.shelf.now.images.items asked.new.shelf.images.items _ _ c.args.desk.now.store asked.new.desk.store
+    (some_is _ _ c.in-Some.bytes c.in-Some.is c.in_ok-bytes.ensures.read)
+    (λ dry is_open. let reads = asked.ensures.dry dry in (reads.keeps.same is_open, reads.answer is_open))
+    (λ wet is_open. (asked.ensures.wet wet).answers is_open) c.tell_fate.ensures.cut

@@ -3,11 +3,13 @@ use Rattle.std.proofs.KnownBytes.{Keeps-refl}
 use Rattle.csv.specs.Records.{fields_of}
 use Rattle.rd_program.proofs.RowLemmas.{due_if, none_expected, row_no_sheet}
 use Rattle.rd_program.proofs.ShowLemmas.{passed_on}
-use Rattle.rd_program.proofs.SiftLemmas.{SiftedSoFar, sifted_all, sifted_more, sifted_no_sheet, sifted_none, sifts_lasts, sifts_then}
+use Rattle.rd_program.proofs.SiftLemmas.{SiftedSoFar, sifted_all, sifted_more, sifted_no_sheet, sifted_none, sifts_lasts, sifts_then, stops_at, stops_between}
 use Rattle.rd_program.specs.Importing.{IsDoneLine, TellsRows}
-use Rattle.rd_program.specs.Sifting.{SiftsOne}
+use Rattle.rd_program.specs.Sifting.{SiftsOne, StopsOne}
+use Rattle.std.specs.Io.KnownBytes.{Appends}
+use Rattle.rd_store.proofs.Laws.{lasts_still}
 use Rattle.rd_program.specs.declared.import.Fate.TheVariants.{Done}
-use Rattle.rd_program.proofs.ImportLemmas.{ends_at_row, ends_between, front_kept, no_rows, rows_more, rows_of}
+use Rattle.rd_program.proofs.ImportLemmas.{ends_at_row, ends_between, front_kept, no_rows, on_err, rows_more, rows_of}
 use Rattle.rd_program.proofs.import.import_rows.Goals as goal
 
 pub loop-number-init : goal.loop-number-init
@@ -36,10 +38,10 @@ loop-number-preserved g c = record {
       (sifted_more g.M.Disk.Store (g.M.Machine.seen c.args.machine.now).files c.args.way c.args.giver.badge c.args.giver.day c.args.sheet.now (g.W.Write.contents c.args.output.now) c.args.desk.now.store
       c.loop-number.desk.store c.import_fields.new.desk.store (g.W.Write.contents c.loop-number.output) (g.W.Write.contents c.import_fields.new.output) c.loop-number.reader c.next_row-in-loop-number.new.reader
       c.loop-number.number c.loop-number.fate c.in_ok-row.row c.loop-number.shelf.images.items c.import_fields.new.shelf.images.items c.in_ok-next_row-2.field-0 _ c.in_ok-next_row-2.ensures.reads_on
-      c.loop-number.invariant.rows (c.in_ok-next_row-2.ensures.read c.loop-number.invariant.rows.at.untrimmed c.loop-number.invariant.rows.at.ready)
-      c.in_ok-next_row-2.ensures.kept (c.in_ok-next_row-2.ensures.ready c.loop-number.invariant.rows.at.untrimmed) (search rules)
+      c.loop-number.invariant.rows (c.in_ok-next_row-2.ensures.read c.loop-number.invariant.rows.so.at.untrimmed c.loop-number.invariant.rows.so.at.ready)
+      c.in_ok-next_row-2.ensures.kept (c.in_ok-next_row-2.ensures.ready c.loop-number.invariant.rows.so.at.untrimmed) (search rules)
       (λ o. (sifts_lasts g.M.Disk.Store c.args.way.dry_run _ _ _ c.import_fields.ensures.dry c.import_fields.ensures.wet).was_open o)
-      (subst (λ m. SiftsOne g.M.Disk.Store (g.M.Machine.seen m).files c.args.way c.args.giver.badge c.args.giver.day c.loop-number.number (fields_of c.next_row-in-loop-number.new.fields) c.in_ok-row.row
+      (subst (λ m. SiftsOne g.M.Disk.Store Appends (g.M.Machine.seen m).files c.args.way c.args.giver.badge c.args.giver.day c.loop-number.number (fields_of c.next_row-in-loop-number.new.fields) c.in_ok-row.row
       c.loop-number.shelf.images.items c.import_fields.new.shelf.images.items (g.W.Write.contents c.loop-number.output) (g.W.Write.contents c.import_fields.new.output) c.loop-number.desk.store c.import_fields.new.desk.store)
       c.loop-number.invariant.same c.in_ok-row.ensures.row));
   takes = sifts_then g.M.Disk.Store c.args.way.dry_run c.args.giver.badge c.args.giver.day _ c.args.desk.now.store c.loop-number.desk.store c.import_fields.new.desk.store c.loop-number.invariant.takes
@@ -51,8 +53,8 @@ returns-then-not-branch-2-clause-rows g c =
     sifted_all g.M.Disk.Store (g.M.Machine.seen c.args.machine.now).files c.args.way c.args.giver.badge c.args.giver.day c.args.sheet.now (g.W.Write.contents c.args.output.now) c.args.desk.now.store
     c.loop-number.desk.store (g.W.Write.contents c.loop-number.output) c.loop-number.reader c.next_row-in-loop-number.new.reader c.loop-number.number c.loop-number.fate
     c.loop-number.shelf.images.items c.in_ok-next_row-2.field-0 _ c.loop-number.invariant.rows
-    (c.in_ok-next_row-2.ensures.read c.loop-number.invariant.rows.at.untrimmed c.loop-number.invariant.rows.at.ready)
-    c.in_ok-next_row-2.ensures.kept (c.in_ok-next_row-2.ensures.ready c.loop-number.invariant.rows.at.untrimmed) (search rules)
+    (c.in_ok-next_row-2.ensures.read c.loop-number.invariant.rows.so.at.untrimmed c.loop-number.invariant.rows.so.at.ready)
+    c.in_ok-next_row-2.ensures.kept (c.in_ok-next_row-2.ensures.ready c.loop-number.invariant.rows.so.at.untrimmed) (search rules)
 
 pub returns-in_err-row-clause-takes : goal.returns-in_err-row-clause-takes
 returns-in_err-row-clause-takes g c =
@@ -86,7 +88,7 @@ returns-in_err-next_row-2-clause-bad_sheet g c =
     passed_on c.from_residual-in_err-next_row-2.result c.in_err-next_row-2.field-0.0 _ c.from_residual-in_err-next_row-2.ensures.1
     (due_if c.args.sheet.now c.in_err-next_row-2.field-0.0 (λ bad. sifted_no_sheet g.M.Disk.Store (g.M.Machine.seen c.args.machine.now).files c.args.way c.args.giver.badge c.args.giver.day c.args.sheet.now
     (g.W.Write.contents c.args.output.now) c.args.desk.now.store c.loop-number.desk.store (g.W.Write.contents c.loop-number.output) c.loop-number.reader c.next_row-in-loop-number.new.reader
-    c.loop-number.number c.loop-number.fate c.loop-number.shelf.images.items c.loop-number.invariant.rows (c.in_err-next_row-2.ensures.length c.loop-number.invariant.rows.at.ready bad)))
+    c.loop-number.number c.loop-number.fate c.loop-number.shelf.images.items c.loop-number.invariant.rows (c.in_err-next_row-2.ensures.length c.loop-number.invariant.rows.so.at.ready bad)))
 
 pub returns-in_err-next_row-clause-bad_sheet : goal.returns-in_err-next_row-clause-bad_sheet
 returns-in_err-next_row-clause-bad_sheet g c =
@@ -97,3 +99,36 @@ returns-in_err-next_row-clause-bad_sheet g c =
 pub returns-in_err-row-clause-bad_sheet : goal.returns-in_err-row-clause-bad_sheet
 returns-in_err-row-clause-bad_sheet g c =
     passed_on c.from_residual-in_err-row.result c.in_err-row.field-0.0 _ c.from_residual-in_err-row.ensures.1 (row_no_sheet c.args.sheet.now c.in_err-row.field-0.0 c.in_err-row.ensures.refused.0)
+
+-- ---- the rows before the end
+
+pub returns-in_err-next_row-clause-stopped : goal.returns-in_err-next_row-clause-stopped
+returns-in_err-next_row-clause-stopped g c =
+    on_err c.from_residual.result _ (inl (Keeps-refl _, record { lasts = lasts_still g.M.Disk.Store c.args.desk.now.store; reached = λ is_open. refl }))
+
+pub returns-then-not-branch-clause-stopped : goal.returns-then-not-branch-clause-stopped
+returns-then-not-branch-clause-stopped g c = inl (Keeps-refl _, record { lasts = lasts_still g.M.Disk.Store c.args.desk.now.store; reached = λ is_open. refl })
+
+pub returns-in_err-next_row-2-clause-stopped : goal.returns-in_err-next_row-2-clause-stopped
+returns-in_err-next_row-2-clause-stopped g c =
+    on_err c.from_residual-in_err-next_row-2.result _
+    (stops_between g.M.Disk.Store (g.M.Machine.seen c.args.machine.now).files c.args.way c.args.giver.badge c.args.giver.day c.args.sheet.now (g.W.Write.contents c.args.output.now) c.args.desk.now.store
+    c.loop-number.desk.store (g.W.Write.contents c.loop-number.output) c.loop-number.reader c.loop-number.number c.loop-number.fate c.loop-number.shelf.images.items c.loop-number.invariant.rows)
+
+pub returns-in_err-row-clause-stopped : goal.returns-in_err-row-clause-stopped
+returns-in_err-row-clause-stopped g c =
+    on_err c.from_residual-in_err-row.result _
+    (stops_at g.M.Disk.Store (g.M.Machine.seen c.args.machine.now).files c.args.way c.args.giver.badge c.args.giver.day c.args.sheet.now (g.W.Write.contents c.args.output.now) c.args.desk.now.store
+    c.loop-number.desk.store c.import_fields.new.desk.store (g.W.Write.contents c.loop-number.output) (g.W.Write.contents c.import_fields.new.output) c.loop-number.reader c.next_row-in-loop-number.new.reader
+    c.loop-number.number c.loop-number.fate c.loop-number.shelf.images.items c.import_fields.new.shelf.images.items c.in_ok-next_row-2.field-0 _ c.in_ok-next_row-2.ensures.reads_on
+    c.loop-number.invariant.rows (c.in_ok-next_row-2.ensures.read c.loop-number.invariant.rows.so.at.untrimmed c.loop-number.invariant.rows.so.at.ready)
+    c.in_ok-next_row-2.ensures.kept (c.in_ok-next_row-2.ensures.ready c.loop-number.invariant.rows.so.at.untrimmed) (search rules)
+    (λ o. (sifts_lasts g.M.Disk.Store c.args.way.dry_run _ _ _ c.import_fields.ensures.dry c.import_fields.ensures.wet).was_open o)
+    (subst (λ m. StopsOne g.M.Disk.Store (g.M.Machine.seen m).files c.args.way c.args.giver.badge c.args.giver.day c.loop-number.number (fields_of c.next_row-in-loop-number.new.fields)
+    c.loop-number.shelf.images.items c.import_fields.new.shelf.images.items (g.W.Write.contents c.loop-number.output) (g.W.Write.contents c.import_fields.new.output) c.loop-number.desk.store c.import_fields.new.desk.store)
+    c.loop-number.invariant.same c.in_err-row.ensures.stopped))
+
+pub returns-clause-stopped : goal.returns-clause-stopped
+returns-clause-stopped g c =
+    stops_between g.M.Disk.Store (g.M.Machine.seen c.args.machine.now).files c.args.way c.args.giver.badge c.args.giver.day c.args.sheet.now (g.W.Write.contents c.args.output.now) c.args.desk.now.store
+    c.loop-number.desk.store (g.W.Write.contents c.loop-number.output) c.loop-number.reader c.loop-number.number c.loop-number.fate c.loop-number.shelf.images.items c.loop-number.invariant.rows

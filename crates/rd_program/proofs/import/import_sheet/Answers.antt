@@ -5,10 +5,10 @@ use Rattle.std.proofs.lemmas.Result.{IfErr-weaker, IfOk-weaker}
 use Rattle.sha2.specs.Sha256.{sha256}
 use Rattle.rd_program.specs.Leaves.{IsDayAt, moment_of}
 use Rattle.rd_store.proofs.Laws.{lasts_still}
-use Rattle.rd_program.proofs.ImportLemmas.{day_failed, front_kept, machine_failed, rows_of, rows_why, sheet_failed}
+use Rattle.rd_program.proofs.ImportLemmas.{day_failed, front_kept, machine_failed, on_err, rows_of, rows_why, sheet_failed}
 use Rattle.rd_program.proofs.LeftStores.{still_same}
 use Rattle.rd_program.proofs.ShowLemmas.{passed_on}
-use Rattle.rd_program.proofs.SiftLemmas.{sifted_on, sifts_from, still_sifts}
+use Rattle.rd_program.proofs.SiftLemmas.{sifted_on, sifts_from, still_sifts, stops_on, whole_front}
 use Rattle.rd_program.proofs.Moments.{asks_none, asks_then, row_never, row_opened}
 use Rattle.rd_program.specs.World.{World}
 use Rattle.rd_program.specs.Importing.{TellsRows}
@@ -118,3 +118,41 @@ returns-in_err-import_rows-clause-bad_sheet g c =
 pub returns-clause-bad_sheet : goal.returns-clause-bad_sheet
 returns-clause-bad_sheet g c =
     IfErr-weaker c.ended_by.result _ _ (λ refusal is. always_due ((g.M.Machine.seen c.args.machine.now).sheets c.args.ask.sheet.now) refusal (λ sheet. row_no_sheet sheet refusal (inl is))) c.ended_by.ensures.lost
+
+-- ---- the rows before the end
+
+pub returns-in_err-day-clause-stopped : goal.returns-in_err-day-clause-stopped
+returns-in_err-day-clause-stopped g c =
+    on_err c.from_residual.result _ (inl (Keeps-refl _, still_same g.M.Disk.Store c.args.desk.now.store c.day_on_time.new.desk.store c.day_on_time.ensures.reads))
+
+pub returns-in-Err-clause-stopped : goal.returns-in-Err-clause-stopped
+returns-in-Err-clause-stopped g c = inl (Keeps-refl _, still_same g.M.Disk.Store c.args.desk.now.store c.day_on_time.new.desk.store c.day_on_time.ensures.reads)
+
+pub returns-in_err-import_rows-clause-stopped : goal.returns-in_err-import_rows-clause-stopped
+returns-in_err-import_rows-clause-stopped g c =
+    let fits : FitsSigned w32 c.in_ok-day.day = search rules in
+    let path = c.args.ask.sheet.now in
+    let read = subst (λ b. IfSome ((g.M.Machine.seen c.day_on_time.new.machine).sheets path) (λ sheet. b ≡ sheet)) (sym c.as_slice.ensures.value) c.in-Ok.ensures.bytes in
+    on_err c.from_residual-in_err-import_rows.result _ (stops_on g.M.Disk.Store (g.M.Machine.seen c.args.machine.now).files (g.M.Machine.seen c.sheet_at.new.machine).files c.args.way
+    (IsDayAt (moment_of c.args.ask.when.seconds (g.M.Machine.seen c.args.machine.now).clock) c.args.desk.now.zone)
+    ((g.M.Machine.seen c.args.machine.now).sheets path) (g.W.Write.contents c.args.output.now) (g.W.Write.contents c.import_rows.new.output)
+    c.digest-badge.result (sha256 c.args.ask.key.now) c.as_slice.result.now _ c.args.desk.now.store c.day_on_time.new.desk.store c.import_rows.new.desk.store
+    (ap (λ m. (g.M.Machine.seen m).files) c.sheet_at.ensures.same ∙ ap (λ (w : World _ _). w.files) c.day_on_time.ensures.frame)
+    (still_same g.M.Disk.Store c.args.desk.now.store c.day_on_time.new.desk.store c.day_on_time.ensures.reads) (λ o. c.import_rows.ensures.takes.lasts.was_open o)
+    (subst (IsDayAt (moment_of c.args.ask.when.seconds (g.M.Machine.seen c.args.machine.now).clock) c.args.desk.now.zone) (sym (to_z-of_z w32 c.in_ok-day.day fits)) c.in_ok-day.ensures.day)
+    c.digest-badge.ensures (subst (λ shown. IfSome shown (λ sheet. c.as_slice.result.now ≡ sheet)) (ap (λ (w : World _ _). w.sheets path) c.day_on_time.ensures.frame) read) c.in_err-import_rows.ensures.stopped)
+
+pub returns-clause-stopped : goal.returns-clause-stopped
+returns-clause-stopped g c =
+    let fits : FitsSigned w32 c.in_ok-day.day = search rules in
+    let path = c.args.ask.sheet.now in
+    let read = subst (λ b. IfSome ((g.M.Machine.seen c.day_on_time.new.machine).sheets path) (λ sheet. b ≡ sheet)) (sym c.as_slice.ensures.value) c.in-Ok.ensures.bytes in
+    on_err c.ended_by.result _ (stops_on g.M.Disk.Store (g.M.Machine.seen c.args.machine.now).files (g.M.Machine.seen c.sheet_at.new.machine).files c.args.way
+    (IsDayAt (moment_of c.args.ask.when.seconds (g.M.Machine.seen c.args.machine.now).clock) c.args.desk.now.zone)
+    ((g.M.Machine.seen c.args.machine.now).sheets path) (g.W.Write.contents c.args.output.now) (g.W.Write.contents c.import_rows.new.output)
+    c.digest-badge.result (sha256 c.args.ask.key.now) c.as_slice.result.now _ c.args.desk.now.store c.day_on_time.new.desk.store c.import_rows.new.desk.store
+    (ap (λ m. (g.M.Machine.seen m).files) c.sheet_at.ensures.same ∙ ap (λ (w : World _ _). w.files) c.day_on_time.ensures.frame)
+    (still_same g.M.Disk.Store c.args.desk.now.store c.day_on_time.new.desk.store c.day_on_time.ensures.reads) (λ o. c.import_rows.ensures.takes.lasts.was_open o)
+    (subst (IsDayAt (moment_of c.args.ask.when.seconds (g.M.Machine.seen c.args.machine.now).clock) c.args.desk.now.zone) (sym (to_z-of_z w32 c.in_ok-day.day fits)) c.in_ok-day.ensures.day)
+    c.digest-badge.ensures (subst (λ shown. IfSome shown (λ sheet. c.as_slice.result.now ≡ sheet)) (ap (λ (w : World _ _). w.sheets path) c.day_on_time.ensures.frame) read)
+    (inr (λ is_open. whole_front _ _ _ _ _ _ _ _ _ _ (c.in_ok-import_rows.ensures.rows is_open))))
