@@ -38,29 +38,29 @@ module _ {S : Type 0} (g : Ghosts S) where
       after_opening g was old new (IsOpenedToRead g) opened last conn is (λ before at. opened_to_read g before opened last at read) same took
 
   -- no visits were served, for this reason
-  pub serve_not_begun : (was old new : Option (Held S)) (place : Place) (out written : Option (List ℕ)) (refusal : Refusal) → RefusesVisits place out written refusal
-      → Leaves was old new (IsOpenedToRead g) → LeavesServe g was old new place out written refusal
-  serve_not_begun was old new place out written Clock kept left = inr left
-  serve_not_begun was old new place out written Device failed left = inr left
-  serve_not_begun was old new place out written NoMemory failed left = inr left
-  serve_not_begun was old new place out written Store kept left =
+  pub serve_not_begun : (was old new : Option (Held S)) (place : Place) (out written : Option (List ℕ)) (Visited : Type 0) (refusal : Refusal) → RefusesVisits place out written refusal
+      → Leaves was old new (IsOpenedToRead g) → LeavesServe g was old new place out written Visited refusal
+  serve_not_begun was old new place out written Visited Clock kept left = inr left
+  serve_not_begun was old new place out written Visited Device failed left = inr left
+  serve_not_begun was old new place out written Visited NoMemory failed left = inr left
+  serve_not_begun was old new place out written Visited Store kept left =
       leaves_weaker was old new (IsOpenedToRead g) (λ before after. IsNotMigrated g before after open_fault.Sql ⊎ IsOpenedToRead g before after) (λ before after read. inr read) left
-  serve_not_begun was old new place out written refusal failed left = absurd failed.0
+  serve_not_begun was old new place out written Visited refusal failed left = absurd failed.0
 
   -- nor was a desk opened
-  pub serve_unopened : (was old new : Option (Held S)) (place : Place) (out written : Option (List ℕ)) (refusal : Refusal) → IsOpenRefusal refusal
-      → LeavesUnopened g was old new refusal → LeavesServe g was old new place out written refusal
-  serve_unopened was old new place out written refusal (inl is) left =
-      subst (LeavesServe g was old new place out written) (sym is) (subst (LeavesUnopened g was old new) is left)
-  serve_unopened was old new place out written refusal (inr (inl is)) left =
-      subst (LeavesServe g was old new place out written) (sym is) (subst (LeavesUnopened g was old new) is left)
-  serve_unopened was old new place out written refusal (inr (inr (inl is))) left =
-      subst (LeavesServe g was old new place out written) (sym is) (subst (LeavesUnopened g was old new) is left)
-  serve_unopened was old new place out written refusal (inr (inr (inr (inl is)))) left =
-      subst (LeavesServe g was old new place out written) (sym is) (leaves_weaker was old new (λ before after. IsNotMigrated g before after open_fault.Sql)
+  pub serve_unopened : (was old new : Option (Held S)) (place : Place) (out written : Option (List ℕ)) (Visited : Type 0) (refusal : Refusal) → IsOpenRefusal refusal
+      → LeavesUnopened g was old new refusal → LeavesServe g was old new place out written Visited refusal
+  serve_unopened was old new place out written Visited refusal (inl is) left =
+      subst (LeavesServe g was old new place out written Visited) (sym is) (subst (LeavesUnopened g was old new) is left)
+  serve_unopened was old new place out written Visited refusal (inr (inl is)) left =
+      subst (LeavesServe g was old new place out written Visited) (sym is) (subst (LeavesUnopened g was old new) is left)
+  serve_unopened was old new place out written Visited refusal (inr (inr (inl is))) left =
+      subst (LeavesServe g was old new place out written Visited) (sym is) (subst (LeavesUnopened g was old new) is left)
+  serve_unopened was old new place out written Visited refusal (inr (inr (inr (inl is)))) left =
+      subst (LeavesServe g was old new place out written Visited) (sym is) (leaves_weaker was old new (λ before after. IsNotMigrated g before after open_fault.Sql)
       (λ before after. IsNotMigrated g before after open_fault.Sql ⊎ IsOpenedToRead g before after) (λ before after failed. inl failed) (subst (LeavesUnopened g was old new) is left))
-  serve_unopened was old new place out written refusal (inr (inr (inr (inr is)))) left =
-      subst (LeavesServe g was old new place out written) (sym is) (inr (none_left was old new (IsOpenedToRead g) (subst (LeavesUnopened g was old new) is left)))
+  serve_unopened was old new place out written Visited refusal (inr (inr (inr (inr is)))) left =
+      subst (LeavesServe g was old new place out written Visited) (sym is) (inr (none_left was old new (IsOpenedToRead g) (subst (LeavesUnopened g was old new) is left)))
 
   -- after they began, the first line is written
   listened_part : (place : Place) (visits : ℕ) (out mid written : Option (List ℕ)) → Appends out mid (listening_at place) → AppendsPart mid written (served_line visits)
@@ -71,22 +71,23 @@ module _ {S : Type 0} (g : Ghosts S) where
   listened_kept place out mid written first kept =
       ([], subst (Appends out written) (sym (append-nil (listening_at place))) (Appends-kept out mid written (listening_at place) first kept))
 
-  of_device : (was old new : Option (Held S)) (place : Place) (out written : Option (List ℕ)) (refusal : Refusal) → IsDeviceOrMemory refusal
-      → HasListened place out written → LeavesServe g was old new place out written refusal
-  of_device was old new place out written Device failure first = inl first
-  of_device was old new place out written NoMemory failure first = inl first
-  of_device was old new place out written refusal failure first = absurd failure
+  of_device : (was old new : Option (Held S)) (place : Place) (out written : Option (List ℕ)) (Visited : Type 0) (refusal : Refusal) → IsDeviceOrMemory refusal
+      → HasListened place out written × Visited → LeavesServe g was old new place out written Visited refusal
+  of_device was old new place out written Visited Device failure first = inl first
+  of_device was old new place out written Visited NoMemory failure first = inl first
+  of_device was old new place out written Visited refusal failure first = absurd failure
 
-  ended_left : (was old new : Option (Held S)) (how : Ended) (place : Place) (visits : ℕ) (out mid written : Option (List ℕ)) (refusal : Refusal)
-      → Appends out mid (listening_at place) → RefusesToEnd how visits mid written refusal → LeavesServe g was old new place out written refusal
-  ended_left was old new ended.Count place visits out mid written refusal first refused =
-      of_device was old new place out written refusal refused.0 (listened_part place visits out mid written first refused.1)
-  ended_left was old new ended.Clock place visits out mid written refusal first refused =
-      subst (LeavesServe g was old new place out written) (sym refused.0) (inl (listened_kept place out mid written first refused.1))
-  ended_left was old new ended.Shut place visits out mid written refusal first refused =
-      subst (LeavesServe g was old new place out written) (sym refused.0) (inl (listened_kept place out mid written first refused.1))
+  ended_left : (was old new : Option (Held S)) (how : Ended) (place : Place) (visits : ℕ) (out mid written : Option (List ℕ)) (Visited : Type 0) (refusal : Refusal)
+      → Visited → Appends out mid (listening_at place) → RefusesToEnd how visits mid written refusal → LeavesServe g was old new place out written Visited refusal
+  ended_left was old new ended.Count place visits out mid written Visited refusal visited first refused =
+      of_device was old new place out written Visited refusal refused.0 (listened_part place visits out mid written first refused.1, visited)
+  ended_left was old new ended.Clock place visits out mid written Visited refusal visited first refused =
+      subst (LeavesServe g was old new place out written Visited) (sym refused.0) (inl (listened_kept place out mid written first refused.1, visited))
+  ended_left was old new ended.Shut place visits out mid written Visited refusal visited first refused =
+      subst (LeavesServe g was old new place out written Visited) (sym refused.0) (inl (listened_kept place out mid written first refused.1, visited))
 
-  pub serve_ended : {T : Type 0} (r : Result T Refusal) (was old new : Option (Held S)) (how : Ended) (place : Place) (visits : ℕ) (out mid written : Option (List ℕ))
-      → Appends out mid (listening_at place) → IfErr r (RefusesToEnd how visits mid written) → IfErr r (LeavesServe g was old new place out written)
-  serve_ended (Ok value) was old new how place visits out mid written first refused = tt
-  serve_ended (Err refusal) was old new how place visits out mid written first refused = ended_left was old new how place visits out mid written refusal first refused
+  pub serve_ended : {T : Type 0} (r : Result T Refusal) (was old new : Option (Held S)) (how : Ended) (place : Place) (visits : ℕ) (out mid written : Option (List ℕ)) (Visited : Type 0)
+      → Visited → Appends out mid (listening_at place) → IfErr r (RefusesToEnd how visits mid written) → IfErr r (LeavesServe g was old new place out written Visited)
+  serve_ended (Ok value) was old new how place visits out mid written Visited visited first refused = tt
+  serve_ended (Err refusal) was old new how place visits out mid written Visited visited first refused =
+      ended_left was old new how place visits out mid written Visited refusal visited first refused

@@ -14,41 +14,36 @@ use Rattle.rd_commands.specs.declared.serving.Timeouts.{Timeouts}
 use Rattle.rd_messages.specs.declared.pace.TimeLimits.{TimeLimits}
 use Rattle.rd_program.specs.Serving.{AreLimitsOf, WritesOnceLent}
 use Rattle.rd_program.specs.Visiting.{RunsVisits, ServesDoor, ServesVisits}
+use Rattle.rd_program.specs.Showing.{EndsWith}
 use Rattle.rd_program.proofs.ShowLemmas.{ends_with}
 
 module _ {S D : Type 0} (g : Ghosts S) (told : D → Option VisitsSoFar) (coming : D → Option (List Coming)) where
-  serves_visits : (count : ℕ) (zone : Zone) (before after : D) (stood opened last : Held S) (served : Served) → served.visits ≡ count → served.ended ≡ Count
-      → IsMigrated g stood opened → Lasts g opened last → RunsVisits g told coming zone before after served opened last
-      → ServesVisits g told coming count zone before after stood last
-  serves_visits count zone before after stood opened last served counted whole at lasts runs = record {
-    served = served;
-    counted = counted;
-    whole = whole;
-    runs = λ is_open. (desk g opened, at.is (lasts.was_open is_open), runs is_open);
-  }
-
-  both_doors : (count : ℕ) (zone : Zone) (door later : Option D) (old new : Option (Held S)) (opened last conn : Held S) (served : Served)
-      → served.visits ≡ count → served.ended ≡ Count → IfSome old (λ before. IsMigrated g before opened) → Lasts g opened last → conn ≡ last
-      → IfSome new (λ held. Some conn ≡ Some held)
+  both_doors : (Ends : Served → Type 0) (zone : Zone) (door later : Option D) (old new : Option (Held S)) (opened last conn : Held S) (served : Served)
+      → Ends served → IfSome old (λ before. IsMigrated g before opened) → Lasts g opened last → conn ≡ last → IfSome new (λ held. Some conn ≡ Some held)
       → IfSome door (λ before. IsSomeAnd later (λ after. RunsVisits g told coming zone before after served opened last))
-      → ServesDoor g told coming count zone door later old new
-  both_doors count zone None later old new opened last conn served counted whole is lasts same took runs = tt
-  both_doors count zone (Some before) (Some after) old new opened last conn served counted whole is lasts same took runs =
-      ends_with g old new opened last conn (ServesVisits g told coming count zone before after) is
-      (λ stood at. serves_visits count zone before after stood opened last served counted whole at lasts runs) same took
-  both_doors count zone (Some before) None old new opened last conn served counted whole is lasts same took runs = absurd runs
+      → IfSome door (λ before. IsSomeAnd later (λ after. EndsWith old new (ServesVisits g told coming Ends zone before after)))
+  both_doors Ends zone None later old new opened last conn served ends is lasts same took runs = tt
+  both_doors Ends zone (Some before) (Some after) old new opened last conn served ends is lasts same took runs =
+      ends_with g old new opened last conn (ServesVisits g told coming Ends zone before after) is
+      (λ stood at. record { served = served; ends = ends; runs = λ is_open. (desk g opened, at.is (lasts.was_open is_open), runs is_open) }) same took
+  both_doors Ends zone (Some before) None old new opened last conn served ends is lasts same took runs = absurd runs
 
-  pub serves_door : {T E : Type 0} (r : Result T E) (served : Served) (count : ℕ) (zone asked : Zone) (mid door lent later : Option D) (old new : Option (Held S))
-      (opened last conn : Held S) → zone ≡ asked → mid ≡ door → later ≡ lent → IfSome old (λ before. IsMigrated g before opened) → Lasts g opened last
-      → conn ≡ last → IfSome new (λ held. Some conn ≡ Some held) → (served.ended ≡ Count → served.visits ≡ count) → OnOk r (served.ended ≡ Count)
-      → (served.ended ≡ Count → IfSome mid (λ before. IsSomeAnd lent (λ after. RunsVisits g told coming zone before after served opened last)))
-      → OnOk r (ServesDoor g told coming count asked door later old new)
-  serves_door (Ok value) served count zone asked mid door lent later old new opened last conn by here there is lasts same took counted whole runs =
-      subst (λ z. ServesDoor g told coming count z door later old new) by
-      (subst (λ d. ServesDoor g told coming count zone d later old new) here
-      (subst (λ d. ServesDoor g told coming count zone mid d old new) (sym there)
-      (both_doors count zone mid lent old new opened last conn served (counted whole) whole is lasts same took (runs whole))))
-  serves_door (Err error) served count zone asked mid door lent later old new opened last conn by here there is lasts same took counted whole runs = tt
+  -- over a door that a machine shows before it is lent and after it is given back
+  pub serves_with : (Ends : Served → Type 0) (served : Served) (zone asked : Zone) (mid door lent later : Option D) (old new : Option (Held S)) (opened last conn : Held S)
+      → Ends served → zone ≡ asked → mid ≡ door → later ≡ lent → IfSome old (λ before. IsMigrated g before opened) → Lasts g opened last → conn ≡ last
+      → IfSome new (λ held. Some conn ≡ Some held) → IfSome mid (λ before. IsSomeAnd lent (λ after. RunsVisits g told coming zone before after served opened last))
+      → IfSome door (λ before. IsSomeAnd later (λ after. EndsWith old new (ServesVisits g told coming Ends asked before after)))
+  serves_with Ends served zone asked mid door lent later old new opened last conn ends by here there is lasts same took runs =
+      subst (λ z. IfSome door (λ before. IsSomeAnd later (λ after. EndsWith old new (ServesVisits g told coming Ends z before after)))) by
+      (subst (λ d. IfSome d (λ before. IsSomeAnd later (λ after. EndsWith old new (ServesVisits g told coming Ends zone before after)))) here
+      (subst (λ d. IfSome mid (λ before. IsSomeAnd d (λ after. EndsWith old new (ServesVisits g told coming Ends zone before after)))) (sym there)
+      (both_doors Ends zone mid lent old new opened last conn served ends is lasts same took runs)))
+
+  pub serves_door : {T E : Type 0} (r : Result T E) (served : Served) (count : ℕ) (door later : Option D) (zone : Zone) (old new : Option (Held S))
+      → (served.ended ≡ Count → served.visits ≡ count) → OnOk r (served.ended ≡ Count)
+      → ((served.visits ≡ count) × (served.ended ≡ Count) → ServesDoor g told coming count zone door later old new) → OnOk r (ServesDoor g told coming count zone door later old new)
+  serves_door (Ok value) served count door later zone old new counted whole serves = serves (counted whole, whole)
+  serves_door (Err error) served count door later zone old new counted whole serves = tt
 
 -- ---- how long visitors may take
 

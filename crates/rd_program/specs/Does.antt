@@ -49,7 +49,7 @@ use Rattle.rd_program.specs.Serving.{AreLimitsOf, IsUnasked, RefusesServe, Write
 use Rattle.rd_program.specs.Showing.{AnswersOneQuestion, EndsWith, badge_of}
 use Rattle.rd_program.specs.Sifting.{SiftsSheetIn, StopsSheetIn, fate_of}
 use Rattle.rd_program.specs.StaffKeys.{LeavesStaffKey, PutsStaff, RefusesStaffKey}
-use Rattle.rd_program.specs.Visiting.{LeavesServe, ServesDoor}
+use Rattle.rd_program.specs.Visiting.{LeavesServe, ServesDoor, ServesSome}
 use Rattle.rd_program.specs.declared.import.Way.{Way}
 use Rattle.rd_program.specs.World.{ChangesFolders, ChangesStore, ChangesStoreAndDoors, OpensStore, World}
 use Rattle.rd_program.specs.World.Wanted.{NewAt, StoreAt}
@@ -180,8 +180,8 @@ module _ {S D : Type 0} (g : Ghosts S) (before after : World S D) where
       pub bad_sheet : IfErr result (λ refusal. IfSome (before.sheets ask.sheet.now) (λ bytes. IsBadSheetDue bytes refusal))
 
     -- `serve` writes where visits come, takes as many there as its words say, replies to each, and says how many there were; or
-    -- it names why it ends before that. It writes nothing before a door is lent, and nothing by a clock that is behind the
-    -- recorded checks and is not trusted.
+    -- it names why it ends before that, and has replied to each that came. It writes nothing before a door is lent, and nothing
+    -- by a clock that is behind the recorded checks and is not trusted.
     pub record DoesServe (told : D → Option VisitsSoFar) (coming : D → Option (List Coming)) (ask : ServeAsk) (result : Result Done Refusal) : Type 0 where
       pub frame : ChangesStoreAndDoors before after
       pub store : UsesStore ask.store.now result
@@ -189,7 +189,8 @@ module _ {S D : Type 0} (g : Ghosts S) (before after : World S D) where
       pub so : MatchResult result
           (λ done. Appends out written (serve_text (place_of ask.place) ask.count))
           (λ refusal. RefusesServe refusal (place_of ask.place) ask.count out written
-          × LeavesServe g before.left (before.stands ask.store.now) after.left (place_of ask.place) out written refusal)
+          × LeavesServe g before.left (before.stands ask.store.now) after.left (place_of ask.place) out written
+          (ServesSome g told coming ask.zone (before.doors (place_of ask.place)) (after.doors (place_of ask.place)) (before.stands ask.store.now) after.left) refusal)
       pub visits : OnOk result (ServesDoor g told coming ask.count ask.zone (before.doors (place_of ask.place)) (after.doors (place_of ask.place))
           (before.stands ask.store.now) after.left)
       pub limits : OnOk result (IsTrue before.shows → IsSomeAnd after.limits (AreLimitsOf ask.timeouts))

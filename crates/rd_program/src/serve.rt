@@ -8,7 +8,7 @@ ghost use Rattle.rd_program.specs.Asked.{IsStillOrRead};
 ghost use Rattle.rd_program.specs.Leaves.{GivesBack, Leaves};
 ghost use Rattle.rd_program.specs.OnTime.{IsOnTimeBy, ServesOnTime};
 ghost use Rattle.rd_program.specs.World.{ChangesDoors, ChangesStoreAndDoors};
-ghost use Rattle.rd_program.specs.Visiting.{LeavesServe, RunsVisits, ServesDoor};
+ghost use Rattle.rd_program.specs.Visiting.{LeavesServe, RunsVisits, ServesDoor, ServesSome};
 ghost use Rattle.rd_commands.specs.Output.{AppendsPart};
 ghost use Rattle.rd_commands.specs.Refusals.{IsDeviceOrMemory};
 ghost use Rattle.rd_program.specs.Serving.{AreLimitsOf, RefusesServe, RefusesToEnd, RefusesVisits, WritesOnceLent, listening_at, listening_line, listening_on, serve_text, served_line};
@@ -115,7 +115,7 @@ fn serve_visits<W: Write, M: Machine>(
     ensures lent { WritesOnceLent (M.seen machine.old).shows (M.seen machine.new).limits (W.contents output.old) (W.contents output.new) }
     ensures frame { ChangesDoors (M.seen machine.old) (M.seen machine.new) }
     ensures limits { IfOk result (λ _. IsTrue (M.seen machine.old).shows → IsSomeAnd (M.seen machine.new).limits (AreLimitsOf ask.entry.timeouts)) }
-    ensures visits { IfOk result (λ served. served.ended ≡ Ended.Count → IfSome ((M.seen machine.old).doors (place_of ask.entry.place))
+    ensures visits { IfOk result (λ served. IfSome ((M.seen machine.old).doors (place_of ask.entry.place))
         (λ before. IsSomeAnd ((M.seen machine.new).doors (place_of ask.entry.place)) (λ after.
         RunsVisits M.Disk.Store M.Door.told M.Door.coming desk.old.zone before after served desk.old.store desk.new.store))) }
     ensures on_time { ask.entry.is_trusting ≡ false → OnOk result (IsOnTimeBy M.Disk.Store (M.seen machine.old).clock desk.old.zone desk.old.store desk.new.store) }
@@ -171,7 +171,9 @@ pub(crate) fn serve<W: Write, M: Machine>(
         (W.contents output.old) (W.contents output.new)) }
     ensures lasts { Leaves (M.seen machine.old).left ((M.seen machine.old).stands ask.entry.store.now) (M.seen machine.new).left (Lasts M.Disk.Store) }
     ensures left { IfErr result (LeavesServe M.Disk.Store (M.seen machine.old).left ((M.seen machine.old).stands ask.entry.store.now) (M.seen machine.new).left
-        (place_of ask.entry.place) (W.contents output.old) (W.contents output.new)) }
+        (place_of ask.entry.place) (W.contents output.old) (W.contents output.new)
+        (ServesSome M.Disk.Store M.Door.told M.Door.coming ask.entry.zone ((M.seen machine.old).doors (place_of ask.entry.place))
+        ((M.seen machine.new).doors (place_of ask.entry.place)) ((M.seen machine.old).stands ask.entry.store.now) (M.seen machine.new).left)) }
     ensures visits { OnOk result (ServesDoor M.Disk.Store M.Door.told M.Door.coming ask.entry.count ask.entry.zone
         ((M.seen machine.old).doors (place_of ask.entry.place)) ((M.seen machine.new).doors (place_of ask.entry.place))
         ((M.seen machine.old).stands ask.entry.store.now) (M.seen machine.new).left) }

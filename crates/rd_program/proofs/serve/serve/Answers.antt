@@ -1,11 +1,13 @@
-use Rattle.std.proofs.Common.{◌∙◌, IsTrue, ap, inl, inr, refl, rules, subst, sym}
+use Rattle.std.proofs.Common.{◌≡◌, ◌∙◌, IsTrue, ap, inl, inr, refl, rules, subst, sym}
 use Rattle.std.proofs.KnownBytes.{Keeps-refl}
 use Rattle.rd_commands.specs.Serving.{place_of}
 use Rattle.rd_program.proofs.Named.{asked_then}
 use Rattle.rd_program.proofs.LeftStores.{gives_back, has_both, on_ended_always, opening_fails, still_same}
 use Rattle.rd_program.proofs.OnTimeLemmas.{served_on_time}
 use Rattle.rd_program.proofs.ShowLemmas.{passed_on}
-use Rattle.rd_program.proofs.VisitLemmas.{lent_kept, lent_limits, limits_kept, serves_door}
+use Rattle.rd_program.proofs.VisitLemmas.{lent_kept, lent_limits, limits_kept, serves_door, serves_with}
+use Rattle.std.specs.Prelude.{⊤}
+use Rattle.rd_http.specs.declared.serve.Ended.TheVariants.{Count}
 use Rattle.rd_program.proofs.LeftStoresByWords.{lasts_left, read_left, serve_ended, serve_not_begun, serve_unopened}
 use Rattle.rd_program.proofs.ServeLines.{both_lines, ends, not_listening, not_opened}
 use Rattle.rd_program.specs.World.{World}
@@ -36,8 +38,14 @@ returns-clause-lasts g c =
 
 pub returns-clause-left : goal.returns-clause-left
 returns-clause-left g c =
+    let at = place_of c.args.ask.place in
     serve_ended g.M.Disk.Store c.tell_ended.result (g.M.Machine.seen c.args.machine.now).left ((g.M.Machine.seen c.args.machine.now).stands c.args.ask.store.now)
-    (g.M.Machine.seen c.release.new.self).left c.in_ok-served.field-0.ended (place_of c.args.ask.place) c.in_ok-served.field-0.visits _ _ _
+    (g.M.Machine.seen c.release.new.self).left c.in_ok-served.field-0.ended at c.in_ok-served.field-0.visits _ _ _ _
+    (serves_with g.M.Disk.Store g.M.Door.Door.told g.M.Door.Door.coming (λ served. ⊤) c.in_ok-served.field-0 c.in_ok-desk.desk.zone c.args.ask.zone ((g.M.Machine.seen c.open_desk.new.machine).doors at) ((g.M.Machine.seen c.args.machine.now).doors at) ((g.M.Machine.seen c.serve_visits-served.new.machine).doors at)
+    ((g.M.Machine.seen c.release.new.self).doors at) ((g.M.Machine.seen c.args.machine.now).stands c.args.ask.store.now) (g.M.Machine.seen c.release.new.self).left
+    c.in_ok-desk.desk.store c.serve_visits-served.new.desk.store c.into_connection.result tt
+    c.in_ok-desk.ensures.zone (ap (λ (w : World _ _). w.doors at) c.open_desk.ensures.frame) (ap (λ (w : World _ _). w.doors at) c.release.ensures.frame) c.in_ok-desk.ensures.opened
+    c.in_ok-served.ensures.lasts (c.into_connection.ensures.same ∙ c.into_store.ensures) c.release.ensures.left c.in_ok-served.ensures.visits)
     c.in_ok-served.ensures.listening c.tell_ended.ensures.refused
 
 pub returns-clause-back : goal.returns-clause-back
@@ -53,12 +61,15 @@ returns-in_err-served-clause-back g c =
 pub returns-clause-visits : goal.returns-clause-visits
 returns-clause-visits g c =
     let at = place_of c.args.ask.place in
-    serves_door g.M.Disk.Store g.M.Door.Door.told g.M.Door.Door.coming c.tell_ended.result c.in_ok-served.field-0 c.args.ask.count c.in_ok-desk.desk.zone c.args.ask.zone
-    ((g.M.Machine.seen c.open_desk.new.machine).doors at) ((g.M.Machine.seen c.args.machine.now).doors at) ((g.M.Machine.seen c.serve_visits-served.new.machine).doors at)
+    serves_door g.M.Disk.Store g.M.Door.Door.told g.M.Door.Door.coming c.tell_ended.result c.in_ok-served.field-0 c.args.ask.count ((g.M.Machine.seen c.args.machine.now).doors at)
+    ((g.M.Machine.seen c.release.new.self).doors at) c.args.ask.zone ((g.M.Machine.seen c.args.machine.now).stands c.args.ask.store.now) (g.M.Machine.seen c.release.new.self).left
+    c.in_ok-served.ensures.count c.tell_ended.ensures.count
+    (λ ends. serves_with g.M.Disk.Store g.M.Door.Door.told g.M.Door.Door.coming (λ served. (served.visits ≡ c.args.ask.count) × (served.ended ≡ Count)) c.in_ok-served.field-0
+    c.in_ok-desk.desk.zone c.args.ask.zone ((g.M.Machine.seen c.open_desk.new.machine).doors at) ((g.M.Machine.seen c.args.machine.now).doors at) ((g.M.Machine.seen c.serve_visits-served.new.machine).doors at)
     ((g.M.Machine.seen c.release.new.self).doors at) ((g.M.Machine.seen c.args.machine.now).stands c.args.ask.store.now) (g.M.Machine.seen c.release.new.self).left
-    c.in_ok-desk.desk.store c.serve_visits-served.new.desk.store c.into_connection.result
-    c.in_ok-desk.ensures.zone (ap (λ (w : World _ _). w.doors at) c.open_desk.ensures.frame) (ap (λ (w : World _ _). w.doors at) c.release.ensures.frame) c.in_ok-desk.ensures.opened c.in_ok-served.ensures.lasts
-    (c.into_connection.ensures.same ∙ c.into_store.ensures) c.release.ensures.left c.in_ok-served.ensures.count c.tell_ended.ensures.count c.in_ok-served.ensures.visits
+    c.in_ok-desk.desk.store c.serve_visits-served.new.desk.store c.into_connection.result ends
+    c.in_ok-desk.ensures.zone (ap (λ (w : World _ _). w.doors at) c.open_desk.ensures.frame) (ap (λ (w : World _ _). w.doors at) c.release.ensures.frame) c.in_ok-desk.ensures.opened
+    c.in_ok-served.ensures.lasts (c.into_connection.ensures.same ∙ c.into_store.ensures) c.release.ensures.left c.in_ok-served.ensures.visits)
 
 pub returns-clause-limits : goal.returns-clause-limits
 returns-clause-limits g c =
@@ -109,14 +120,14 @@ returns-in_err-served-clause-lasts g c =
 pub returns-in_err-served-clause-left : goal.returns-in_err-served-clause-left
 returns-in_err-served-clause-left g c =
     passed_on c.from_residual-in_err-served.result c.in_err-served.field-0.0 _ c.from_residual-in_err-served.ensures.1
-    (serve_not_begun g.M.Disk.Store (g.M.Machine.seen c.args.machine.now).left ((g.M.Machine.seen c.args.machine.now).stands c.args.ask.store.now) (g.M.Machine.seen c.release.new.self).left (place_of c.args.ask.place) (g.W.Write.contents c.args.output.now) (g.W.Write.contents c.serve_visits-served.new.output) c.in_err-served.field-0.0
+    (serve_not_begun g.M.Disk.Store (g.M.Machine.seen c.args.machine.now).left ((g.M.Machine.seen c.args.machine.now).stands c.args.ask.store.now) (g.M.Machine.seen c.release.new.self).left (place_of c.args.ask.place) (g.W.Write.contents c.args.output.now) (g.W.Write.contents c.serve_visits-served.new.output) _ c.in_err-served.field-0.0
     c.in_err-served.ensures.refused (read_left g.M.Disk.Store (g.M.Machine.seen c.args.machine.now).left ((g.M.Machine.seen c.args.machine.now).stands c.args.ask.store.now) (g.M.Machine.seen c.release.new.self).left c.in_ok-desk.desk.store c.serve_visits-served.new.desk.store c.into_connection.result c.in_ok-desk.ensures.opened c.in_err-served.ensures.unserved
     (c.into_connection.ensures.same ∙ c.into_store.ensures) c.release.ensures.left))
 
 pub returns-in_err-desk-clause-left : goal.returns-in_err-desk-clause-left
 returns-in_err-desk-clause-left g c =
     passed_on c.from_residual.result c.in_err-desk.field-0.0 _ c.from_residual.ensures.1
-    (serve_unopened g.M.Disk.Store (g.M.Machine.seen c.args.machine.now).left ((g.M.Machine.seen c.args.machine.now).stands c.args.ask.store.now) (g.M.Machine.seen c.open_desk.new.machine).left (place_of c.args.ask.place) (g.W.Write.contents c.args.output.now) (g.W.Write.contents c.args.output.now) c.in_err-desk.field-0.0 c.in_err-desk.ensures.refused c.in_err-desk.ensures.left)
+    (serve_unopened g.M.Disk.Store (g.M.Machine.seen c.args.machine.now).left ((g.M.Machine.seen c.args.machine.now).stands c.args.ask.store.now) (g.M.Machine.seen c.open_desk.new.machine).left (place_of c.args.ask.place) (g.W.Write.contents c.args.output.now) (g.W.Write.contents c.args.output.now) _ c.in_err-desk.field-0.0 c.in_err-desk.ensures.refused c.in_err-desk.ensures.left)
 
 pub returns-clause-store : goal.returns-clause-store
 returns-clause-store g c = record {
