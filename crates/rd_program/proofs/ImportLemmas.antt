@@ -16,7 +16,6 @@ use Rattle.rd_program.specs.declared.import.Fate.{Fate}
 use Rattle.rd_program.specs.declared.import.Fate.TheVariants.{Denied, Done, Lost}
 use Rattle.rd_commands.specs.Output.{AppendsPart}
 use Rattle.rd_commands.specs.Refusals.{IsDeviceOrMemory, refusal_for}
-use Rattle.rd_program.specs.Leaves.{OnEnded}
 use Rattle.rd_commands.specs.Sheets.{IsReadRefusal}
 use Rattle.rd_commands.specs.RefusalLines.{whole}
 use Rattle.rd_commands.specs.declared.done.Done.{Done as Ending}
@@ -163,10 +162,6 @@ ok_whole P (Err refusal) r is fact = subst (λ x. OnOk x P) (sym is) tt
 pub err_whole : {T : Type 0} (P : Refusal → Type 0) (ended : Result T Refusal) (r : Result Ending Refusal) → r ≡ whole ended → IfErr ended P → IfErr r P
 err_whole P (Ok value) r is fact = subst (λ x. IfErr x P) (sym is) tt
 err_whole P (Err refusal) r is fact = subst (λ x. IfErr x P) (sym is) fact
-
-pub ended_whole : {T : Type 0} (P : Type 0) (ended : Result T Refusal) (r : Result Ending Refusal) → r ≡ whole ended → OnEnded ended P → OnEnded r P
-ended_whole P (Ok value) r is fact = subst (λ x. OnEnded x P) (sym is) fact
-ended_whole P (Err refusal) r is fact = subst (λ x. OnEnded x P) (sym is) fact
 
 -- it is not done in part
 pub whole_is : {T : Type 0} (P : Type 0) (ended : Result T Refusal) (r : Result Ending Refusal) → r ≡ whole ended → IfOk r (λ done. done ≡ InPart → P)

@@ -1,5 +1,5 @@
 -- What is left of the store, by what each part of a command does to its connection.
-use Rattle.std.proofs.Common.{◌≡◌, ◌∙◌, ◌⊎◌, Bool, IsTrue, Option, Some, None, Result, Ok, Err, IfSome, ap, arith, inl, inr, refl, subst, sym}
+use Rattle.std.proofs.Common.{◌≡◌, ◌∙◌, ◌⊎◌, Bool, IsTrue, Option, Some, None, Result, Ok, Err, IfErr, IfSome, ap, arith, inl, inr, refl, subst, sym}
 use Rattle.std.specs.Prelude.{IsErrAnd, IsSome}
 use Rattle.sqlite.specs.Held.{Held}
 use Rattle.sqlite.specs.Store.{Ghosts}
@@ -10,11 +10,11 @@ use Rattle.rd_store.specs.declared.faults.OpenFault.{OpenFault}
 use Rattle.rd_store.specs.declared.faults.OpenFault.TheVariants as open_fault
 use Rattle.rd_store.proofs.Laws.{lasts_still, lasts_then}
 use Rattle.rd_program.specs.Asked.{IsStillOrRead}
-use Rattle.rd_program.specs.Leaves.{GivesBack, HasBoth, IfBoth, IsSame, Leaves, LeavesDesk, LeavesNone, LeavesStore, LeavesUnopened, OnEnded}
+use Rattle.rd_program.specs.Leaves.{GivesBack, HasBoth, IfBoth, IsOfOpenDesk, IsSame, Leaves, LeavesDesk, LeavesNone, LeavesStore, LeavesUnopened, NamesOpening, OnEnded}
 use Rattle.rd_program.specs.Serving.{IsOpenRefusal}
 use Rattle.rd_commands.specs.Refusals.{status_of}
 use Rattle.rd_commands.specs.declared.refusal.Refusal.{Refusal}
-use Rattle.rd_commands.specs.declared.refusal.Refusal.TheVariants.{NoMemory, NotADesk, Store}
+use Rattle.rd_commands.specs.declared.refusal.Refusal.TheVariants.{Inconsistent, NoMemory, NotADesk, Store, Version}
 
 -- ---- two connections that are told
 
@@ -136,6 +136,24 @@ module _ {S : Type 0} (g : Ghosts S) where
   unconnected_left was old new refusal (inr (inl failed)) absent none =
       subst (LeavesUnopened g was old new) (sym failed) (none_left was old new (λ before after. IsNotMigrated g before after open_fault.Sql) none)
   unconnected_left was old new refusal (inr (inr memory)) absent none = subst (LeavesUnopened g was old new) (sym memory) none
+
+  -- an opening that failed is named as it was
+  pub unopened_names : (was old new : Option (Held S)) (refusal : Refusal) → LeavesUnopened g was old new refusal → NamesOpening g old new refusal
+  unopened_names was old new NotADesk left = left
+  unopened_names was old new Version left = left
+  unopened_names was old new Inconsistent left = left
+  unopened_names was old new refusal left = tt
+
+  -- and none where a desk was opened
+  pub opened_names : {T : Type 0} (r : Result T Refusal) (old new : Option (Held S)) → IfErr r IsOfOpenDesk → IfErr r (NamesOpening g old new)
+  opened_names (Ok value) old new opened = tt
+  opened_names (Err refusal) old new opened = names refusal opened
+    where
+      names : (refusal : Refusal) → IsOfOpenDesk refusal → NamesOpening g old new refusal
+      names NotADesk opened = absurd opened
+      names Version opened = absurd opened
+      names Inconsistent opened = absurd opened
+      names refusal opened = tt
 
   pub unopened_left : (was old new : Option (Held S)) (Reached : Desk → Desk → Type 0) (refusal : Refusal) → IsOpenRefusal refusal
       → LeavesUnopened g was old new refusal → Leaves was old new (LeavesStore g Reached)

@@ -1,11 +1,12 @@
 //! Copies the desk in the file of a store to a new file.
 
 ghost use Rattle.std.specs.Prelude.{◌≡◌, IfErr, IsTrue, OnOk, false};
-ghost use Rattle.std.specs.Io.KnownBytes.{Appends};
 ghost use Rattle.rd_store.specs.Copied.{IsCopied};
+ghost use Rattle.rd_commands.specs.RefusalLines.{whole};
+ghost use Rattle.rd_program.specs.Does.{DoesCopy};
 ghost use Rattle.rd_program.specs.Copying.{AsksNew, AsksNoOtherNew, CopiesTo, IfAll, IsCopyRefusal, LeavesCopy, LeavesTarget, MakesCopy, NotCopied, OpensDesk, RefusesCopy};
 ghost use Rattle.rd_program.specs.Doors.{Asks, AsksThen};
-ghost use Rattle.rd_program.specs.Inits.{IsInitRefusal, done_line};
+ghost use Rattle.rd_program.specs.Inits.{IsInitRefusal};
 ghost use Rattle.rd_program.specs.Leaves.{GivesBack, HasBoth, IsSame, Leaves, LeavesDesk, LeavesStore, NamesOpening, OnEnded};
 ghost use Rattle.rd_program.specs.Showing.{EndsWith};
 ghost use Rattle.rd_program.specs.World.{OpensNewStore};
@@ -107,21 +108,11 @@ pub(crate) fn copy<W: Write, M: Machine>(
     output: &mut W,
     machine: &mut M,
 ) -> Result<(), Refusal>
-    ensures done { OnOk result (Appends (W.contents output.old) (W.contents output.new) done_line) }
-    ensures flushed { OnOk result (IsTrue (M.flushed (W.contents output.new))) }
+    ensures does { DoesCopy M.Disk.Store (M.seen machine.old) (M.seen machine.new) (W.contents output.old) (W.contents output.new)
+        ask.entry (whole result) }
     ensures refused { IfErr result (λ refusal. RefusesCopy refusal (W.contents output.old) (W.contents output.new)) }
-    ensures copied { OnOk result (HasBoth (M.seen machine.old).shows ((M.seen machine.old).fresh ask.entry.target.now) (M.seen machine.new).made
-        × IfAll ((M.seen machine.old).stands ask.entry.store.now) (M.seen machine.new).left ((M.seen machine.old).fresh ask.entry.target.now) (M.seen machine.new).made (MakesCopy M.Disk.Store)) }
-    ensures not_copied { IfErr result (LeavesCopy M.Disk.Store ((M.seen machine.old).stands ask.entry.store.now) (M.seen machine.new).left
-        (M.seen machine.old).made ((M.seen machine.old).fresh ask.entry.target.now) (M.seen machine.new).made) }
-    ensures leaves { Leaves (M.seen machine.old).left ((M.seen machine.old).stands ask.entry.store.now) (M.seen machine.new).left (LeavesStore M.Disk.Store IsSame) }
-    ensures opens { IfErr result (NamesOpening M.Disk.Store ((M.seen machine.old).stands ask.entry.store.now) (M.seen machine.new).left) }
+    ensures flushed { OnOk result (IsTrue (M.flushed (W.contents output.new))) }
     ensures back { GivesBack (M.seen machine.old).shows (M.seen machine.old).left (M.seen machine.new).left }
-    ensures back_new { GivesBack (M.seen machine.old).shows (M.seen machine.old).made (M.seen machine.new).made }
-    ensures there { OnEnded result (HasBoth (M.seen machine.old).shows ((M.seen machine.old).stands ask.entry.store.now) (M.seen machine.new).left) }
-    ensures asked { AsksThen (M.seen machine.old).wanted (StoreAt ask.entry.store.now) (NewAt ask.entry.target.now) (M.seen machine.new).wanted }
-    ensures asked_new { AsksNoOtherNew (M.seen machine.old).new_stores ask.entry.target.now ask.entry.has_sums (M.seen machine.new).new_stores
-        (EndsWith ((M.seen machine.old).stands ask.entry.store.now) (M.seen machine.new).left (OpensDesk M.Disk.Store)) }
 {
     copy_store(alloc, ask, machine)?;
     write_whole::<M, W>(output, b"done\n")

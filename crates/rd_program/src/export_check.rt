@@ -8,16 +8,16 @@ ghost use Rattle.rd_policy.specs.Rules.{IsScope};
 ghost use Rattle.rd_holdings.specs.Findings.{outcome_word};
 ghost use Rattle.rd_store.specs.Held.{IsOpen, desk as desk_in};
 ghost use Rattle.rd_program.specs.Asked.{AsksOn, IsClockOn, IsStillOrRead};
-ghost use Rattle.rd_program.specs.Does.{AsksAt, UsesStore};
+ghost use Rattle.rd_program.specs.Does.{DoesQuestion};
 ghost use Rattle.rd_program.specs.Asking.{RefusesOneQuestion, TellsCheck};
 ghost use Rattle.rd_commands.specs.Asks.{IsAskable, IsCheck, IsCheckOf};
 ghost use Rattle.rd_program.specs.Importing.{accession_line};
 ghost use Rattle.rd_protocol.specs.declared.request.What.{What};
-ghost use Rattle.rd_program.specs.Leaves.{Checks, GivesBack, IsDayAt, IsOfOpenDesk, Leaves, LeavesDesk, LeavesStore, NamesOpening, StepsOf, moment_of};
+ghost use Rattle.rd_program.specs.Leaves.{Checks, GivesBack, IsDayAt, IsOfOpenDesk, LeavesDesk, StepsOf, moment_of};
 ghost use Rattle.rd_program.specs.OnTime.{IsBehindOn, IsOnTime, is_dated, must_be_on_time};
 ghost use Rattle.rd_program.specs.Serving.{IsClockRefusal, IsDayless};
-ghost use Rattle.rd_program.specs.Showing.{AnswersOneQuestion, Finds, IsDueOn, OfDesk, RefusesShow, Shows, asked_of, found_by, request_of, what_to_show};
-ghost use Rattle.rd_program.specs.World.{ChangesClock, ChangesStore};
+ghost use Rattle.rd_program.specs.Showing.{Finds, IsDueOn, OfDesk, RefusesShow, Shows, asked_of, found_by, request_of, what_to_show};
+ghost use Rattle.rd_program.specs.World.{ChangesClock};
 
 use crate::answers::outcome_of;
 use crate::asker::{Asker, answer_of, badge_of};
@@ -169,20 +169,10 @@ pub(crate) fn ask_once<W: Write, M: Machine>(
 ) -> Result<Done, Refusal>
     requires within { IsAskable ask.question }
     ensures in_part { IfOk result (λ done. done ≡ Done.InPart → IsCheck ask.entry.question) }
-    ensures written { (acc : ℕ) → IsCheckOf acc ask.entry.question
-        → IfOk result (TellsCheck acc (W.contents output.old) (W.contents output.new)) }
-    ensures refused { IfErr result (RefusesOneQuestion (W.contents output.old) (W.contents output.new)) }
-    ensures steps { Leaves (M.seen machine.old).left ((M.seen machine.old).stands ask.entry.store.now) (M.seen machine.new).left
-        (LeavesStore M.Disk.Store (StepsOf (option_map sha256 (option_map (λ key. key.now) ask.entry.key))
-        (IsDayAt (moment_of ask.entry.when.seconds (M.seen machine.old).clock) ask.entry.when.zone) ask.entry.question)) }
+    ensures does { DoesQuestion M.Disk.Store (M.seen machine.old) (M.seen machine.new) (W.contents output.old) (W.contents output.new)
+        ask.entry result }
     ensures flushed { OnOk result (IsTrue (M.flushed (W.contents output.new))) }
-    ensures moment { AsksAt M.Disk.Store (M.seen machine.old) (M.seen machine.new) ask.entry.store.now ask.entry.when (is_dated ask.entry.question) result }
-    ensures frame { ChangesStore (M.seen machine.old) (M.seen machine.new) }
-    ensures store { UsesStore M.Disk.Store (M.seen machine.old) (M.seen machine.new) ask.entry.store.now result }
     ensures back { GivesBack (M.seen machine.old).shows (M.seen machine.old).left (M.seen machine.new).left }
-    ensures opens { IfErr result (NamesOpening M.Disk.Store ((M.seen machine.old).stands ask.entry.store.now) (M.seen machine.new).left) }
-    ensures answers { AnswersOneQuestion M.Disk.Store (M.seen machine.old).clock ((M.seen machine.old).stands ask.entry.store.now) (M.seen machine.new).left
-        (W.contents output.old) (W.contents output.new) ask.entry result }
 {
     let mut desk = open_desk(alloc, ask.store, ask.when.zone, machine)?;
     let ended = tell_asked(alloc, &ask, &mut desk, output, machine);

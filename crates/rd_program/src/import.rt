@@ -12,15 +12,14 @@ ghost use Rattle.rd_commands.specs.Output.{AppendsPart, IsFlushed};
 ghost use Rattle.rd_commands.specs.Refusals.{IsDeviceOrMemory};
 ghost use Rattle.rd_commands.specs.Sheets.{IsWithin, Says};
 ghost use Rattle.rd_program.specs.Asked.{AsksOn};
-ghost use Rattle.rd_program.specs.Does.{AsksAt, UsesStore};
-ghost use Rattle.rd_program.specs.World.{ChangesClock, ChangesStore};
-ghost use Rattle.rd_program.specs.Leaves.{GivesBack, IsDayAt, IsSame, Leaves, LeavesDesk, LeavesStore, NamesOpening, TakesFields, TakesRow, TakesUnlessDry, moment_of};
+ghost use Rattle.rd_program.specs.Does.{DoesImport};
+ghost use Rattle.rd_program.specs.World.{ChangesClock};
+ghost use Rattle.rd_program.specs.Leaves.{GivesBack, IsDayAt, IsSame, LeavesDesk, TakesFields, TakesRow, TakesUnlessDry, moment_of};
 ghost use Rattle.rd_program.specs.Rows.{IsBadSheetDue};
-ghost use Rattle.rd_program.specs.Showing.{EndsWith};
 ghost use Rattle.rd_program.specs.Importing as told;
 ghost use Rattle.rd_program.specs.Sifting as spec;
 ghost use Rattle.rd_program.specs.Importing.{IsRowRefusal, RefusesImport, RefusesRow, RefusesRows, TellsRow, TellsRows, accession_line, bad_row_line, lost_row_line};
-ghost use Rattle.rd_program.specs.Sifting.{CutsFate, SiftsOn, SiftsOne, SiftsRows, SiftsSheetIn, StopsOn, StopsOne, StopsRows, StopsSheetIn, TellsFate};
+ghost use Rattle.rd_program.specs.Sifting.{CutsFate, SiftsOn, SiftsOne, SiftsRows, StopsOn, StopsOne, StopsRows, TellsFate};
 
 use crate::machine::{Machine, file_at, sheet_at};
 use crate::noted::{note_answer, note_bad_row};
@@ -456,25 +455,11 @@ pub(crate) fn import<W: Write, M: Machine>(
     output: &mut W,
     machine: &mut M,
 ) -> Result<Done, Refusal>
-    ensures frame { ChangesStore (M.seen machine.old) (M.seen machine.new) }
-    ensures store { UsesStore M.Disk.Store (M.seen machine.old) (M.seen machine.new) ask.entry.store.now result }
-    ensures back { GivesBack (M.seen machine.old).shows (M.seen machine.old).left (M.seen machine.new).left }
-    ensures moment { AsksAt M.Disk.Store (M.seen machine.old) (M.seen machine.new) ask.entry.store.now ask.entry.when true result }
-    ensures takes { Leaves (M.seen machine.old).left ((M.seen machine.old).stands ask.entry.store.now) (M.seen machine.new).left
-        (LeavesStore M.Disk.Store (TakesUnlessDry way.dry_run (sha256 ask.entry.key.now)
-        (IsDayAt (moment_of ask.entry.when.seconds (M.seen machine.old).clock) ask.entry.when.zone))) }
-    ensures rows { IfOk result (λ done. EndsWith ((M.seen machine.old).stands ask.entry.store.now) (M.seen machine.new).left
-        (SiftsSheetIn M.Disk.Store (M.seen machine.old).files way (sha256 ask.entry.key.now)
-        (IsDayAt (moment_of ask.entry.when.seconds (M.seen machine.old).clock) ask.entry.when.zone)
-        ((M.seen machine.old).sheets ask.entry.sheet.now) (W.contents output.old) (W.contents output.new) done)) }
-    ensures stopped { OnErr result (StopsSheetIn M.Disk.Store (M.seen machine.old).files way (sha256 ask.entry.key.now)
-        (IsDayAt (moment_of ask.entry.when.seconds (M.seen machine.old).clock) ask.entry.when.zone) ((M.seen machine.old).sheets ask.entry.sheet.now)
-        (W.contents output.old) (W.contents output.new) (M.seen machine.old).left ((M.seen machine.old).stands ask.entry.store.now) (M.seen machine.new).left) }
-    ensures written { IfOk result (λ done. TellsRows way.dry_run (W.contents output.old) (W.contents output.new) (spec.fate_of done)) }
-    ensures flushed { OnOk result (IsFlushed M.flushed (W.contents output.old) (W.contents output.new)) }
+    ensures does { DoesImport M.Disk.Store (M.seen machine.old) (M.seen machine.new) (W.contents output.old) (W.contents output.new)
+        ask.entry way result }
     ensures refused { IfErr result (RefusesImport (W.contents output.old) (W.contents output.new)) }
-    ensures bad_sheet { IfErr result (λ refusal. IfSome ((M.seen machine.old).sheets ask.entry.sheet.now) (λ bytes. IsBadSheetDue bytes refusal)) }
-    ensures opens { IfErr result (NamesOpening M.Disk.Store ((M.seen machine.old).stands ask.entry.store.now) (M.seen machine.new).left) }
+    ensures flushed { OnOk result (IsFlushed M.flushed (W.contents output.old) (W.contents output.new)) }
+    ensures back { GivesBack (M.seen machine.old).shows (M.seen machine.old).left (M.seen machine.new).left }
 {
     let mut desk = open_desk(alloc, ask.store, ask.when.zone, machine)?;
     let imported = import_sheet(alloc, ask, way, &mut desk, output, machine);

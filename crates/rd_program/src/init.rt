@@ -1,11 +1,12 @@
 ghost use Rattle.std.specs.Prelude.{◌≡◌, IfErr, IsTrue, OnOk, false};
-ghost use Rattle.std.specs.Io.KnownBytes.{Appends};
 ghost use Rattle.sha2.specs.Sha256.{sha256};
 ghost use Rattle.rd_store.specs.Created.{IsCreated};
+ghost use Rattle.rd_commands.specs.RefusalLines.{whole};
+ghost use Rattle.rd_program.specs.Does.{DoesInit};
 ghost use Rattle.rd_program.specs.Doors.{AsksPath, AsksSums};
 ghost use Rattle.rd_program.specs.Leaves.{GivesBack, HasBoth, OnEnded};
 ghost use Rattle.rd_program.specs.World.{OpensStore};
-ghost use Rattle.rd_program.specs.Inits.{IsInitRefusal, LeavesInit, MakesDesk, NotMade, RefusesInit, done_line};
+ghost use Rattle.rd_program.specs.Inits.{IsInitRefusal, LeavesInit, MakesDesk, NotMade, RefusesInit};
 
 use crate::faults::not_made;
 use crate::machine::Machine;
@@ -63,19 +64,11 @@ pub(crate) fn init<W: Write, M: Machine>(
     output: &mut W,
     machine: &mut M,
 ) -> Result<(), Refusal>
-    ensures done { OnOk result (Appends (W.contents output.old) (W.contents output.new) done_line) }
+    ensures does { DoesInit M.Disk.Store (M.seen machine.old) (M.seen machine.new) (W.contents output.old) (W.contents output.new)
+        ask.entry (whole result) }
+    ensures refused { IfErr result (λ refusal. RefusesInit refusal (W.contents output.old) (W.contents output.new)) }
     ensures flushed { OnOk result (IsTrue (M.flushed (W.contents output.new))) }
-    ensures refused { IfErr result (λ refusal.
-        RefusesInit refusal (W.contents output.old) (W.contents output.new)) }
-    ensures made { OnOk result
-        (MakesDesk M.Disk.Store ((M.seen machine.old).stands ask.entry.store.now) (M.seen machine.new).left (sha256 ask.entry.key.now)) }
-    ensures left { IfErr result
-        (LeavesInit M.Disk.Store (M.seen machine.old).left ((M.seen machine.old).stands ask.entry.store.now) (M.seen machine.new).left (sha256 ask.entry.key.now)) }
     ensures back { GivesBack (M.seen machine.old).shows (M.seen machine.old).left (M.seen machine.new).left }
-    ensures there { OnEnded result (HasBoth (M.seen machine.old).shows ((M.seen machine.old).stands ask.entry.store.now) (M.seen machine.new).left) }
-    ensures asked { AsksPath (M.seen machine.old).wanted ask.entry.store.now (M.seen machine.new).wanted }
-    ensures sums { AsksSums (M.seen machine.old).sums ask.entry.has_sums (M.seen machine.new).sums }
-    ensures frame { OpensStore (M.seen machine.old) (M.seen machine.new) }
 {
     make_desk(ask, machine)?;
     write_whole::<M, W>(output, b"done\n")

@@ -3,15 +3,16 @@ ghost use Rattle.std.specs.Io.KnownBytes.{Appends, Keeps};
 ghost use Rattle.std.specs.String.{string_bytes};
 ghost use Rattle.rd_store.specs.Held.{Lasts};
 ghost use Rattle.rd_commands.specs.Serving.{place_of};
-ghost use Rattle.rd_program.specs.Does.{UsesStore};
+ghost use Rattle.rd_commands.specs.RefusalLines.{whole};
+ghost use Rattle.rd_program.specs.Does.{DoesServe};
 ghost use Rattle.rd_program.specs.Asked.{IsStillOrRead};
-ghost use Rattle.rd_program.specs.Leaves.{GivesBack, Leaves};
-ghost use Rattle.rd_program.specs.OnTime.{IsOnTimeBy, ServesOnTime};
-ghost use Rattle.rd_program.specs.World.{ChangesDoors, ChangesStoreAndDoors};
-ghost use Rattle.rd_program.specs.Visiting.{LeavesServe, RunsVisits, ServesDoor, ServesSome};
+ghost use Rattle.rd_program.specs.Leaves.{GivesBack};
+ghost use Rattle.rd_program.specs.OnTime.{IsOnTimeBy};
+ghost use Rattle.rd_program.specs.World.{ChangesDoors};
+ghost use Rattle.rd_program.specs.Visiting.{RunsVisits};
 ghost use Rattle.rd_commands.specs.Output.{AppendsPart};
 ghost use Rattle.rd_commands.specs.Refusals.{IsDeviceOrMemory};
-ghost use Rattle.rd_program.specs.Serving.{AreLimitsOf, RefusesServe, RefusesToEnd, RefusesVisits, WritesOnceLent, listening_at, listening_line, listening_on, serve_text, served_line};
+ghost use Rattle.rd_program.specs.Serving.{AreLimitsOf, RefusesServe, RefusesToEnd, RefusesVisits, WritesOnceLent, listening_at, listening_line, listening_on, served_line};
 
 use crate::machine::Machine;
 use crate::open_desk::{clock_shown, is_late, open_desk};
@@ -166,25 +167,12 @@ pub(crate) fn serve<W: Write, M: Machine>(
     output: &mut W,
     machine: &mut M,
 ) -> Result<(), Refusal>
-    ensures done { OnOk result (Appends (W.contents output.old) (W.contents output.new) (serve_text (place_of ask.entry.place) ask.entry.count)) }
+    ensures does { DoesServe M.Disk.Store (M.seen machine.old) (M.seen machine.new) (W.contents output.old) (W.contents output.new)
+        M.Door.told M.Door.coming ask.entry (whole result) }
     ensures refused { IfErr result (λ refusal. RefusesServe refusal (place_of ask.entry.place) ask.entry.count
         (W.contents output.old) (W.contents output.new)) }
-    ensures lasts { Leaves (M.seen machine.old).left ((M.seen machine.old).stands ask.entry.store.now) (M.seen machine.new).left (Lasts M.Disk.Store) }
-    ensures left { IfErr result (LeavesServe M.Disk.Store (M.seen machine.old).left ((M.seen machine.old).stands ask.entry.store.now) (M.seen machine.new).left
-        (place_of ask.entry.place) (W.contents output.old) (W.contents output.new)
-        (ServesSome M.Disk.Store M.Door.told M.Door.coming ask.entry.zone ((M.seen machine.old).doors (place_of ask.entry.place))
-        ((M.seen machine.new).doors (place_of ask.entry.place)) ((M.seen machine.old).stands ask.entry.store.now) (M.seen machine.new).left)) }
-    ensures visits { OnOk result (ServesDoor M.Disk.Store M.Door.told M.Door.coming ask.entry.count ask.entry.zone
-        ((M.seen machine.old).doors (place_of ask.entry.place)) ((M.seen machine.new).doors (place_of ask.entry.place))
-        ((M.seen machine.old).stands ask.entry.store.now) (M.seen machine.new).left) }
-    ensures limits { OnOk result (IsTrue (M.seen machine.old).shows → IsSomeAnd (M.seen machine.new).limits (AreLimitsOf ask.entry.timeouts)) }
-    ensures lent { WritesOnceLent (M.seen machine.old).shows (M.seen machine.new).limits (W.contents output.old) (W.contents output.new) }
     ensures flushed { OnOk result (IsTrue (M.flushed (W.contents output.new))) }
     ensures back { GivesBack (M.seen machine.old).shows (M.seen machine.old).left (M.seen machine.new).left }
-    ensures store { UsesStore M.Disk.Store (M.seen machine.old) (M.seen machine.new) ask.entry.store.now result }
-    ensures frame { ChangesStoreAndDoors (M.seen machine.old) (M.seen machine.new) }
-    ensures on_time { ask.entry.is_trusting ≡ false → Keeps (W.contents output.old) (W.contents output.new)
-        ⊎ ServesOnTime M.Disk.Store (M.seen machine.old).clock ask.entry.zone ((M.seen machine.old).stands ask.entry.store.now) (M.seen machine.new).left }
 {
     let mut desk = open_desk(alloc, ask.store, ask.zone, machine)?;
     let served = serve_visits(alloc, ask, &mut desk, output, machine);

@@ -1,12 +1,12 @@
 //! Puts a key of the staff in a desk that stands, for whoever may write the file of its store.
 
 ghost use Rattle.std.specs.Prelude.{◌≡◌, IfErr, IsTrue, OnOk};
-ghost use Rattle.std.specs.Io.KnownBytes.{Appends};
 ghost use Rattle.sha2.specs.Sha256.{sha256};
 ghost use Rattle.rd_holdings.specs.State.{with_key};
 ghost use Rattle.rd_store.specs.Held.{Changes, desk};
+ghost use Rattle.rd_commands.specs.RefusalLines.{whole};
+ghost use Rattle.rd_program.specs.Does.{DoesStaffKey};
 ghost use Rattle.rd_program.specs.Doors.{AsksPath};
-ghost use Rattle.rd_program.specs.Inits.{done_line};
 ghost use Rattle.rd_program.specs.Leaves.{GivesBack, HasBoth, NamesOpening, OnEnded};
 ghost use Rattle.rd_program.specs.Serving.{IsOpenRefusal};
 ghost use Rattle.rd_program.specs.Showing.{EndsWith};
@@ -78,19 +78,11 @@ pub(crate) fn staff_key<W: Write, M: Machine>(
     output: &mut W,
     machine: &mut M,
 ) -> Result<(), Refusal>
-    ensures done { OnOk result (Appends (W.contents output.old) (W.contents output.new) done_line) }
+    ensures does { DoesStaffKey M.Disk.Store (M.seen machine.old) (M.seen machine.new) (W.contents output.old) (W.contents output.new)
+        ask.entry (whole result) }
+    ensures refused { IfErr result (λ refusal. RefusesStaffKey refusal (W.contents output.old) (W.contents output.new)) }
     ensures flushed { OnOk result (IsTrue (M.flushed (W.contents output.new))) }
-    ensures refused { IfErr result (λ refusal.
-        RefusesStaffKey refusal (W.contents output.old) (W.contents output.new)) }
-    ensures put { OnOk result
-        (EndsWith ((M.seen machine.old).stands ask.entry.store.now) (M.seen machine.new).left (PutsStaff M.Disk.Store (sha256 ask.entry.key.now))) }
-    ensures left { IfErr result
-        (LeavesStaffKey M.Disk.Store (M.seen machine.old).left ((M.seen machine.old).stands ask.entry.store.now) (M.seen machine.new).left (sha256 ask.entry.key.now)) }
-    ensures opens { IfErr result (NamesOpening M.Disk.Store ((M.seen machine.old).stands ask.entry.store.now) (M.seen machine.new).left) }
     ensures back { GivesBack (M.seen machine.old).shows (M.seen machine.old).left (M.seen machine.new).left }
-    ensures there { OnEnded result (HasBoth (M.seen machine.old).shows ((M.seen machine.old).stands ask.entry.store.now) (M.seen machine.new).left) }
-    ensures asked { AsksPath (M.seen machine.old).wanted ask.entry.store.now (M.seen machine.new).wanted }
-    ensures frame { OpensStore (M.seen machine.old) (M.seen machine.new) }
 {
     put_in_store(alloc, ask, machine)?;
     write_whole::<M, W>(output, b"done\n")

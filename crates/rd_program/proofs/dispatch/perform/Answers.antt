@@ -5,19 +5,18 @@ use Rattle.rd_commands.specs.Cat.{Refuses, Serves}
 use Rattle.std.specs.Io.KnownBytes.{Keeps}
 use Rattle.rd_commands.specs.Listed.{Lists, RefusesList}
 use Rattle.rd_program.proofs.AnswerLemmas.{once_kept, once_never}
-use Rattle.rd_program.proofs.ImportLemmas.{ended_whole, err_whole, ok_whole, whole_is}
-use Rattle.rd_program.proofs.InitLemmas.{at_err_both, on_both}
-use Rattle.rd_program.proofs.CopyLemmas.{copy_done, copy_kept, copy_never}
-use Rattle.rd_program.proofs.StaffKeyLemmas.{at_err_all, staff_key_never, staff_key_not_1}
+use Rattle.rd_program.proofs.ImportLemmas.{err_whole, ok_whole, whole_is}
+use Rattle.rd_program.proofs.CopyLemmas.{copy_kept, copy_never}
+use Rattle.rd_program.proofs.StaffKeyLemmas.{staff_key_never, staff_key_not_1}
 use Rattle.rd_program.proofs.FileLemmas.{flushed_once}
 use Rattle.std.specs.Prelude.{IsSome}
 use Rattle.rd_commands.specs.declared.done.Done.TheVariants.{InPart}
 use Rattle.rd_commands.specs.Asks.{IsExtraction}
 use Rattle.rd_program.proofs.ExtractLemmas.{files_kept, files_never}
 use Rattle.std.specs.Prelude.{MatchResult}
-use Rattle.rd_program.specs.Does.{Does}
+use Rattle.rd_program.specs.Does.{Does, DoesCopy, DoesInit, DoesServe, DoesStaffKey}
 use Rattle.rd_program.proofs.FileLemmas.{shown_as}
-use Rattle.rd_program.proofs.PerformLemmas.{at_both, at_image, match_both}
+use Rattle.rd_program.proofs.PerformLemmas.{at_both, at_image}
 use Rattle.rd_program.proofs.dispatch.perform.Goals as goal
 
 -- ---- what is done
@@ -57,99 +56,46 @@ returns-in-Extract-clause-does g c =
 pub returns-in-Init-clause-does : goal.returns-in-Init-clause-does
 returns-in-Init-clause-does g c =
     subst (λ ask. Does g.M.Disk.Store g.M.Door.Door.told g.M.Door.Door.coming (g.M.Machine.seen c.args.machine.now) (g.M.Machine.seen c.init.new.machine)
-    (record { input = g.R.Read.remaining c.args.input.now; out = g.W.Write.contents c.args.output.now; written = g.W.Write.contents c.init.new.output }) ask c.whole-in-Init.result) (sym c.in-Init.is) (record {
-      frame = c.init.ensures.frame;
-      store = record { asked = c.init.ensures.asked; there = ended_whole _ c.init.result c.whole-in-Init.result c.whole-in-Init.ensures c.init.ensures.there };
-      sums = c.init.ensures.sums;
-      so = at_both c.init.result c.whole-in-Init.result _ _ c.whole-in-Init.ensures (on_both c.init.result _ _ c.init.ensures.made c.init.ensures.done) (at_err_both c.init.result _ _ c.init.ensures.refused c.init.ensures.left);
-    })
+    (record { input = g.R.Read.remaining c.args.input.now; out = g.W.Write.contents c.args.output.now; written = g.W.Write.contents c.init.new.output }) ask c.whole-in-Init.result) (sym c.in-Init.is) (subst (DoesInit g.M.Disk.Store (g.M.Machine.seen c.args.machine.now) (g.M.Machine.seen c.init.new.machine) (g.W.Write.contents c.args.output.now) (g.W.Write.contents c.init.new.output) c.in-Init.ask)
+    (sym c.whole-in-Init.ensures) c.init.ensures.does)
 
 pub returns-in-StaffKey-clause-does : goal.returns-in-StaffKey-clause-does
 returns-in-StaffKey-clause-does g c =
     subst (λ ask. Does g.M.Disk.Store g.M.Door.Door.told g.M.Door.Door.coming (g.M.Machine.seen c.args.machine.now) (g.M.Machine.seen c.staff_key.new.machine)
-    (record { input = g.R.Read.remaining c.args.input.now; out = g.W.Write.contents c.args.output.now; written = g.W.Write.contents c.staff_key.new.output }) ask c.whole-in-StaffKey.result) (sym c.in-StaffKey.is) (record {
-      frame = c.staff_key.ensures.frame;
-      store = record { asked = c.staff_key.ensures.asked; there = ended_whole _ c.staff_key.result c.whole-in-StaffKey.result c.whole-in-StaffKey.ensures c.staff_key.ensures.there };
-      so = at_both c.staff_key.result c.whole-in-StaffKey.result _ _ c.whole-in-StaffKey.ensures (on_both c.staff_key.result _ _ c.staff_key.ensures.put c.staff_key.ensures.done) (at_err_all c.staff_key.result _ _ _ c.staff_key.ensures.refused c.staff_key.ensures.left c.staff_key.ensures.opens);
-    })
+    (record { input = g.R.Read.remaining c.args.input.now; out = g.W.Write.contents c.args.output.now; written = g.W.Write.contents c.staff_key.new.output }) ask c.whole-in-StaffKey.result) (sym c.in-StaffKey.is) (subst (DoesStaffKey g.M.Disk.Store (g.M.Machine.seen c.args.machine.now) (g.M.Machine.seen c.staff_key.new.machine) (g.W.Write.contents c.args.output.now) (g.W.Write.contents c.staff_key.new.output) c.in-StaffKey.ask)
+    (sym c.whole-in-StaffKey.ensures) c.staff_key.ensures.does)
 
 pub returns-in-Copy-clause-does : goal.returns-in-Copy-clause-does
 returns-in-Copy-clause-does g c =
     subst (λ ask. Does g.M.Disk.Store g.M.Door.Door.told g.M.Door.Door.coming (g.M.Machine.seen c.args.machine.now) (g.M.Machine.seen c.copy.new.machine)
-    (record { input = g.R.Read.remaining c.args.input.now; out = g.W.Write.contents c.args.output.now; written = g.W.Write.contents c.copy.new.output }) ask c.whole-in-Copy.result) (sym c.in-Copy.is) (record {
-      asked = c.copy.ensures.asked;
-      there = ended_whole _ c.copy.result c.whole-in-Copy.result c.whole-in-Copy.ensures c.copy.ensures.there;
-      leaves = c.copy.ensures.leaves;
-      copies = record {
-        done = ok_whole _ c.copy.result c.whole-in-Copy.result c.whole-in-Copy.ensures (copy_done c.copy.result _ _ _ c.copy.ensures.copied c.copy.ensures.done);
-        due = err_whole _ c.copy.result c.whole-in-Copy.result c.whole-in-Copy.ensures (at_err_all c.copy.result _ _ _ c.copy.ensures.refused c.copy.ensures.not_copied c.copy.ensures.opens);
-        back = c.copy.ensures.back_new;
-      };
-      asks_new = c.copy.ensures.asked_new;
-    })
+    (record { input = g.R.Read.remaining c.args.input.now; out = g.W.Write.contents c.args.output.now; written = g.W.Write.contents c.copy.new.output }) ask c.whole-in-Copy.result) (sym c.in-Copy.is) (subst (DoesCopy g.M.Disk.Store (g.M.Machine.seen c.args.machine.now) (g.M.Machine.seen c.copy.new.machine) (g.W.Write.contents c.args.output.now) (g.W.Write.contents c.copy.new.output) c.in-Copy.ask)
+    (sym c.whole-in-Copy.ensures) c.copy.ensures.does)
 
 pub returns-in-OneQuestion-clause-does : goal.returns-in-OneQuestion-clause-does
 returns-in-OneQuestion-clause-does g c =
     subst (λ ask. Does g.M.Disk.Store g.M.Door.Door.told g.M.Door.Door.coming (g.M.Machine.seen c.args.machine.now) (g.M.Machine.seen c.ask_once.new.machine)
-    (record { input = g.R.Read.remaining c.args.input.now; out = g.W.Write.contents c.args.output.now; written = g.W.Write.contents c.ask_once.new.output }) ask c.ask_once.result) (sym c.in-OneQuestion.is) (record {
-      frame = c.ask_once.ensures.frame;
-      store = c.ask_once.ensures.store;
-      leaves = c.ask_once.ensures.steps;
-      moment = c.ask_once.ensures.moment;
-      answers = c.ask_once.ensures.answers;
-      tells = c.ask_once.ensures.written;
-      refused = c.ask_once.ensures.refused;
-      opening = c.ask_once.ensures.opens;
-    })
+    (record { input = g.R.Read.remaining c.args.input.now; out = g.W.Write.contents c.args.output.now; written = g.W.Write.contents c.ask_once.new.output }) ask c.ask_once.result) (sym c.in-OneQuestion.is) c.ask_once.ensures.does
 
 pub returns-in-Import-clause-does : goal.returns-in-Import-clause-does
 returns-in-Import-clause-does g c =
     subst (λ ask. Does g.M.Disk.Store g.M.Door.Door.told g.M.Door.Door.coming (g.M.Machine.seen c.args.machine.now) (g.M.Machine.seen c.import.new.machine)
-    (record { input = g.R.Read.remaining c.args.input.now; out = g.W.Write.contents c.args.output.now; written = g.W.Write.contents c.import.new.output }) ask c.import.result) (sym c.in-Import.is) (record {
-      frame = c.import.ensures.frame;
-      store = c.import.ensures.store;
-      leaves = c.import.ensures.takes;
-      moment = c.import.ensures.moment;
-      rows = c.import.ensures.rows;
-      stopped = c.import.ensures.stopped;
-      tells = match_both c.import.result _ _ c.import.ensures.written c.import.ensures.refused;
-      opening = c.import.ensures.opens;
-      bad_sheet = c.import.ensures.bad_sheet;
-    })
+    (record { input = g.R.Read.remaining c.args.input.now; out = g.W.Write.contents c.args.output.now; written = g.W.Write.contents c.import.new.output }) ask c.import.result) (sym c.in-Import.is) c.import.ensures.does
 
 pub returns-in-Sift-clause-does : goal.returns-in-Sift-clause-does
 returns-in-Sift-clause-does g c =
     subst (λ ask. Does g.M.Disk.Store g.M.Door.Door.told g.M.Door.Door.coming (g.M.Machine.seen c.args.machine.now) (g.M.Machine.seen c.import-in-Sift.new.machine)
-    (record { input = g.R.Read.remaining c.args.input.now; out = g.W.Write.contents c.args.output.now; written = g.W.Write.contents c.import-in-Sift.new.output }) ask c.import-in-Sift.result) (sym c.in-Sift.is) (record {
-      frame = c.import-in-Sift.ensures.frame;
-      store = c.import-in-Sift.ensures.store;
-      leaves = c.import-in-Sift.ensures.takes;
-      moment = c.import-in-Sift.ensures.moment;
-      rows = c.import-in-Sift.ensures.rows;
-      stopped = c.import-in-Sift.ensures.stopped;
-      tells = match_both c.import-in-Sift.result _ _ c.import-in-Sift.ensures.written c.import-in-Sift.ensures.refused;
-      opening = c.import-in-Sift.ensures.opens;
-      bad_sheet = c.import-in-Sift.ensures.bad_sheet;
-    })
+    (record { input = g.R.Read.remaining c.args.input.now; out = g.W.Write.contents c.args.output.now; written = g.W.Write.contents c.import-in-Sift.new.output }) ask c.import-in-Sift.result) (sym c.in-Sift.is) c.import-in-Sift.ensures.does
 
 pub returns-in-Serve-clause-does : goal.returns-in-Serve-clause-does
 returns-in-Serve-clause-does g c =
     subst (λ ask. Does g.M.Disk.Store g.M.Door.Door.told g.M.Door.Door.coming (g.M.Machine.seen c.args.machine.now) (g.M.Machine.seen c.serve.new.machine)
-    (record { input = g.R.Read.remaining c.args.input.now; out = g.W.Write.contents c.args.output.now; written = g.W.Write.contents c.serve.new.output }) ask c.whole-in-Serve.result) (sym c.in-Serve.is) (record {
-      frame = c.serve.ensures.frame;
-      store = record { asked = c.serve.ensures.store.asked; there = ended_whole _ c.serve.result c.whole-in-Serve.result c.whole-in-Serve.ensures c.serve.ensures.store.there };
-      leaves = c.serve.ensures.lasts;
-      so = at_both c.serve.result c.whole-in-Serve.result _ _ c.whole-in-Serve.ensures (c.serve.ensures.done) (at_err_both c.serve.result _ _ c.serve.ensures.refused c.serve.ensures.left);
-      visits = ok_whole _ c.serve.result c.whole-in-Serve.result c.whole-in-Serve.ensures c.serve.ensures.visits;
-      limits = ok_whole _ c.serve.result c.whole-in-Serve.result c.whole-in-Serve.ensures c.serve.ensures.limits;
-      lent = c.serve.ensures.lent;
-      on_time = c.serve.ensures.on_time;
-    })
+    (record { input = g.R.Read.remaining c.args.input.now; out = g.W.Write.contents c.args.output.now; written = g.W.Write.contents c.serve.new.output }) ask c.whole-in-Serve.result) (sym c.in-Serve.is) (subst (DoesServe g.M.Disk.Store (g.M.Machine.seen c.args.machine.now) (g.M.Machine.seen c.serve.new.machine) (g.W.Write.contents c.args.output.now) (g.W.Write.contents c.serve.new.output)
+    g.M.Door.Door.told g.M.Door.Door.coming c.in-Serve.ask) (sym c.whole-in-Serve.ensures) c.serve.ensures.does)
 
 -- ---- no refusal is a mistake in the words
 
 pub returns-in-OneQuestion-clause-never : goal.returns-in-OneQuestion-clause-never
-returns-in-OneQuestion-clause-never g c = IfErr-weaker c.ask_once.result _ _ (λ refusal refused. once_never refusal _ _ refused) c.ask_once.ensures.refused
+returns-in-OneQuestion-clause-never g c = IfErr-weaker c.ask_once.result _ _ (λ refusal refused. once_never refusal _ _ refused) c.ask_once.ensures.does.refused
 
 pub returns-in-StaffKey-clause-never : goal.returns-in-StaffKey-clause-never
 returns-in-StaffKey-clause-never g c =
@@ -169,7 +115,7 @@ returns-in-Extract-clause-never g c =
 -- ---- what is written at 1
 
 pub returns-in-OneQuestion-clause-kept : goal.returns-in-OneQuestion-clause-kept
-returns-in-OneQuestion-clause-kept g c = IfErr-weaker c.ask_once.result _ _ (λ refusal refused one. inl (once_kept refusal _ _ refused one)) c.ask_once.ensures.refused
+returns-in-OneQuestion-clause-kept g c = IfErr-weaker c.ask_once.result _ _ (λ refusal refused one. inl (once_kept refusal _ _ refused one)) c.ask_once.ensures.does.refused
 
 pub returns-in-StaffKey-clause-kept : goal.returns-in-StaffKey-clause-kept
 returns-in-StaffKey-clause-kept g c =

@@ -30,6 +30,8 @@ returns-in-Some-clause-stopped g c = on_err_weaker c.import_row.result _ _ (λ s
 
 pub returns-in_err-tell_bad_row-in-None-clause-stopped : goal.returns-in_err-tell_bad_row-in-None-clause-stopped
 returns-in_err-tell_bad_row-in-None-clause-stopped g c =
-    on_err c.from_residual.result _ (inr (Denied,
-    bad_sifted g.M.Disk.Store AppendsPart _ c.args.way c.args.giver.badge c.args.giver.day c.args.number (fields_of c.args.fields.now) c.args.shelf.now.images.items _ _ c.args.desk.now.store
-    c.in-None.ensures.bad c.in_err-tell_bad_row-in-None.ensures.cut))
+    on_err c.from_residual.result _ (inr (
+      Denied,
+      bad_sifted g.M.Disk.Store AppendsPart _ c.args.way c.args.giver.badge c.args.giver.day c.args.number (fields_of c.args.fields.now) c.args.shelf.now.images.items _ _ c.args.desk.now.store
+          c.in-None.ensures.bad c.in_err-tell_bad_row-in-None.ensures.cut,
+    ))

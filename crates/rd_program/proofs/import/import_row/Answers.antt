@@ -53,9 +53,11 @@ returns-in_err-bytes-clause-stopped g c = on_err c.from_residual.result _ (λ fi
 
 pub returns-in_err-tell_lost_row-clause-stopped : goal.returns-in_err-tell_lost_row-clause-stopped
 returns-in_err-tell_lost_row-clause-stopped g c =
-    on_err c.from_residual-in_err-tell_lost_row.result _ (λ fields says. inr (Lost,
-    lost_sifted g.M.Disk.Store AppendsPart _ c.args.way c.args.giver.badge c.args.giver.day c.args.number c.args.row fields c.args.shelf.now.images.items _ _ c.args.desk.now.store
-    (none_is _ c.in_default.is c.in_ok-bytes.ensures.lost) says c.in_err-tell_lost_row.ensures.cut))
+    on_err c.from_residual-in_err-tell_lost_row.result _ (λ fields says. inr (
+      Lost,
+      lost_sifted g.M.Disk.Store AppendsPart _ c.args.way c.args.giver.badge c.args.giver.day c.args.number c.args.row fields c.args.shelf.now.images.items _ _ c.args.desk.now.store
+          (none_is _ c.in_default.is c.in_ok-bytes.ensures.lost) says c.in_err-tell_lost_row.ensures.cut,
+    ))
 
 pub returns-clause-stopped : goal.returns-clause-stopped
 returns-clause-stopped g c =
