@@ -15,13 +15,17 @@ use Rattle.rd_program.specs.declared.import.Fate.TheVariants.{Done}
 abbrev pub accession_line : ℕ → List ℕ → List ℕ
 accession_line acc word = decimal acc ++ (codes " " ++ (word ++ line_feed))
 
--- the line that says that the row with this number, from 1, is bad
-abbrev pub bad_row_line : ℕ → List ℕ
-bad_row_line number = codes "row " ++ (decimal number ++ (codes " bad-row" ++ line_feed))
+-- the line that says in a word what became of the row with this number, from 1
+abbrev pub row_line : ℕ → List ℕ → List ℕ
+row_line number word = codes "row " ++ (decimal number ++ (codes " " ++ (word ++ line_feed)))
 
--- the line that says that the file of the row with this number cannot be read
+-- it is bad
+abbrev pub bad_row_line : ℕ → List ℕ
+bad_row_line number = row_line number (codes "bad-row")
+
+-- its file cannot be read
 abbrev pub lost_row_line : ℕ → List ℕ
-lost_row_line number = codes "row " ++ (decimal number ++ (codes " device" ++ line_feed))
+lost_row_line number = row_line number (codes "device")
 
 -- what the line of an accession says of an image that is taken in, or would be
 abbrev pub done_word : Bool → List ℕ

@@ -53,17 +53,9 @@ fn is_new(ask: &Ask, refused: Refusal, path: &str) -> bool {
     }
 }
 
-/// Whether a path is the one that an option names.
-fn is_named(named: Option<&str>, path: &str) -> bool {
-    match named {
-        Some(named) => named == path,
-        None => false,
-    }
-}
-
 /// Whether a refused command was to make something at a path, and reads no key and no zone there.
 fn is_made(told: &Told, refused: Refusal, path: &str) -> bool {
-    if is_named(told.beside.key_file, path) || is_named(told.beside.zone_file, path) {
+    if told.beside.key_file == Some(path) || told.beside.zone_file == Some(path) {
         return false;
     }
     is_new(&told.ask, refused, path)
@@ -344,15 +336,6 @@ fn note_unknown_key(alloc: Global, path: Option<&str>, notes: &mut Notes)
     }
 }
 
-/// Notes that a zone could not be taken from a file that is no ordinary one.
-fn note_unknown_zone(alloc: Global, path: Option<&str>, notes: &mut Notes)
-    ensures quiet { IsQuiet notes.old notes.new }
-{
-    if let Some(path) = path {
-        note_operand(alloc, path, Unusable::Unknown, notes);
-    }
-}
-
 /// Notes which files may be wrong, where nothing else is known. It blames neither of two.
 fn note_unknown(alloc: Global, beside: &Beside, key: Known, zone: Known, notes: &mut Notes)
     ensures quiet { IsQuiet notes.old notes.new }
@@ -363,7 +346,11 @@ fn note_unknown(alloc: Global, beside: &Beside, key: Known, zone: Known, notes: 
             notes.add(Line::Next(Advice::ZoneFile));
         }
         (Known::Nothing, _) => note_unknown_key(alloc, beside.key_file, notes),
-        (_, Known::Nothing) => note_unknown_zone(alloc, beside.zone_file, notes),
+        (_, Known::Nothing) => {
+            if let Some(path) = beside.zone_file {
+                note_operand(alloc, path, Unusable::Unknown, notes);
+            }
+        }
         _ => {}
     }
 }

@@ -16,9 +16,8 @@ ghost use Rattle.rd_program.specs.Does.{DoesImport};
 ghost use Rattle.rd_program.specs.World.{ChangesClock};
 ghost use Rattle.rd_program.specs.Leaves.{GivesBack, IsDayAt, IsSame, LeavesDesk, TakesFields, TakesRow, TakesUnlessDry, moment_of};
 ghost use Rattle.rd_program.specs.Rows.{IsBadSheetDue};
-ghost use Rattle.rd_program.specs.Importing as told;
 ghost use Rattle.rd_program.specs.Sifting as spec;
-ghost use Rattle.rd_program.specs.Importing.{IsRowRefusal, RefusesImport, RefusesRow, RefusesRows, TellsRow, TellsRows, accession_line, bad_row_line, lost_row_line};
+ghost use Rattle.rd_program.specs.Importing.{IsRowRefusal, RefusesImport, RefusesRow, RefusesRows, TellsRow, TellsRows, accession_line, done_word as done_word_of, row_line};
 ghost use Rattle.rd_program.specs.Sifting.{CutsFate, SiftsOn, SiftsOne, SiftsRows, StopsOn, StopsOne, StopsRows, TellsFate};
 
 use crate::machine::{Machine, file_at, sheet_at};
@@ -90,21 +89,22 @@ fn tell_accession<M: Machine, W: Write>(
     write_whole::<M, W>(output, line.as_bytes())
 }
 
-/// Writes a line that says that a row is bad, and flushes the output. Rows are counted from 1.
+/// Writes the line of a row, counted from 1, which says in a word what became of it, and flushes the output.
 ///
 /// It fails with `NoMemory`, and with `Device` when a write or the flush fails.
-fn tell_bad_row<M: Machine, W: Write>(
+fn tell_row<M: Machine, W: Write>(
     alloc: Global,
     number: u64,
+    word: &str,
     output: &mut W,
 ) -> Result<(), Refusal>
-    ensures done { OnOk result (Appends (W.contents output.old) (W.contents output.new) (bad_row_line number)) }
-    ensures cut { OnErr result (AppendsPart (W.contents output.old) (W.contents output.new) (bad_row_line number)) }
+    ensures done { OnOk result (Appends (W.contents output.old) (W.contents output.new) (row_line number word.now)) }
+    ensures cut { OnErr result (AppendsPart (W.contents output.old) (W.contents output.new) (row_line number word.now)) }
     ensures flushed { OnOk result (IsTrue (M.flushed (W.contents output.new))) }
     ensures refused { IfErr result IsDeviceOrMemory }
 {
     let mut line = String::new(alloc);
-    write!(line, "row {number} bad-row\n")?;
+    write!(line, "row {number} {word}\n")?;
     write_whole::<M, W>(output, line.as_bytes())
 }
 
@@ -141,27 +141,9 @@ impl Fate {
     }
 }
 
-/// Writes the line of a row whose file cannot be read, and flushes the output. Rows are counted from 1.
-///
-/// It fails with `NoMemory`, and with `Device` when a write or the flush fails.
-fn tell_lost_row<M: Machine, W: Write>(
-    alloc: Global,
-    number: u64,
-    output: &mut W,
-) -> Result<(), Refusal>
-    ensures done { OnOk result (Appends (W.contents output.old) (W.contents output.new) (lost_row_line number)) }
-    ensures cut { OnErr result (AppendsPart (W.contents output.old) (W.contents output.new) (lost_row_line number)) }
-    ensures flushed { OnOk result (IsTrue (M.flushed (W.contents output.new))) }
-    ensures refused { IfErr result IsDeviceOrMemory }
-{
-    let mut line = String::new(alloc);
-    write!(line, "row {number} device\n")?;
-    write_whole::<M, W>(output, line.as_bytes())
-}
-
 /// What the line of an accession says of an image that is taken in, or would be.
 fn done_word(dry_run: bool) -> &'static str
-    ensures { result.now ≡ told.done_word dry_run }
+    ensures { result.now ≡ done_word_of dry_run }
 {
     if dry_run { "would-be-done" } else { "done" }
 }
@@ -297,7 +279,7 @@ fn import_row<W: Write, M: Machine>(
     ensures refused { IfErr result (RefusesRow (W.contents output.old) (W.contents output.new)) }
 {
     let Some(bytes) = row_bytes(alloc, row.file, number, way, machine)? else {
-        tell_lost_row::<M, W>(alloc, number, output)?;
+        tell_row::<M, W>(alloc, number, "device", output)?;
         return Ok(Fate::Lost);
     };
     let found = bytes.len();
@@ -337,7 +319,7 @@ fn import_fields<W: Write, M: Machine>(
         Some(row) => import_row(alloc, row, number, way, giver, desk, shelf, output, machine),
         None => {
             note_bad_row(number, fields, machine);
-            tell_bad_row::<M, W>(alloc, number, output)?;
+            tell_row::<M, W>(alloc, number, "bad-row", output)?;
             Ok(Fate::Denied)
         }
     }

@@ -12,7 +12,7 @@ use Rattle.rd_program.proofs.import.import_row.Goals as goal
 pub returns-in_default-clause-row : goal.returns-in_default-clause-row
 returns-in_default-clause-row g c = λ fields says.
     lost_sifted g.M.Disk.Store Appends _ c.args.way c.args.giver.badge c.args.giver.day c.args.number c.args.row fields c.args.shelf.now.images.items _ _ c.args.desk.now.store
-    (none_is _ c.in_default.is c.in_ok-bytes.ensures.lost) says c.in_ok-tell_lost_row.ensures.done
+    (none_is _ c.in_default.is c.in_ok-bytes.ensures.lost) says c.in_ok-tell_row.ensures.done
 
 pub returns-clause-row : goal.returns-clause-row
 returns-clause-row g c =
@@ -35,13 +35,13 @@ pub returns-in_err-bytes-clause-refused : goal.returns-in_err-bytes-clause-refus
 returns-in_err-bytes-clause-refused g c =
     passed_on c.from_residual.result c.in_err-bytes.field-0.0 _ c.from_residual.ensures.1 (c.in_err-bytes.ensures.refused, none_of_line (g.W.Write.contents c.args.output.now))
 
-pub returns-in_err-tell_lost_row-clause-refused : goal.returns-in_err-tell_lost_row-clause-refused
-returns-in_err-tell_lost_row-clause-refused g c =
-    passed_on c.from_residual-in_err-tell_lost_row.result c.in_err-tell_lost_row.field-0.0 _ c.from_residual-in_err-tell_lost_row.ensures.1
-    (row_refused c.args.number _ c.in_err-tell_lost_row.field-0.0 _ _ (inr refl) c.in_err-tell_lost_row.ensures.refused c.in_err-tell_lost_row.ensures.cut)
+pub returns-in_err-tell_row-clause-refused : goal.returns-in_err-tell_row-clause-refused
+returns-in_err-tell_row-clause-refused g c =
+    passed_on c.from_residual-in_err-tell_row.result c.in_err-tell_row.field-0.0 _ c.from_residual-in_err-tell_row.ensures.1
+    (row_refused c.args.number _ c.in_err-tell_row.field-0.0 _ _ (inr refl) c.in_err-tell_row.ensures.refused c.in_err-tell_row.ensures.cut)
 
 pub returns-in_default-clause-written : goal.returns-in_default-clause-written
-returns-in_default-clause-written g c = record { line = _; is = inr (c.args.number, inr refl); gained = c.in_ok-tell_lost_row.ensures.done }
+returns-in_default-clause-written g c = record { line = _; is = inr (c.args.number, inr refl); gained = c.in_ok-tell_row.ensures.done }
 
 pub returns-clause-written : goal.returns-clause-written
 returns-clause-written g c = answer_row c.args.row.acc c.args.way.dry_run c.answer_to_row-answer.result c.tell_fate.result _ _ c.tell_fate.ensures.written
@@ -51,12 +51,12 @@ returns-clause-written g c = answer_row c.args.row.acc c.args.way.dry_run c.answ
 pub returns-in_err-bytes-clause-stopped : goal.returns-in_err-bytes-clause-stopped
 returns-in_err-bytes-clause-stopped g c = on_err c.from_residual.result _ (λ fields says. inl (Keeps-refl _, λ is_open. refl))
 
-pub returns-in_err-tell_lost_row-clause-stopped : goal.returns-in_err-tell_lost_row-clause-stopped
-returns-in_err-tell_lost_row-clause-stopped g c =
-    on_err c.from_residual-in_err-tell_lost_row.result _ (λ fields says. inr (
+pub returns-in_err-tell_row-clause-stopped : goal.returns-in_err-tell_row-clause-stopped
+returns-in_err-tell_row-clause-stopped g c =
+    on_err c.from_residual-in_err-tell_row.result _ (λ fields says. inr (
       Lost,
       lost_sifted g.M.Disk.Store AppendsPart _ c.args.way c.args.giver.badge c.args.giver.day c.args.number c.args.row fields c.args.shelf.now.images.items _ _ c.args.desk.now.store
-          (none_is _ c.in_default.is c.in_ok-bytes.ensures.lost) says c.in_err-tell_lost_row.ensures.cut,
+          (none_is _ c.in_default.is c.in_ok-bytes.ensures.lost) says c.in_err-tell_row.ensures.cut,
     ))
 
 pub returns-clause-stopped : goal.returns-clause-stopped
