@@ -471,7 +471,10 @@ impl<'a, D: Door + Drop, P: Places<D> + Drop> Machine for Host<'a, D, P> {
         }
         match open_store(self.rt, path, has_sums, &self.remembered) {
             Ok(conn) => Ok(Some(conn)),
-            Err(fault) => Err(fault),
+            Err(fault) => {
+                let _ = fs::remove_file(self.rt, path);
+                Err(fault)
+            }
         }
     }
 

@@ -1,4 +1,4 @@
-use Rattle.std.proofs.Common.{◌≡◌, ◌∙◌, FitsSigned, IfSome, ap, rules, subst, sym, true, w32, Err, inl, inr}
+use Rattle.std.proofs.Common.{◌≡◌, ◌∙◌, Err, FitsSigned, IfSome, ap, inl, inr, rules, subst, sym, true, w32}
 use Rattle.std.proofs.KnownBytes.{Keeps-refl}
 use Rattle.std.proofs.lemmas.Int.{to_z-of_z}
 use Rattle.std.proofs.lemmas.Result.{IfErr-weaker, IfOk-weaker}
