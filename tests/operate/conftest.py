@@ -1,5 +1,6 @@
 """Fixtures of a museum's machine: a room with its tools, and one that has a backup since which a file was closed."""
 
+import signal
 import time
 
 import pytest
@@ -10,7 +11,9 @@ INPUTS = ("operate", "web", "images", "docs", "crates.txt", "crates/rd_trials/da
 
 @pytest.fixture
 def house(request, program):
-    """A room with its tools; its store has sums, or none where a test says so."""
+    """A room with its tools; its store has sums, or none where a test says so. Tools end at Ctrl-C, also where this run
+    was begun by a shell in the background, for whose programs it is ignored."""
+    signal.signal(signal.SIGINT, signal.default_int_handler)
     with Room(program) as room, room.asked_for_space():
         made = House(room, getattr(request, "param", True))
         yield made

@@ -72,7 +72,7 @@ def test_back_leads_to_the_same_place(reader, place, links):
     reader.read(lambda state: state["heading"] == heading and state["disks"])
     wait_for("the link by which the reader left with the focus", lambda: reader.focused() == name)
     assert abs(reader.script("return window.scrollY") - before) <= 2
-    assert reader.door.visits == []
+    assert not [visit for visit in reader.door.visits if "/files/" not in visit[1]]
     reader.driver.forward()
     assert reader.read(lambda state: state["heading"] == name)
 
