@@ -44,10 +44,8 @@ fn first_line(bytes: &[u8]) -> &[u8]
     }
 }
 
-/// The key in a file of these bytes: its first line, without the line's end and without blanks and tabs at both ends.
-/// Where that is empty, so is the key. The lines after the first may hold anything.
-///
-/// `None` exactly when there are more than 4,096 bytes.
+/// The key in a file of these bytes: its first line without the line's end and blanks and tabs at both ends,
+/// which may leave nothing. Later lines may hold anything. `None` exactly when there are over 4,096 bytes.
 pub fn key_in_file(bytes: &[u8]) -> Option<&[u8]>
     ensures taken { IsSome result ↔ (length bytes.now ≤ 4_096) }
     ensures key { IfSome result (λ key. key.now ≡ key_of bytes.now) }
