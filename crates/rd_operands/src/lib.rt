@@ -1,5 +1,5 @@
-//! What people give a command beside its plain words: a key in a file, a file of the time zone database, and a day in
-//! place of a moment; and the names under which the files of an image may stand in a folder of any system.
+//! What people give a command beside its plain words: a key in a file, a file of the time zone database, a
+//! day in place of a moment; and names for the files of an image in a folder of any system.
 #![tactic(auto)]
 
 mod blanks;
