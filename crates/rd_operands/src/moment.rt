@@ -1,15 +1,16 @@
 //! The first moment of a day.
 
-ghost use Rattle.std.specs.Prelude.{◌≡◌, ◌^◌, ◌+ℤ◌, ◌-ℤ◌, ◌*ℤ◌, ◌≤ℤ◌, ◌↔◌, IfNone, IfSome, IsTrue, neg_ℤ, pos};
-ghost use Rattle.rd_operands.specs.Moments.{HasNoMoment, HasNoneFrom, HasOneMoment, IsFirstFrom, IsFirstMoment, IsOnDay};
+ghost use Rattle.std.specs.Prelude.{◌≡◌, ◌^◌, ◌+ℤ◌, ◌-ℤ◌, ◌*ℤ◌, ◌≤ℤ◌, ◌↔◌, neg_ℤ, pos};
+ghost use Rattle.std.specs.Prelude.{IfNone, IfSome, IsTrue};
+ghost use Rattle.rd_operands.specs.Moments.{HasNoMoment, HasNoneFrom, HasOneMoment};
+ghost use Rattle.rd_operands.specs.Moments.{IsFirstFrom, IsFirstMoment, IsOnDay};
 
 use rd_policy::{Zone, day_of};
 
 /// How many seconds clocks may be ahead of UTC, or behind it.
 const FARTHEST: i64 = 93_599;
 
-/// In how many seconds the clocks of some place may show a day: its own 86,400, and as many before and after as clocks
-/// may be ahead or behind.
+/// In how many seconds the clocks of some place may show a day: its 86,400, and twice as many as `FARTHEST`.
 const SPAN: u32 = 273_598;
 
 /// Whether the clocks of a zone show a day at a moment.
@@ -54,10 +55,9 @@ fn first_from(start: i64, count: u32, day: i32, zone: &Zone) -> Option<i64>
     None
 }
 
-/// The first moment at which the clocks of a zone show a day, counted from 1970-01-01; `None` if they show it at no
-/// moment that has a day. It takes no memory.
-///
-/// Clocks that go back at midnight can show a day, the day before, and the day again: the moment is the first of all.
+/// The first moment at which the clocks of a zone show a day, counted from 1970-01-01; `None` if they show it
+/// at no moment that has a day. It takes no memory. Clocks that go back at midnight can show a day, the day
+/// before, and the day again: the moment is the first of all.
 pub fn first_moment(day: i32, zone: &Zone) -> Option<i64>
     ensures first { IfSome result (λ seconds. IsFirstMoment day zone.now seconds) }
     ensures none { IfNone result (HasNoMoment day zone.now) }
