@@ -2,7 +2,7 @@
 
 ghost use Rattle.std.specs.Prelude.{◌≡◌, ◌<◌, ◌+◌, ◌++◌, IfOk, OnOk, map, string_bytes, take};
 ghost use Rattle.rd_operands.specs.FileNames as spec;
-ghost use Rattle.rd_operands.specs.FileNames.{HasOneSlot, IsSafeName, slot_front, without_dots as without_dots_of};
+ghost use Rattle.rd_operands.specs.FileNames.{HasOneSlot, IsSafeName, without_dots as without_dots_of};
 
 use crate::dots::without_dots;
 use rd_geometry::NoMemory;
@@ -11,8 +11,7 @@ use std::alloc::{AllocError, Global};
 /// How many bytes of a file's own name its name in a folder keeps.
 const KEPT: usize = 249;
 
-/// Whether a byte is of POSIX's portable filename character set: a letter or a digit of ASCII, a dot, an underscore or
-/// a hyphen.
+/// Whether a byte is of POSIX's portable filename character set: an ASCII letter or digit, a dot, `_` or `-`.
 fn is_portable(byte: u8) -> bool
     ensures { result ≡ spec.is_portable byte }
 {
@@ -37,7 +36,7 @@ fn digit(number: u16) -> char
 
 /// Adds a slot to a text, in five digits, and a hyphen.
 fn push_slot(text: &mut String, slot: u16) -> Result<(), AllocError>
-    ensures { OnOk result (string_bytes text.new ≡ string_bytes text.old ++ slot_front slot) }
+    ensures { OnOk result (string_bytes text.new ≡ string_bytes text.old ++ spec.slot_front slot) }
 {
     let tens = slot / 10;
     let hundreds = tens / 10;
@@ -60,19 +59,17 @@ fn push_safe(text: &mut String, bytes: &[u8]) -> Result<(), AllocError>
     Ok(())
 }
 
-/// The part of a file's own name that its name in a folder keeps: its first 249 bytes, without the dots at their end.
+/// What a file's name in a folder keeps of its own: the first 249 bytes, without the dots at their end.
 fn kept_part(name: &[u8]) -> &[u8]
     ensures { result.now ≡ without_dots_of (take KEPT name.now) }
 {
     without_dots(&name[..KEPT.min(name.len())])
 }
 
-/// The name for the file of a slot in a folder, from the name that it has in its image: the slot in five digits, a
-/// hyphen, and the first 249 bytes of its own name. A dot at the end is left out, and an underscore stands for each byte
-/// that is not a letter or a digit of ASCII, a dot, an underscore or a hyphen.
-///
-/// So no system takes it for a path, for a hidden file or for a device, and no two slots have the same name, even where
-/// capital and small letters are the same (`one_slot`). It fails only when memory runs out.
+/// The name in a folder for the file of a slot, by its name in its image: the slot in five digits, a hyphen,
+/// and the first 249 bytes of that name, without dots at the end and with an underscore for each byte outside
+/// the portable set. So no system takes it for a path, a hidden file or a device, and no two slots have one
+/// name, even where capital and small letters are the same (`one_slot`). It fails only when memory runs out.
 pub fn file_name(alloc: Global, slot: u16, name: &[u8]) -> Result<String, NoMemory>
     ensures name { IfOk result (λ text. string_bytes text ≡ spec.file_name slot name.now) }
     ensures safe { IfOk result (λ text. IsSafeName (string_bytes text)) }
