@@ -1,5 +1,4 @@
-//! Keys and zones in files, first moments of days, and names of files. The moments and zones are those that Python's
-//! `zoneinfo` reads.
+//! Keys and zones in files, first moments of days, names of files. Python's `zoneinfo` gives the moments.
 
 use crate::{ZoneFileFault, file_name, first_moment, key_in_file, zone_in_file};
 use rd_policy::{Zone, date_read};
@@ -88,7 +87,9 @@ const NO_RULE: Result<Zone, ZoneFileFault> = Err(ZoneFileFault::NoRule);
 
 /// A file of the time zone database without a change in its tables, before the line with its rule.
 const FRONT: &[u8; 109] =
-    b"TZif2\0\0\0\0\0\0\0\0\0\0\0\0\0\0\0\0\0\0\0\0\0\0\0\0\0\0\0\0\0\0\0\0\0\0\x01\0\0\0\x04\0\0\x0e\x10\0\0CET\0TZif2\0\0\0\0\0\0\0\0\0\0\0\0\0\0\0\0\0\0\0\0\0\0\0\0\0\0\0\0\0\0\0\0\0\0\x01\0\0\0\x04\0\0\x0e\x10\0\0CET\0\n";
+    b"TZif2\0\0\0\0\0\0\0\0\0\0\0\0\0\0\0\0\0\0\0\0\0\0\0\0\0\0\0\0\0\0\0\0\0\0\
+    \x01\0\0\0\x04\0\0\x0e\x10\0\0CET\0TZif2\0\0\0\0\0\0\0\0\0\0\0\0\0\0\0\0\0\0\0\0\0\0\0\0\0\0\0\0\0\0\0\0\
+    \0\0\x01\0\0\0\x04\0\0\x0e\x10\0\0CET\0\n";
 
 #[test]
 fn zones(rt: HostRuntime) -> Result<(), Fail> {
