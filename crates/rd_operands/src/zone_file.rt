@@ -2,13 +2,15 @@
 
 ghost use Rattle.std.specs.Io.BufRead.{strip_last};
 ghost use Rattle.std.specs.List.{suffix_len};
-ghost use Rattle.std.specs.Prelude.{◌≡◌, ◌+◌, ◌==◌, ◌↔◌, Err, IfErr, IfNone, IfOk, IfSome, IsOk, IsTrue, Some, length, not, option_map};
+ghost use Rattle.std.specs.Prelude.{◌≡◌, ◌+◌, ◌==◌, ◌↔◌, length, not, option_map};
+ghost use Rattle.std.specs.Prelude.{Err, IfErr, IfNone, IfOk, IfSome, IsOk, IsTrue, Some};
 ghost use Rattle.jiff_tz.specs.Abbreviation.{abbreviation_text};
 ghost use Rattle.jiff_tz.specs.PosixText.{day_time_view, dst_view, tz_view};
 ghost use Rattle.jiff_tz.specs.TzifReader.{read_tzif};
 ghost use Rattle.jiff.specs.Words.{read_whole};
 ghost use Rattle.rd_policy.specs.Zones.{IsZoneOf, IsZoneRule};
-ghost use Rattle.rd_operands.specs.ZoneFiles.{HasFooter, HasNoFooter, HasNoRule, IsRuleLine, IsZoneOfFile, last_line as last_line_of};
+ghost use Rattle.rd_operands.specs.ZoneFiles.{HasFooter, HasNoFooter, HasNoRule, IsRuleLine};
+ghost use Rattle.rd_operands.specs.ZoneFiles.{IsZoneOfFile, last_line as last_line_of};
 
 use crate::key_file::LINE_FEED;
 use jiff_core::Error as ZoneError;
@@ -122,10 +124,8 @@ fn fault_of(error: ZoneError) -> ZoneFileFault
     }
 }
 
-/// The rule in the footer of a file of the time zone database.
-///
-/// It fails with `NoRule` when the bytes are no such file, have no rule, or have one that contradicts the table, and
-/// with `NoMemory`.
+/// The rule in the footer of a file of the time zone database. It fails with `NoRule` when the bytes are no
+/// such file, have no rule, or have one that contradicts the table, and with `NoMemory`.
 fn footer_rule(alloc: Global, bytes: &[u8]) -> Result<TimeZone, ZoneFileFault>
     ensures rule { IfOk result (HasFooter bytes.now) }
     ensures none { IfErr result (λ fault. fault ≡ ZoneFileFault.NoRule → HasNoFooter bytes.now) }
@@ -202,11 +202,9 @@ fn same_rule(one: &TimeZone, other: &TimeZone) -> bool
     same_summers(one.dst, other.dst)
 }
 
-/// The zone of the rule in which a file of the time zone database ends. It holds for all time: what the file's tables say
-/// of earlier years is left out.
-///
-/// It fails with `NoRule` when the bytes are no such file, have more than 65,536 bytes or end in no rule, or when the
-/// rule contradicts the last change of the table, and with `NoMemory`.
+/// The zone of the rule in which a file of the time zone database ends, for all time: what its tables say of
+/// earlier years is left out. It fails with `NoRule` when the bytes are no such file, are over 65,536, end in
+/// no rule, or in one that contradicts the last change of the table, and with `NoMemory`.
 pub fn zone_in_file(alloc: Global, bytes: &[u8]) -> Result<Zone, ZoneFileFault>
     ensures zone { IfOk result (IsZoneOfFile bytes.now) }
     ensures none { IfErr result (λ fault. fault ≡ ZoneFileFault.NoRule → HasNoRule bytes.now) }
