@@ -70,8 +70,7 @@ pub(crate) fn insert_check<S: Alter>(
     )
 }
 
-/// Puts the finding of a check of an accession that stands, in place of the finding of that day,
-/// if there is one.
+/// Puts the finding of a check of an accession that stands, in place of the finding of that day, if there is one.
 fn write_check<S: Alter>(
     conn: &mut Connection<S>,
     acc: u32,

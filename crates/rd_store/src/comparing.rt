@@ -1,6 +1,6 @@
 //! Compares the desks of two stores, row by row and image by image.
 
-ghost use Rattle.std.specs.Prelude.{◌≡◌, ◌≢◌, ◌<◌, false, length};
+ghost use Rattle.std.specs.Prelude.{◌≡◌, ◌≢◌, ◌<◌, IsSome, false, length};
 ghost use Rattle.std.specs.FinMap.{get};
 ghost use Rattle.sqlite.specs.Order.{column};
 ghost use Rattle.sqlite_value.specs.Value.{owned};
@@ -115,7 +115,8 @@ fn has_same_checks<S: Alter>(one: &mut Store<S>, other: &mut Store<S>) -> Result
 
 /// Whether two images are the same.
 fn is_same_image(one: &ImageRow, other: &ImageRow) -> bool
-    ensures { TellsSame one.now other.now result }
+    ensures same { TellsSame one.now other.now result }
+    ensures differ { result ≡ false → one.now ≢ other.now }
 {
     one.kind == other.kind
         && one.deed == other.deed
@@ -125,7 +126,8 @@ fn is_same_image(one: &ImageRow, other: &ImageRow) -> bool
 
 /// Whether both images are there and are the same.
 fn is_same_found(one: &Option<ImageRow>, other: &Option<ImageRow>) -> bool
-    ensures { TellsSame one.now other.now result }
+    ensures same { TellsSame one.now other.now result }
+    ensures differ { result ≡ false → IsSome one.now → one.now ≢ other.now }
 {
     match (one, other) {
         (Some(one), Some(other)) => is_same_image(one, other),

@@ -1,4 +1,4 @@
-ghost use Rattle.std.specs.Prelude.{◌≡◌, false, IfErr, OnOk, ⊤};
+ghost use Rattle.std.specs.Prelude.{◌≡◌, false, IfErr, OnErr, OnOk, true, ⊤};
 ghost use Rattle.sqlite.specs.Held.{state};
 ghost use Rattle.rd_store.specs.Held.{Asks, HoldsDesk, Reads};
 
@@ -28,6 +28,7 @@ impl<S: Alter> Store<S> {
     /// It fails with `Sql`.
     pub(crate) fn outside_transaction(&self) -> Result<(), StoreFault>
         ensures outside { OnOk result (self.now.in_transaction ≡ false) }
+        ensures inside { OnErr result (self.now.in_transaction ≡ true) }
         ensures fault { IfErr result (λ fault. fault ≡ StoreFault.Sql) }
     {
         if self.conn.is_autocommit() {

@@ -32,9 +32,8 @@ pub enum OpenFault {
     /// The table `desk` does not have its one row, or the row says another version than 2; for
     /// `migrate`, another than 1 and 2.
     Version,
-    /// The rows are not those of a desk: a value is out of its range, what it refers to is not there, no staff
-    /// key is there, error bytes are not 683 or stand where no D64 does, or the index of the files is not that of
-    /// the images.
+    /// The rows are not those of a desk: a value is out of its range, what it refers to is not there, no staff key is
+    /// there, error bytes are not 683 or stand where no D64 does, or the index of the files is not that of the images.
     Inconsistent,
     /// Tables are declared in another way, the database failed, or memory ran out.
     Sql,

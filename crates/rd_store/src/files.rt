@@ -235,9 +235,8 @@ impl<S: Alter> Store<S> {
         )
     }
 
-    /// The file at a slot, 0 to 5,463, of the image of an accession, 1 to 999,999, as `survey`
-    /// gives it; `None` if there is no such file or accession. It comes from the index; it reads
-    /// no image.
+    /// The file at a slot, 0 to 5,463, of the image of an accession, 1 to 999,999, as `survey` gives it; `None` if
+    /// there is no such file or accession. It comes from the index; it reads no image.
     ///
     /// It fails with `Sql`.
     pub fn found_at(

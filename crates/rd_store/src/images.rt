@@ -229,8 +229,7 @@ impl<S: Alter> Store<S> {
         Ok(Some(marked_image(alloc, &mut self.conn, acc, row)?))
     }
 
-    /// The kind of the image and the deed of an accession, 1 to 999,999; `None` if it is not
-    /// there. It reads no row.
+    /// The kind of the image and the deed of an accession, 1 to 999,999; `None` if it is not there. It reads no row.
     ///
     /// It fails with `Sql`.
     pub fn accession(&mut self, acc: u32) -> Result<Option<Accession>, StoreFault>
@@ -268,8 +267,7 @@ impl<S: Alter> Store<S> {
         self.register.accessions(alloc)
     }
 
-    /// The register: all accessions, ascending, each with the kind of its image and its deed. It
-    /// reads no row.
+    /// The register: all accessions, ascending, each with the kind of its image and its deed. It reads no row.
     ///
     /// It fails with `Sql`.
     pub fn register(&mut self, alloc: Global) -> Result<Vec<(u32, Accession)>, StoreFault>

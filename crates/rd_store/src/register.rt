@@ -1,6 +1,6 @@
 //! The register: what the store keeps in memory of each image, which is all but its bytes.
 
-ghost use Rattle.std.specs.Prelude.{◌≡◌, ◌<◌, ◌≤◌, ℕ, [], IfOk, IfErr, None, OnOk, drop, length, map, option_map, slice_index_or, take};
+ghost use Rattle.std.specs.Prelude.{◌≡◌, ◌<◌, ◌≤◌, ℕ, [], IfOk, IfErr, None, OnErr, OnOk, drop, length, map, option_map, slice_index_or, take, vec_capacity, vec_len};
 ghost use Rattle.std.specs.List.{insert as insert_at};
 ghost use Rattle.std.specs.List.Sorted.{IsSearchInRange};
 ghost use Rattle.std.specs.Ordering.{nat_cmp};
@@ -155,9 +155,10 @@ impl Register {
         numbered_in(alloc, self.as_slice())
     }
 
-    /// Takes the accessions out.
+    /// Takes the accessions out, with the room that they have.
     fn taken(&mut self, alloc: Global) -> Vec<(u32, Heading)>
-        ensures { result.items ≡ listed self.old }
+        ensures taken { result.items ≡ listed self.old }
+        ensures room { HasRoom self.old → vec_len result < vec_capacity result }
     {
         match self.entries.take() {
             Some(entries) => entries,
@@ -165,10 +166,11 @@ impl Register {
         }
     }
 
-    /// Makes room for one more accession, so that to put it takes no memory.
+    /// Makes room for one more accession, so that to put it takes no memory. It fails only where there is none.
     pub(crate) fn reserve(&mut self, alloc: Global) -> Result<(), StoreFault>
         ensures same { listed self.new ≡ listed self.old }
         ensures room { OnOk result (HasRoom self.new) }
+        ensures full { OnErr result (¬ HasRoom self.old) }
         ensures fault { IfErr result (λ fault. fault ≡ StoreFault.Sql) }
     {
         let mut entries = self.taken(alloc);

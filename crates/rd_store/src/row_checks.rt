@@ -46,8 +46,7 @@ fn has_band(row: &Row, accessions: &[u32], deeds: &[u32]) -> bool
         || has_number(row, 1, 1, 1) && has_one_of(row, 2, deeds) && has_number(row, 10, 0, 2)
 }
 
-/// Whether the selector of a row is of this sort, with a number up to `number` and a word of at most
-/// `word` bytes.
+/// Whether the selector of a row is of this sort, with a number up to `number` and a word of at most `word` bytes.
 fn has_parts(row: &Row, how: u32, number: u32, word: usize) -> bool
     ensures { MatchBool result (HasParts how number word (column row.now 7) (column row.now 8) (column row.now 9))
         (¬ HasParts how number word (column row.now 7) (column row.now 8) (column row.now 9)) }

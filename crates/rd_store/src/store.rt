@@ -107,10 +107,9 @@ impl<S: Alter> Store<S> {
     }
 
     /// Opens the desk that a database holds, after bringing tables of version 1 to version 2. It tests the rows as
-    /// `open` does, and walks each image once. Then in one transaction it makes an empty table of error bytes and
-    /// sets the version. The desk stays the same, and a crash leaves it in tables of version 1 or of version 2.
-    /// There is no way back to version 1. It leaves tables of version 2 as they are. The connection is outside a
-    /// transaction.
+    /// `open` does, and walks each image once. Then in one transaction it makes an empty table of error bytes and sets
+    /// the version. The desk stays the same, and a crash leaves it in tables of version 1 or of version 2. There is no
+    /// way back to version 1. It leaves tables of version 2 as they are. The connection is outside a transaction.
     ///
     /// It fails as `open` does: with `Version` if the row says neither 1 nor 2, with `Inconsistent` if the rows are
     /// not those of a desk of their version, and with `Sql`, for instance if the tables are not those of the

@@ -10,4 +10,4 @@ pub returns-in_err-standing : goal.returns-in_err-standing
 returns-in_err-standing g c = record { compares = failed_both g.S.Store c.image.ensures.reads.keeps c.image-2.ensures.reads.keeps c.from_residual-in_err-standing.result c.from_residual-in_err-standing.ensures.0 }
 
 pub returns : goal.returns
-returns g c = record { compares = asked_both g.S.Store c.in_ok-found.ensures.reads c.in_ok-standing.ensures.reads (λ is are told. sym is ∙ c.is_same_found.ensures told ∙ are) }
+returns g c = record { compares = asked_both g.S.Store c.in_ok-found.ensures.reads c.in_ok-standing.ensures.reads (λ is are told. sym is ∙ c.is_same_found.ensures.same told ∙ are) }
