@@ -169,8 +169,6 @@ impl<P: Supply + Drop, S: Alter + Drop> Machine for Museum<P, S> {
       fresh = λ _. machine.fresh;
       made = machine.fresh;
       wanted = None;
-      sums = None;
-      new_stores = None;
       doors = λ _. Some machine.door;
       limits = machine.limits;
       written = None;

@@ -16,7 +16,7 @@ use Rattle.rd_store.specs.declared.faults.CreateFault.TheVariants as create
 use Rattle.rd_commands.specs.Refusals.{status_of}
 use Rattle.rd_commands.specs.declared.refusal.Refusal.{Refusal}
 use Rattle.rd_commands.specs.declared.refusal.Refusal.TheVariants.{Device, Exists, NoMemory, Store}
-use Rattle.rd_program.specs.Copying.{AsksNew, AsksNoOtherNew, CopiesTo, IfAll, IsCopyRefusal, LeavesCopy, LeavesNew, LeavesNoPart, LeavesOldOrStood, LeavesTarget, MakesCopy, NotCopied, OpensDesk, RefusesCopy}
+use Rattle.rd_program.specs.Copying.{CopiesTo, IfAll, IsCopyRefusal, LeavesCopy, LeavesNew, LeavesNoPart, LeavesOldOrStood, LeavesTarget, MakesCopy, NotCopied, OpensDesk, RefusesCopy}
 use Rattle.rd_program.specs.Faults.{refusal_to_create}
 use Rattle.rd_program.specs.Inits.{IsInitRefusal}
 use Rattle.rd_program.specs.Leaves.{GivesBack, HasBoth, IfBoth, IsSame, Leaves, LeavesDesk, LeavesNone, LeavesStore, NamesOpening}
@@ -270,18 +270,3 @@ copy_kept refusal old new refused one = refused.0
 pub copy_done : {T E : Type 0} (r : Result T E) (P Q R : Type 0) → OnOk r (P × Q) → OnOk r R → OnOk r (P × Q × R)
 copy_done (Ok value) P Q R done told = (done.0, done.1, told)
 copy_done (Err error) P Q R done told = tt
-
--- ---- the new store that is asked for
-
-pub asks_new : (old new : Option (List (List ℕ × Bool))) (path : List ℕ) (summed : Bool) (Holds : Type 0) → AsksNew old path summed new → Holds → AsksNoOtherNew old path summed new Holds
-asks_new None new path summed Holds asks holds = tt
-asks_new (Some before) new path summed Holds asks holds = inr (asks, holds)
-
-pub asks_between : (old mid new last : Option (List (List ℕ × Bool))) (path : List ℕ) (summed : Bool) (Holds : Type 0) → mid ≡ old → last ≡ new → AsksNew mid path summed new → Holds
-    → AsksNoOtherNew old path summed last Holds
-asks_between old mid new last path summed Holds same_old same_last asks holds =
-    subst (λ l. AsksNoOtherNew old path summed l Holds) (sym same_last) (asks_new old new path summed Holds (subst (λ o. AsksNew o path summed new) same_old asks) holds)
-
-pub asks_no_new : (old new : Option (List (List ℕ × Bool))) (path : List ℕ) (summed : Bool) (Holds : Type 0) → new ≡ old → AsksNoOtherNew old path summed new Holds
-asks_no_new None new path summed Holds same = tt
-asks_no_new (Some before) new path summed Holds same = inl same

@@ -6,40 +6,40 @@ module _ {S D : Type 0} (old mid new : World S D) where
   -- the connection to a store is taken back
   pub opened_back : OpensStore old mid → TakesBack mid new → OpensStore old new
   opened_back opened back =
-      subst (OpensStore old) (sym back) (ap (λ (w : World S D). record w { stands = new.stands; left = new.left; wanted = mid.wanted; sums = mid.sums }) opened)
+      subst (OpensStore old) (sym back) (ap (λ (w : World S D). record w { stands = new.stands; left = new.left; wanted = mid.wanted }) opened)
 
   -- the clock is looked at
   pub opened_clock : OpensStore old mid → ChangesClock mid new → ChangesStore old new
   opened_clock opened clock =
       subst (ChangesStore old) (sym clock)
-      (ap (λ (w : World S D). record w { clock = new.clock; stands = mid.stands; left = mid.left; wanted = mid.wanted; sums = mid.sums }) opened)
+      (ap (λ (w : World S D). record w { clock = new.clock; stands = mid.stands; left = mid.left; wanted = mid.wanted }) opened)
 
   pub store_back : ChangesStore old mid → TakesBack mid new → ChangesStore old new
   store_back changes back =
       subst (ChangesStore old) (sym back)
-      (ap (λ (w : World S D). record w { clock = mid.clock; stands = new.stands; left = new.left; wanted = mid.wanted; sums = mid.sums }) changes)
+      (ap (λ (w : World S D). record w { clock = mid.clock; stands = new.stands; left = new.left; wanted = mid.wanted }) changes)
 
   -- a door is lent, after the clock was looked at
   pub clock_doors : ChangesClock old mid → ChangesDoors mid new → ChangesDoors old new
   clock_doors clock doors =
-      subst (ChangesDoors old) (sym doors) (ap (λ (w : World S D). record w { clock = new.clock; doors = new.doors; limits = new.limits }) clock)
+      subst (ChangesDoors old) (sym doors) (ap (λ (w : World S D). record w { clock = new.clock; doors = new.doors; limits = new.limits; wanted = new.wanted }) clock)
 
   -- after a store was opened
   pub opened_doors : OpensStore old mid → ChangesDoors mid new → ChangesStoreAndDoors old new
   opened_doors opened doors =
       subst (ChangesStoreAndDoors old) (sym doors)
-      (ap (λ (w : World S D). record w { clock = new.clock; stands = mid.stands; left = mid.left; wanted = mid.wanted; sums = mid.sums; doors = new.doors; limits = new.limits }) opened)
+      (ap (λ (w : World S D). record w { clock = new.clock; stands = mid.stands; left = mid.left; wanted = new.wanted; doors = new.doors; limits = new.limits }) opened)
 
   pub doors_back : ChangesStoreAndDoors old mid → TakesBack mid new → ChangesStoreAndDoors old new
   doors_back changes back =
       subst (ChangesStoreAndDoors old) (sym back)
-      (ap (λ (w : World S D). record w { clock = mid.clock; stands = new.stands; left = new.left; wanted = mid.wanted; sums = mid.sums; doors = mid.doors; limits = mid.limits }) changes)
+      (ap (λ (w : World S D). record w { clock = mid.clock; stands = new.stands; left = new.left; wanted = mid.wanted; doors = mid.doors; limits = mid.limits }) changes)
 
   -- a new store is opened
   pub new_back : OpensNewStore old mid → TakesBackNew mid new → OpensNewStore old new
   new_back opened back =
       subst (OpensNewStore old) (sym back)
-      (ap (λ (w : World S D). record w { fresh = new.fresh; made = new.made; new_stores = mid.new_stores; wanted = mid.wanted }) opened)
+      (ap (λ (w : World S D). record w { fresh = new.fresh; made = new.made; wanted = mid.wanted }) opened)
 
   -- a file is made after others
   pub more_made : ChangesFolders old mid → ChangesFolders mid new → ChangesFolders old new

@@ -1,6 +1,6 @@
 -- What the command `copy` gives, by the connection that stood for the store and the one that is left of it, and by the two
 -- for the new store, if the machine shows all four.
-use Rattle.std.specs.Prelude.{◌≡◌, ◌⊎◌, ◌∷◌, ℕ, Bool, IfErr, IfSome, List, OnOk, Option, Result, Some, false, true}
+use Rattle.std.specs.Prelude.{◌≡◌, ◌⊎◌, ℕ, Bool, IfErr, List, OnOk, Option, Result, Some, false, true}
 use Rattle.std.specs.Io.KnownBytes.{Appends, Keeps}
 use Rattle.sqlite.specs.Held.{Held, state}
 use Rattle.sqlite.specs.Store.{Ghosts}
@@ -18,14 +18,6 @@ use Rattle.rd_program.specs.Serving.{IsOpenRefusal}
 use Rattle.rd_commands.specs.Output.{AppendsPart}
 use Rattle.rd_commands.specs.declared.refusal.Refusal.{Refusal}
 use Rattle.rd_commands.specs.declared.refusal.Refusal.TheVariants.{Device, Exists, NoMemory, Store}
-
--- a new store was asked for at this path, with sums or without, and no other
-abbrev pub AsksNew : Option (List (List ℕ × Bool)) → List ℕ → Bool → Option (List (List ℕ × Bool)) → Type 0
-AsksNew old path summed new = IfSome old (λ before. new ≡ Some ((path, summed) ∷ before))
-
--- it was, and then this holds; or none was
-abbrev pub AsksNoOtherNew : Option (List (List ℕ × Bool)) → List ℕ → Bool → Option (List (List ℕ × Bool)) → Type 0 → Type 0
-AsksNoOtherNew old path summed new Holds = IfSome old (λ before. (new ≡ Some before) ⊎ ((new ≡ Some ((path, summed) ∷ before)) × Holds))
 
 -- a desk was opened in the store, and is as it was
 abbrev pub OpensDesk : {S : Type 0} → Ghosts S → Held S → Held S → Type 0

@@ -4,7 +4,7 @@
 -- `result` is how it ended: all is done; or a part is, since a row was refused or an image is changed; or it was refused.
 -- `g` is what a connection shows, and `told` and `coming` are what a door shows. A command that is refused ends with the
 -- status of its refusal and writes its line; else the status is 1 where a part is done, and 0 where all is.
-use Rattle.std.specs.Prelude.{◌≡◌, ◌⊎◌, ℕ, ℤ, Bool, IfErr, IfOk, IfSome, IsErr, IsSomeAnd, IsTrue, List, MatchResult, Ok, OnErr, OnOk, Option, Result, Err, false, true}
+use Rattle.std.specs.Prelude.{◌≡◌, ◌⊎◌, ⊤, ℕ, ℤ, Bool, IfErr, IfOk, IfSome, IsErr, IsSomeAnd, IsTrue, List, MatchResult, Ok, OnErr, OnOk, Option, Result, Err, false, true}
 use Rattle.std.specs.Io.KnownBytes.{Appends, Keeps}
 use Rattle.sha2.specs.Sha256.{sha256}
 use Rattle.sqlite.specs.Held.{Held}
@@ -37,8 +37,8 @@ use Rattle.rd_commands.specs.declared.words.WhenAsk.{WhenAsk}
 use Rattle.rd_program.specs.Asked.{IsClockDue}
 use Rattle.rd_program.specs.Asking.{RefusesOneQuestion, TellsCheck}
 use Rattle.rd_program.specs.Completing.{Completes}
-use Rattle.rd_program.specs.Copying.{AsksNoOtherNew, OpensDesk, RunsCopy}
-use Rattle.rd_program.specs.Doors.{AsksPath, AsksSums, AsksThen}
+use Rattle.rd_program.specs.Copying.{OpensDesk, RunsCopy}
+use Rattle.rd_program.specs.Doors.{Asks, AsksThen}
 use Rattle.rd_program.specs.Extracting.{Extracts, OfImage, RefusesExtract}
 use Rattle.rd_program.specs.Importing.{RefusesImport, TellsRows}
 use Rattle.rd_program.specs.Inits.{LeavesInit, MakesDesk, RefusesInit, done_line}
@@ -52,7 +52,7 @@ use Rattle.rd_program.specs.StaffKeys.{LeavesStaffKey, PutsStaff, RefusesStaffKe
 use Rattle.rd_program.specs.Visiting.{LeavesServe, ServesDoor, ServesSome}
 use Rattle.rd_program.specs.declared.import.Way.{Way}
 use Rattle.rd_program.specs.World.{ChangesFolders, ChangesStore, ChangesStoreAndDoors, OpensStore, World}
-use Rattle.rd_program.specs.World.Wanted.{NewAt, StoreAt}
+use Rattle.rd_program.specs.World.Wanted.{DoorAt, NewAt, StoreAt}
 
 -- What a command reads and writes beside the machine: what is to come on standard input, and what standard output has taken
 -- before it and after it, where that is known.
@@ -64,10 +64,10 @@ pub record Io : Type 0 where
 -- ---- by what is asked for
 
 module _ {S D : Type 0} (g : Ghosts S) (before after : World S D) where
-  -- A connection to the store at a path was asked for, and to no other. A machine that shows its connections had one for it
-  -- where the command ends well, and has taken one back.
-  pub record UsesStore {T : Type 0} (path : List ℕ) (result : Result T Refusal) : Type 0 where
-    pub asked : AsksPath before.wanted path after.wanted
+  -- A connection to the store at a path was asked for, and nothing else, and a file is made there only if the command makes
+  -- stores. A machine that shows its connections had one for it where the command ends well, and has taken one back.
+  pub record UsesStore {T : Type 0} (path : List ℕ) (makes has_sums : Bool) (result : Result T Refusal) : Type 0 where
+    pub asked : Asks before.wanted (StoreAt path makes has_sums) after.wanted
     pub there : OnEnded result (HasBoth before.shows (before.stands path) after.left)
 
   -- this is so of the connection that stood for the store at a path and of the one that is left, if the machine shows both
@@ -127,8 +127,7 @@ module _ {S D : Type 0} (g : Ghosts S) (before after : World S D) where
     -- done; or it names why not.
     pub record DoesInit (ask : InitAsk) (result : Result Done Refusal) : Type 0 where
       pub frame : OpensStore before after
-      pub store : UsesStore ask.store.now result
-      pub sums : AsksSums before.sums ask.has_sums after.sums
+      pub store : UsesStore ask.store.now true ask.has_sums result
       pub so : MatchResult result
           (λ done. MakesDesk g (before.stands ask.store.now) after.left (sha256 ask.key.now) × Appends out written done_line)
           (λ refusal. RefusesInit refusal out written × LeavesInit g before.left (before.stands ask.store.now) after.left (sha256 ask.key.now) refusal)
@@ -137,7 +136,7 @@ module _ {S D : Type 0} (g : Ghosts S) (before after : World S D) where
     -- it names why not.
     pub record DoesStaffKey (ask : StaffKeyAsk) (result : Result Done Refusal) : Type 0 where
       pub frame : OpensStore before after
-      pub store : UsesStore ask.store.now result
+      pub store : UsesStore ask.store.now false false result
       pub so : MatchResult result
           (λ done. EndsAt ask.store.now (PutsStaff g (sha256 ask.key.now)) × Appends out written done_line)
           (λ refusal. RefusesStaffKey refusal out written
@@ -146,17 +145,16 @@ module _ {S D : Type 0} (g : Ghosts S) (before after : World S D) where
     -- `copy` makes the desk that stood in a new store, and says that it is done; or it names why not. It asks for no new store
     -- but this one, and only where it opened the desk, which is as it was.
     pub record DoesCopy (ask : CopyAsk) (result : Result Done Refusal) : Type 0 where
-      pub asked : AsksThen before.wanted (StoreAt ask.store.now) (NewAt ask.target.now) after.wanted
+      pub asked : AsksThen before.wanted (StoreAt ask.store.now false false) (NewAt ask.target.now ask.has_sums) after.wanted (EndsAt ask.store.now (OpensDesk g))
       pub there : OnEnded result (HasBoth before.shows (before.stands ask.store.now) after.left)
       pub leaves : LeavesAt ask.store.now (LeavesStore g IsSame)
       pub copies : RunsCopy g before.shows (before.stands ask.store.now) after.left before.made (before.fresh ask.target.now) after.made out written result
-      pub asks_new : AsksNoOtherNew before.new_stores ask.target.now ask.has_sums after.new_stores (EndsAt ask.store.now (OpensDesk g))
 
     -- `export`, `check` and `show` ask the desk that stood one question, at a moment, and write its answer; or they name why
     -- there is none. A check is recorded, and nothing else changes.
     pub record DoesQuestion (ask : OneQuestionAsk) (result : Result Done Refusal) : Type 0 where
       pub frame : ChangesStore before after
-      pub store : UsesStore ask.store.now result
+      pub store : UsesStore ask.store.now false false result
       pub leaves : LeavesAt ask.store.now (LeavesStore g (StepsOf (badge_of ask) (Days ask.when) ask.question))
       pub moment : AsksAt ask.store.now ask.when (is_dated ask.question) result
       pub answers : AnswersOneQuestion g before.clock (before.stands ask.store.now) after.left out written ask result
@@ -169,7 +167,7 @@ module _ {S D : Type 0} (g : Ghosts S) (before after : World S D) where
     -- is as it was; with `--keep-going` it goes on past files that it cannot read. Nothing else changes.
     pub record DoesImport (ask : ImportAsk) (way : Way) (result : Result Done Refusal) : Type 0 where
       pub frame : ChangesStore before after
-      pub store : UsesStore ask.store.now result
+      pub store : UsesStore ask.store.now false false result
       pub leaves : LeavesAt ask.store.now (LeavesStore g (TakesUnlessDry way.dry_run (sha256 ask.key.now) (Days ask.when)))
       pub moment : AsksAt ask.store.now ask.when true result
       pub rows : IfOk result (λ done. EndsAt ask.store.now
@@ -180,11 +178,12 @@ module _ {S D : Type 0} (g : Ghosts S) (before after : World S D) where
       pub bad_sheet : IfErr result (λ refusal. IfSome (before.sheets ask.sheet.now) (λ bytes. IsBadSheetDue bytes refusal))
 
     -- `serve` writes where visits come, takes as many there as its words say, replies to each, and says how many there were; or
-    -- it names why it ends before that, and has replied to each that came. It writes nothing before a door is lent, and nothing
-    -- by a clock that is behind the recorded checks and is not trusted.
+    -- it names why it ends before that, and has replied to each that came. It has no door lent at another place. It writes
+    -- nothing before a door is lent, and nothing by a clock that is behind the recorded checks and is not trusted.
     pub record DoesServe (told : D → Option VisitsSoFar) (coming : D → Option (List Coming)) (ask : ServeAsk) (result : Result Done Refusal) : Type 0 where
       pub frame : ChangesStoreAndDoors before after
-      pub store : UsesStore ask.store.now result
+      pub asked : AsksThen before.wanted (StoreAt ask.store.now false false) (DoorAt (place_of ask.place)) after.wanted ⊤
+      pub there : OnEnded result (HasBoth before.shows (before.stands ask.store.now) after.left)
       pub leaves : LeavesAt ask.store.now (Lasts g)
       pub so : MatchResult result
           (λ done. Appends out written (serve_text (place_of ask.place) ask.count))

@@ -1,31 +1,33 @@
--- The door that a machine lends, and the connections that it is asked for.
-use Rattle.std.specs.Prelude.{◌≡◌, ◌⊎◌, ℕ, Bool, IfSome, IsTrue, List, ◌∷◌, Option, Result, Some}
+-- The door that a machine lends, and what it is asked for.
+use Rattle.std.specs.Prelude.{◌≡◌, ◌⊎◌, ℕ, IfSome, IsTrue, List, ◌∷◌, Option, Result, Some, false}
 use Rattle.std.specs.Borrow.{Fml, LendsSoOk, MutBor, RattleType}
 use Rattle.rd_messages.specs.declared.pace.TimeLimits.{TimeLimits}
 use Rattle.rd_commands.specs.Serving.{Place}
 use Rattle.rd_program.specs.World.{ChangesClock, ChangesDoors, Wanted, World}
-use Rattle.rd_program.specs.World.Wanted.{StoreAt}
+use Rattle.rd_program.specs.World.Wanted.{DoorAt, StoreAt}
 
--- this one was asked for, and no other
+-- this was asked for, and nothing else
 abbrev pub Asks : Option (List Wanted) → Wanted → Option (List Wanted) → Type 0
 Asks old wanted new = IfSome old (λ before. new ≡ Some (wanted ∷ before))
 
--- one to the store in the file at this path was asked for, and no other
+-- a connection to the store in the file at this path was, which makes no file, and nothing else
 abbrev pub AsksPath : Option (List Wanted) → List ℕ → Option (List Wanted) → Type 0
-AsksPath old path new = Asks old (StoreAt path) new
+AsksPath old path new = Asks old (StoreAt path false false) new
 
--- the first of these two was asked for, and then, if at all, the second, and no other
-abbrev pub AsksThen : Option (List Wanted) → Wanted → Wanted → Option (List Wanted) → Type 0
-AsksThen old first second new = IfSome old (λ before. (new ≡ Some (first ∷ before)) ⊎ (new ≡ Some (second ∷ first ∷ before)))
+-- this was asked for, if anything
+abbrev pub MayAsk : Option (List Wanted) → Wanted → Option (List Wanted) → Type 0
+MayAsk old wanted new = IfSome old (λ before. (new ≡ Some before) ⊎ (new ≡ Some (wanted ∷ before)))
 
--- a connection was asked for, with this word on sums for a file that is new
-abbrev pub AsksSums : Option (List Bool) → Bool → Option (List Bool) → Type 0
-AsksSums old summed new = IfSome old (λ before. new ≡ Some (summed ∷ before))
+-- the first of these two was asked for, and then, if at all, the second, and nothing else; and if the second was, this holds
+abbrev pub AsksThen : Option (List Wanted) → Wanted → Wanted → Option (List Wanted) → Type 0 → Type 0
+AsksThen old first second new Holds = IfSome old (λ before. (new ≡ Some (first ∷ before)) ⊎ ((new ≡ Some (second ∷ first ∷ before)) × Holds))
 
--- The machine shows what it showed, but for its clock; at the place, if it showed the door there, the door as its borrower
--- left it; and, if it shows its connections, that visitors may take as long as it was told.
+-- The machine shows what it showed, but for its clock; that a door was asked for at the place, and nothing else; there, if it
+-- showed the door, the door as its borrower left it; and, if it shows its connections, that visitors may take as long as it
+-- was told.
 pub record KeepsDoor {S D : Type 0} (place : Place) (given : TimeLimits) (old new : World S D) (door : D) : Type 0 where
   pub frame : ChangesDoors old new
+  pub asked : Asks old.wanted (DoorAt place) new.wanted
   pub limited : IsTrue old.shows → new.limits ≡ Some given
   pub kept : IfSome (old.doors place) (λ before. new.doors place ≡ Some door)
 

@@ -4,12 +4,14 @@ use Rattle.sqlite.specs.Held.{Held}
 use Rattle.rd_messages.specs.declared.pace.TimeLimits.{TimeLimits}
 use Rattle.rd_commands.specs.Serving.{Place}
 
--- a connection that was asked for: to the store in the file at a path, or to a new store, in a file there that is new
+-- what was asked for: a connection to the store in the file at a path, whether a file is made where none is, and whether one
+-- that is new has sums; one to a new store, in a file there that is new, with sums or without; or a door, which was lent
 pub data Wanted : Type 0 where
-  StoreAt : List ℕ → Wanted
-  NewAt : List ℕ → Wanted
+  StoreAt : List ℕ → Bool → Bool → Wanted
+  NewAt : List ℕ → Bool → Wanted
+  DoorAt : Place → Wanted
 
--- A file that a machine made: in this folder, under this name, with these bytes.
+-- A file that stands, or that a machine made: in this folder, under this name, with these bytes.
 pub record Made : Type 0 where
   pub folder : List ℕ
   pub name : List ℕ
@@ -17,9 +19,8 @@ pub record Made : Type 0 where
 
 -- What a machine shows: whether it shows its connections; the moment that its clock shows next; the bytes that it gives of
 -- each file and of each sheet; the connection that stands for the store at each path, and the one that it took back last;
--- the same for new stores; the connections that it was asked for, for each whether a file that is new was to have sums, and
--- the new stores, each with its sums or without, the latest first; the door at each place, and how long visitors may take
--- at the one that it lent last; and the files that it made, the earliest first.
+-- the same for new stores; what it was asked for, the latest first; the door at each place, and how long visitors may take
+-- at the one that it lent last; and what stood in folders from the first, and then the files that it made, the earliest first.
 pub record World (S D : Type 0) : Type 0 where
   pub shows : Bool
   pub clock : Option ℤ
@@ -30,8 +31,6 @@ pub record World (S D : Type 0) : Type 0 where
   pub fresh : List ℕ → Option (Held S)
   pub made : Option (Held S)
   pub wanted : Option (List Wanted)
-  pub sums : Option (List Bool)
-  pub new_stores : Option (List (List ℕ × Bool))
   pub doors : Place → Option D
   pub limits : Option TimeLimits
   pub written : Option (List Made)
@@ -48,8 +47,6 @@ nothing_shown = record {
   fresh = λ path. None;
   made = None;
   wanted = None;
-  sums = None;
-  new_stores = None;
   doors = λ place. None;
   limits = None;
   written = None;
@@ -71,24 +68,24 @@ TakesBackNew old new = new ≡ record old { fresh = new.fresh; made = new.made }
 
 -- only the stores, the connection that was taken back last, and what was asked for
 abbrev pub OpensStore : {S D : Type 0} → World S D → World S D → Type 0
-OpensStore old new = new ≡ record old { stands = new.stands; left = new.left; wanted = new.wanted; sums = new.sums }
+OpensStore old new = new ≡ record old { stands = new.stands; left = new.left; wanted = new.wanted }
 
 -- these, and the clock
 abbrev pub ChangesStore : {S D : Type 0} → World S D → World S D → Type 0
-ChangesStore old new = new ≡ record old { clock = new.clock; stands = new.stands; left = new.left; wanted = new.wanted; sums = new.sums }
+ChangesStore old new = new ≡ record old { clock = new.clock; stands = new.stands; left = new.left; wanted = new.wanted }
 
--- only the clock, the doors and the limits of their visitors
+-- only the clock, the doors and the limits of their visitors, and what was asked for
 abbrev pub ChangesDoors : {S D : Type 0} → World S D → World S D → Type 0
-ChangesDoors old new = new ≡ record old { clock = new.clock; doors = new.doors; limits = new.limits }
+ChangesDoors old new = new ≡ record old { clock = new.clock; doors = new.doors; limits = new.limits; wanted = new.wanted }
 
 -- these, and what a store changes
 abbrev pub ChangesStoreAndDoors : {S D : Type 0} → World S D → World S D → Type 0
 ChangesStoreAndDoors old new =
-    new ≡ record old { clock = new.clock; stands = new.stands; left = new.left; wanted = new.wanted; sums = new.sums; doors = new.doors; limits = new.limits }
+    new ≡ record old { clock = new.clock; stands = new.stands; left = new.left; wanted = new.wanted; doors = new.doors; limits = new.limits }
 
 -- only the new stores, and what was asked for
 abbrev pub OpensNewStore : {S D : Type 0} → World S D → World S D → Type 0
-OpensNewStore old new = new ≡ record old { fresh = new.fresh; made = new.made; new_stores = new.new_stores; wanted = new.wanted }
+OpensNewStore old new = new ≡ record old { fresh = new.fresh; made = new.made; wanted = new.wanted }
 
 -- only the files that were made
 abbrev pub ChangesFolders : {S D : Type 0} → World S D → World S D → Type 0

@@ -4,7 +4,7 @@ ghost use Rattle.std.specs.Prelude.{◌≡◌, IfErr, IsTrue, OnOk, false};
 ghost use Rattle.rd_store.specs.Copied.{IsCopied};
 ghost use Rattle.rd_commands.specs.RefusalLines.{whole};
 ghost use Rattle.rd_program.specs.Does.{DoesCopy};
-ghost use Rattle.rd_program.specs.Copying.{AsksNew, AsksNoOtherNew, CopiesTo, IfAll, IsCopyRefusal, LeavesCopy, LeavesTarget, MakesCopy, NotCopied, OpensDesk, RefusesCopy};
+ghost use Rattle.rd_program.specs.Copying.{CopiesTo, IfAll, IsCopyRefusal, LeavesCopy, LeavesTarget, MakesCopy, NotCopied, OpensDesk, RefusesCopy};
 ghost use Rattle.rd_program.specs.Doors.{Asks, AsksThen};
 ghost use Rattle.rd_program.specs.Inits.{IsInitRefusal};
 ghost use Rattle.rd_program.specs.Leaves.{GivesBack, HasBoth, IsSame, Leaves, LeavesDesk, LeavesStore, NamesOpening, OnEnded};
@@ -56,8 +56,7 @@ fn copy_to<M: Machine>(
     ensures not_copied { IfErr result (LeavesTarget M.Disk.Store from.old from.new (M.seen machine.old).made ((M.seen machine.old).fresh target.now) (M.seen machine.new).made) }
     ensures refused { IfErr result IsInitRefusal }
     ensures back_new { GivesBack (M.seen machine.old).shows (M.seen machine.old).made (M.seen machine.new).made }
-    ensures asked_new { AsksNew (M.seen machine.old).new_stores target.now has_sums (M.seen machine.new).new_stores }
-    ensures asked { Asks (M.seen machine.old).wanted (NewAt target.now) (M.seen machine.new).wanted }
+    ensures asked { Asks (M.seen machine.old).wanted (NewAt target.now has_sums) (M.seen machine.new).wanted }
     ensures frame { OpensNewStore (M.seen machine.old) (M.seen machine.new) }
 {
     let found = match machine.connect_new(target, has_sums) {
@@ -86,8 +85,8 @@ fn copy_store<M: Machine>(alloc: Global, ask: CopyAsk, machine: &mut M) -> Resul
     ensures back { GivesBack (M.seen machine.old).shows (M.seen machine.old).left (M.seen machine.new).left }
     ensures back_new { GivesBack (M.seen machine.old).shows (M.seen machine.old).made (M.seen machine.new).made }
     ensures there { OnEnded result (HasBoth (M.seen machine.old).shows ((M.seen machine.old).stands ask.entry.store.now) (M.seen machine.new).left) }
-    ensures asked { AsksThen (M.seen machine.old).wanted (StoreAt ask.entry.store.now) (NewAt ask.entry.target.now) (M.seen machine.new).wanted }
-    ensures asked_new { AsksNoOtherNew (M.seen machine.old).new_stores ask.entry.target.now ask.entry.has_sums (M.seen machine.new).new_stores
+    ensures asked { AsksThen (M.seen machine.old).wanted (StoreAt ask.entry.store.now false false)
+        (NewAt ask.entry.target.now ask.entry.has_sums) (M.seen machine.new).wanted
         (EndsWith ((M.seen machine.old).stands ask.entry.store.now) (M.seen machine.new).left (OpensDesk M.Disk.Store)) }
 {
     let mut store = open_store(alloc, ask.store, machine)?;

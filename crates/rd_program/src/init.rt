@@ -1,11 +1,12 @@
-ghost use Rattle.std.specs.Prelude.{◌≡◌, IfErr, IsTrue, OnOk, false};
+ghost use Rattle.std.specs.Prelude.{◌≡◌, IfErr, IsTrue, OnOk, false, true};
 ghost use Rattle.sha2.specs.Sha256.{sha256};
 ghost use Rattle.rd_store.specs.Created.{IsCreated};
 ghost use Rattle.rd_commands.specs.RefusalLines.{whole};
 ghost use Rattle.rd_program.specs.Does.{DoesInit};
-ghost use Rattle.rd_program.specs.Doors.{AsksPath, AsksSums};
+ghost use Rattle.rd_program.specs.Doors.{Asks};
 ghost use Rattle.rd_program.specs.Leaves.{GivesBack, HasBoth, OnEnded};
 ghost use Rattle.rd_program.specs.World.{OpensStore};
+ghost use Rattle.rd_program.specs.World.Wanted.{StoreAt};
 ghost use Rattle.rd_program.specs.Inits.{IsInitRefusal, LeavesInit, MakesDesk, NotMade, RefusesInit};
 
 use crate::faults::not_made;
@@ -41,8 +42,8 @@ fn make_desk<M: Machine>(ask: InitAsk, machine: &mut M) -> Result<(), Refusal>
     ensures refused { IfErr result IsInitRefusal }
     ensures back { GivesBack (M.seen machine.old).shows (M.seen machine.old).left (M.seen machine.new).left }
     ensures there { OnEnded result (HasBoth (M.seen machine.old).shows ((M.seen machine.old).stands ask.entry.store.now) (M.seen machine.new).left) }
-    ensures asked { AsksPath (M.seen machine.old).wanted ask.entry.store.now (M.seen machine.new).wanted }
-    ensures sums { AsksSums (M.seen machine.old).sums ask.entry.has_sums (M.seen machine.new).sums }
+    ensures asked { Asks (M.seen machine.old).wanted (StoreAt ask.entry.store.now true ask.entry.has_sums)
+        (M.seen machine.new).wanted }
     ensures frame { OpensStore (M.seen machine.old) (M.seen machine.new) }
 {
     let conn = match machine.connect(ask.store, true, ask.has_sums) {

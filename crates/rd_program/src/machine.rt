@@ -3,12 +3,11 @@ ghost use Rattle.sqlite.specs.declared.error.Error.TheVariants.{SqliteFailure};
 ghost use Rattle.sqlite.specs.declared.error.ErrorCode.TheVariants as code;
 ghost use Rattle.std.specs.Borrow.{sem};
 ghost use Rattle.rd_commands.specs.Serving.{place_of};
-ghost use Rattle.rd_program.specs.Copying.{AsksNew};
-ghost use Rattle.rd_program.specs.Doors.{Asks, AsksPath, AsksSums, LendsDoor};
+ghost use Rattle.rd_program.specs.Doors.{Asks, LendsDoor};
 ghost use Rattle.rd_program.specs.Extracting.{MakesNext};
 ghost use Rattle.rd_program.specs.Leaves.{LeavesNone};
 ghost use Rattle.rd_program.specs.World.{ChangesClock, ChangesFolders, OpensNewStore, OpensStore, TakesBack, TakesBackNew, World};
-ghost use Rattle.rd_program.specs.World.Wanted.{NewAt};
+ghost use Rattle.rd_program.specs.World.Wanted.{NewAt, StoreAt};
 
 use rd_commands::{Files, MachineFault, Place};
 use rd_http::{Door, TimeLimits};
@@ -80,8 +79,7 @@ pub trait Machine: Files {
         ensures none { IfErr result (λ _. LeavesNone (seen self.old).left (seen self.new).left) }
         ensures kept { IfErr result (λ _. IsTrue (seen self.old).shows → (seen self.new).left ≡ (seen self.old).left) }
         ensures still_stands { IfErr result (λ _. (seen self.new).stands path.now ≡ (seen self.old).stands path.now) }
-        ensures asked { AsksPath (seen self.old).wanted path.now (seen self.new).wanted }
-        ensures sums { AsksSums (seen self.old).sums new_has_sums (seen self.new).sums }
+        ensures asked { Asks (seen self.old).wanted (StoreAt path.now makes new_has_sums) (seen self.new).wanted }
         ensures frame { OpensStore (seen self.old) (seen self.new) };
 
     /// Takes a connection back at the end of a command.
@@ -106,8 +104,7 @@ pub trait Machine: Files {
             IsTrue (seen self.old).shows → (seen self.old).fresh path.now ≡ Some conn)) }
         ensures none { IfOk result (λ found. IfNone found ((seen self.new).made ≡ (seen self.old).made)) }
         ensures kept { IfErr result (λ _. (seen self.new).made ≡ (seen self.old).made) }
-        ensures new_stores { AsksNew (seen self.old).new_stores path.now has_sums (seen self.new).new_stores }
-        ensures asked { Asks (seen self.old).wanted (NewAt path.now) (seen self.new).wanted }
+        ensures asked { Asks (seen self.old).wanted (NewAt path.now has_sums) (seen self.new).wanted }
         ensures frame { OpensNewStore (seen self.old) (seen self.new) };
 
     /// Takes the connection to a new store back.

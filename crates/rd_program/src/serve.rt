@@ -8,7 +8,9 @@ ghost use Rattle.rd_program.specs.Does.{DoesServe};
 ghost use Rattle.rd_program.specs.Asked.{IsStillOrRead};
 ghost use Rattle.rd_program.specs.Leaves.{GivesBack};
 ghost use Rattle.rd_program.specs.OnTime.{IsOnTimeBy};
+ghost use Rattle.rd_program.specs.Doors.{MayAsk};
 ghost use Rattle.rd_program.specs.World.{ChangesDoors};
+ghost use Rattle.rd_program.specs.World.Wanted.{DoorAt};
 ghost use Rattle.rd_program.specs.Visiting.{RunsVisits};
 ghost use Rattle.rd_commands.specs.Output.{AppendsPart};
 ghost use Rattle.rd_commands.specs.Refusals.{IsDeviceOrMemory};
@@ -115,6 +117,7 @@ fn serve_visits<W: Write, M: Machine>(
     ensures unserved { IfErr result (λ _. IsStillOrRead M.Disk.Store desk.old.store desk.new.store) }
     ensures lent { WritesOnceLent (M.seen machine.old).shows (M.seen machine.new).limits (W.contents output.old) (W.contents output.new) }
     ensures frame { ChangesDoors (M.seen machine.old) (M.seen machine.new) }
+    ensures asked { MayAsk (M.seen machine.old).wanted (DoorAt (place_of ask.entry.place)) (M.seen machine.new).wanted }
     ensures limits { IfOk result (λ _. IsTrue (M.seen machine.old).shows → IsSomeAnd (M.seen machine.new).limits (AreLimitsOf ask.entry.timeouts)) }
     ensures visits { IfOk result (λ served. IfSome ((M.seen machine.old).doors (place_of ask.entry.place))
         (λ before. IsSomeAnd ((M.seen machine.new).doors (place_of ask.entry.place)) (λ after.

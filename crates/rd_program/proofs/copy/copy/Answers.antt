@@ -34,7 +34,6 @@ returns-clause-does g c =
             (device_opens r g.M.Disk.Store (before.stands c.args.ask.store.now) after.left c.write_whole.ensures.device));
         back = c.copy_store.ensures.back_new;
       };
-      asks_new = c.copy_store.ensures.asked_new;
     }
 
 pub returns-in_err-copy_store-clause-does : goal.returns-in_err-copy_store-clause-does
@@ -52,5 +51,4 @@ returns-in_err-copy_store-clause-does g c =
         due = (not_copied refusal out c.in_err-copy_store.ensures.refused, c.in_err-copy_store.ensures.not_copied, c.in_err-copy_store.ensures.opens);
         back = c.copy_store.ensures.back_new;
       };
-      asks_new = c.copy_store.ensures.asked_new;
     })

@@ -1,11 +1,11 @@
-use Rattle.std.proofs.Common.{◌∙◌, IsTrue, ap, subst, sym}
+use Rattle.std.proofs.Common.{◌∙◌, IsTrue, ap, false, refl, subst, sym}
 use Rattle.rd_program.specs.Copying.{OpensDesk}
 use Rattle.rd_program.specs.World.Wanted.{NewAt, StoreAt}
 use Rattle.rd_program.specs.Leaves.{IsSame}
 use Rattle.rd_program.specs.Showing.{EndsWith}
-use Rattle.rd_program.proofs.CopyLemmas.{asks_between, asks_no_new, back_between, back_same, copied_from, init_opens_all, init_refused, kept_left, not_copied_from, opened_left, unopened_new}
+use Rattle.rd_program.proofs.CopyLemmas.{back_between, back_same, copied_from, init_opens_all, init_refused, kept_left, not_copied_from, opened_left, unopened_new}
 use Rattle.rd_program.proofs.LeftStores.{gives_back, has_both, on_ended_always, opening_fails, unopened_left}
-use Rattle.rd_program.proofs.Named.{asked_both, asked_first}
+use Rattle.rd_program.proofs.Named.{asked_first, asked_more, asked_one}
 use Rattle.rd_program.proofs.ShowLemmas.{passed_on}
 use Rattle.rd_program.specs.World.{World}
 use Rattle.rd_program.proofs.copy.copy_store.Goals as goal
@@ -28,12 +28,20 @@ returns-clause-there g c =
 
 pub returns-clause-asked : goal.returns-clause-asked
 returns-clause-asked g c =
-    asked_both (g.M.Machine.seen c.args.machine.now).wanted (g.M.Machine.seen c.release.new.self).wanted (StoreAt c.args.ask.store.now) (NewAt c.args.ask.target.now) (g.M.Machine.seen c.open_store.new.machine).wanted
-    (g.M.Machine.seen c.copy_to-copied.new.machine).wanted c.open_store.ensures.asked c.copy_to-copied.ensures.asked (ap (λ (w : World _ _). w.wanted) c.release.ensures.frame)
+    let mid = (g.M.Machine.seen c.open_store.new.machine).wanted in
+    let last = (g.M.Machine.seen c.copy_to-copied.new.machine).wanted in
+    asked_more (g.M.Machine.seen c.args.machine.now).wanted (g.M.Machine.seen c.release.new.self).wanted (StoreAt c.args.ask.store.now false false)
+    (NewAt c.args.ask.target.now c.args.ask.has_sums) (EndsWith ((g.M.Machine.seen c.args.machine.now).stands c.args.ask.store.now) (g.M.Machine.seen c.release.new.self).left (OpensDesk g.M.Disk.Store))
+    mid last c.open_store.ensures.asked (asked_one mid mid last _ refl c.copy_to-copied.ensures.asked) (ap (λ (w : World _ _). w.wanted) c.release.ensures.frame)
+    (opened_left g.M.Disk.Store ((g.M.Machine.seen c.args.machine.now).stands c.args.ask.store.now) (g.M.Machine.seen c.release.new.self).left
+    c.in_ok-store.store c.copy_to-copied.new.from c.into_connection.result c.copy_to-copied.ensures.leaves
+    c.in_ok-store.ensures.opened c.into_connection.ensures.same c.release.ensures.left)
 
 pub returns-in_err-store-clause-asked : goal.returns-in_err-store-clause-asked
 returns-in_err-store-clause-asked g c =
-    asked_first (g.M.Machine.seen c.args.machine.now).wanted (g.M.Machine.seen c.open_store.new.machine).wanted (StoreAt c.args.ask.store.now) (NewAt c.args.ask.target.now) c.open_store.ensures.asked
+    asked_first (g.M.Machine.seen c.args.machine.now).wanted (g.M.Machine.seen c.open_store.new.machine).wanted (StoreAt c.args.ask.store.now false false)
+    (NewAt c.args.ask.target.now c.args.ask.has_sums) (EndsWith ((g.M.Machine.seen c.args.machine.now).stands c.args.ask.store.now) (g.M.Machine.seen c.open_store.new.machine).left (OpensDesk g.M.Disk.Store))
+    c.open_store.ensures.asked
 
 pub returns-in_err-store-clause-leaves : goal.returns-in_err-store-clause-leaves
 returns-in_err-store-clause-leaves g c =
@@ -75,19 +83,5 @@ returns-clause-back_new g c =
     back_between (g.M.Machine.seen c.args.machine.now).shows (g.M.Machine.seen c.open_store.new.machine).shows (g.M.Machine.seen c.args.machine.now).made (g.M.Machine.seen c.open_store.new.machine).made (g.M.Machine.seen c.release.new.self).made
     (g.M.Machine.seen c.copy_to-copied.new.machine).made (ap (λ (w : World _ _). w.shows) c.open_store.ensures.frame) (ap (λ (w : World _ _). w.made) c.open_store.ensures.frame) (ap (λ (w : World _ _). w.made) c.release.ensures.frame) c.copy_to-copied.ensures.back_new
 
-pub returns-clause-asked_new : goal.returns-clause-asked_new
-returns-clause-asked_new g c =
-    asks_between (g.M.Machine.seen c.args.machine.now).new_stores (g.M.Machine.seen c.open_store.new.machine).new_stores (g.M.Machine.seen c.copy_to-copied.new.machine).new_stores (g.M.Machine.seen c.release.new.self).new_stores
-    c.args.ask.target.now c.args.ask.has_sums (EndsWith ((g.M.Machine.seen c.args.machine.now).stands c.args.ask.store.now) (g.M.Machine.seen c.release.new.self).left (OpensDesk g.M.Disk.Store))
-    (ap (λ (w : World _ _). w.new_stores) c.open_store.ensures.frame) (ap (λ (w : World _ _). w.new_stores) c.release.ensures.frame) c.copy_to-copied.ensures.asked_new
-    (opened_left g.M.Disk.Store ((g.M.Machine.seen c.args.machine.now).stands c.args.ask.store.now) (g.M.Machine.seen c.release.new.self).left
-    c.in_ok-store.store c.copy_to-copied.new.from c.into_connection.result c.copy_to-copied.ensures.leaves
-    c.in_ok-store.ensures.opened c.into_connection.ensures.same c.release.ensures.left)
-
 pub returns-in_err-store-clause-back_new : goal.returns-in_err-store-clause-back_new
 returns-in_err-store-clause-back_new g c = back_same (g.M.Machine.seen c.args.machine.now).shows (g.M.Machine.seen c.args.machine.now).made (g.M.Machine.seen c.open_store.new.machine).made (ap (λ (w : World _ _). w.made) c.open_store.ensures.frame)
-
-pub returns-in_err-store-clause-asked_new : goal.returns-in_err-store-clause-asked_new
-returns-in_err-store-clause-asked_new g c =
-    asks_no_new (g.M.Machine.seen c.args.machine.now).new_stores (g.M.Machine.seen c.open_store.new.machine).new_stores c.args.ask.target.now c.args.ask.has_sums
-    (EndsWith ((g.M.Machine.seen c.args.machine.now).stands c.args.ask.store.now) (g.M.Machine.seen c.open_store.new.machine).left (OpensDesk g.M.Disk.Store)) (ap (λ (w : World _ _). w.new_stores) c.open_store.ensures.frame)

@@ -20,7 +20,6 @@ returns-clause-does g c =
     record {
       frame = c.make_desk.ensures.frame;
       store = record { asked = c.make_desk.ensures.asked; there = on_ended_always (whole r) _ c.in_ok-make_desk.ensures.there };
-      sums = c.make_desk.ensures.sums;
       so = at_both r (whole r) _ _ refl (on_both r _ _ (on_ok r _ c.in_ok-make_desk.ensures.made) c.write_whole.ensures.done)
           (at_err_both r _ _ (of_device r (λ refusal. RefusesInit refusal out written) c.write_whole.ensures.device c.write_whole.ensures.cut)
           (of_device r (LeavesInit g.M.Disk.Store before.left (before.stands c.args.ask.store.now) after.left (sha256 c.args.ask.key.now)) c.write_whole.ensures.device
@@ -36,6 +35,5 @@ returns-in_err-make_desk-clause-does g c =
     subst (λ r. DoesInit g.M.Disk.Store before after out out c.args.ask (whole r)) (sym (is_err c.from_residual.result refusal c.from_residual.ensures.1)) (record {
       frame = c.make_desk.ensures.frame;
       store = record { asked = c.make_desk.ensures.asked; there = c.in_err-make_desk.ensures.there };
-      sums = c.make_desk.ensures.sums;
       so = (not_inited refusal out c.in_err-make_desk.ensures.refused, c.in_err-make_desk.ensures.left);
     })
