@@ -202,11 +202,7 @@ no_device (inr (inr (inr (inl is)))) = cc is
 no_device (inr (inr (inr (inr is)))) = cc is
 
 no_exists : IsOpenRefusal Exists → ⊥
-no_exists (inl is) = cc is
-no_exists (inr (inl is)) = cc is
-no_exists (inr (inr (inl is))) = cc is
-no_exists (inr (inr (inr (inl is)))) = cc is
-no_exists (inr (inr (inr (inr is)))) = cc is
+no_exists opening = let three : 1 ≡ 3 = opening_is_3 Exists opening in omega (arith, three)
 
 -- nor where the desk was not opened
 pub unopened_new : {S : Type 0} (g : Ghosts S) (stood left was fresh made : Option (Held S)) (refusal : Refusal) → IsOpenRefusal refusal → made ≡ was

@@ -1,6 +1,6 @@
 -- The files of an image that are made in a folder, one after another.
-use Rattle.std.proofs.Common.{◌≡◌, ◌≢◌, ◌∙◌, ◌++◌, ◌∷◌, [], ◌+◌, ◌<◌, ◌≤◌, ℕ, IfSome, List, None, Option, Some, ap, append-nil, append_assoc, arith, codes, drop, false, get_or, inl, inr, length, map, refl, subst, sym, take, true}
-use Rattle.std.specs.Io.KnownBytes.{Appends}
+use Rattle.std.proofs.Common.{◌≡◌, ◌≢◌, ◌∙◌, ◌⊎◌, ◌++◌, ◌∷◌, [], ◌+◌, ◌<◌, ◌≤◌, ℕ, IfSome, List, None, Option, Some, ap, append-nil, append_assoc, arith, codes, drop, drop-cons, false, get_or, inl, inr, length, map, refl, subst, sym, take, true}
+use Rattle.std.specs.Io.KnownBytes.{Appends, Keeps}
 use Rattle.std.specs.List.{concat, filter}
 use Rattle.std.specs.Prelude.{cond}
 use Rattle.std.proofs.KnownBytes.{Appends-trans, Keeps-refl}
@@ -15,9 +15,11 @@ use Rattle.rd_commands.specs.Output.{AppendsPart}
 use Rattle.rd_commands.specs.Refusals.{IsDeviceOrMemory}
 use Rattle.rd_commands.proofs.WriterLemmas.{part_after, whole_part}
 use Rattle.rd_commands.specs.declared.refusal.Refusal.{Refusal}
-use Rattle.rd_commands.specs.declared.refusal.Refusal.TheVariants.{Device, NoMemory, WrongSize}
-use Rattle.rd_program.specs.Extracting.{AreNew, Extracts, ExtractsPart, FailsOne, IsExtractRefusal, IsNewPlace, MakesAll, MakesFiles, MakesNext, OfImage, RefusesExtract, is_given, line_of, made_of}
+use Rattle.rd_commands.specs.declared.refusal.Refusal.TheVariants.{Device, Exists, NoMemory, WrongSize}
+use Rattle.rd_program.specs.Extracting.{AreNew, Extracts, ExtractsPart, FailsOne, FindsNext, IsFilesRefusal, IsNewPlace, IsTaken, MakesAll, MakesFiles, MakesNext, OfImage, RefusesExtract, is_given, line_of, made_of, refusal_to_write}
 use Rattle.rd_program.specs.World.{Made}
+use Rattle.rd_program.specs.declared.machine.WriteFault.{WriteFault}
+use Rattle.rd_program.specs.declared.machine.WriteFault.TheVariants as write_fault
 
 -- ---- the bytes of the image
 
@@ -153,7 +155,7 @@ part_of_all kind image folder files n old new out after are made lines = record 
 -- the next one failed: it is not made, or its line is not written whole
 pub extracts_part : (kind : Kind) (image folder : List ℕ) (files : List Found) (n : ℕ) (file : Found) (old mid new : Option (List Made)) (out before after : Option (List ℕ))
     → AreFounds kind image files → n < length files → get_or files n file ≡ file → is_given file ≡ true → MakesFiles kind image folder (filter is_given (take n files)) old mid out before
-    → FailsOne (made_of kind image folder file) (line_of kind image folder file) mid new before after → ExtractsPart kind image folder old new out after
+    → ((new ≡ mid) × Keeps before after) ⊎ (MakesNext mid new (made_of kind image folder file) × AppendsPart before after (line_of kind image folder file)) → ExtractsPart kind image folder old new out after
 extracts_part kind image folder files n file old mid new out before after are inside is given makes (inl none) =
     part_of_all kind image folder files n old new out after are
     (subst (λ m. MakesAll old m (map (made_of kind image folder) (filter is_given (take n files)))) (sym none.0) makes.made)
@@ -168,10 +170,10 @@ extracts_part kind image folder files n file old mid new out before after are in
     makes.lines part))
 
 -- what was made of a disk was made of the image that it is
-pub part_of_image : (kind of_disk : Kind) (image disk folder : List ℕ) (old new : Option (List Made)) (out after : Option (List ℕ)) → of_disk ≡ kind → disk ≡ image
-    → ExtractsPart of_disk disk folder old new out after → ExtractsPart kind image folder old new out after
-part_of_image kind of_disk image disk folder old new out after same_kind same part =
-    subst (λ k. ExtractsPart k image folder old new out after) same_kind (subst (λ i. ExtractsPart of_disk i folder old new out after) same part)
+pub part_of_image : (kind of_disk : Kind) (image disk folder : List ℕ) (old new : Option (List Made)) (out after : Option (List ℕ)) (refusal : Refusal) → of_disk ≡ kind → disk ≡ image
+    → RefusesExtract of_disk disk folder old new out after refusal → RefusesExtract kind image folder old new out after refusal
+part_of_image kind of_disk image disk folder old new out after refusal same_kind same part =
+    subst (λ k. RefusesExtract k image folder old new out after refusal) same_kind (subst (λ i. RefusesExtract of_disk i folder old new out after refusal) same part)
 
 pub all_of_image : (kind of_disk : Kind) (image disk folder : List ℕ) (old new : Option (List Made)) (out after : Option (List ℕ)) → of_disk ≡ kind → disk ≡ image
     → Extracts of_disk disk folder old new out after → Extracts kind image folder old new out after
@@ -180,12 +182,41 @@ all_of_image kind of_disk image disk folder old new out after same_kind same all
 
 -- ---- refusals
 
+-- the next of the files that are given
+given_next : (files : List Found) (n : ℕ) (file : Found) → n < length files → get_or files n file ≡ file → is_given file ≡ true
+    → filter is_given (drop n files) ≡ file ∷ filter is_given (drop (suc n) files)
+given_next files n file inside is given =
+    ap (filter is_given) (drop-cons files n file inside)
+    ∙ ap (λ f. filter is_given (f ∷ drop (suc n) files)) is
+    ∙ ap (λ b. cond b (file ∷ filter is_given (drop (suc n) files)) (filter is_given (drop (suc n) files))) given
+
 -- one of a file
-pub refuses_part : (kind : Kind) (image folder : List ℕ) (old new : Option (List Made)) (out after : Option (List ℕ)) (refusal : Refusal) → IsExtractRefusal refusal
-    → ExtractsPart kind image folder old new out after → RefusesExtract kind image folder old new out after refusal
-refuses_part kind image folder old new out after refusal (inl exists) part = subst (RefusesExtract kind image folder old new out after) (sym exists) part
-refuses_part kind image folder old new out after refusal (inr (inl device)) part = subst (RefusesExtract kind image folder old new out after) (sym device) (inr part)
-refuses_part kind image folder old new out after refusal (inr (inr memory)) part = subst (RefusesExtract kind image folder old new out after) (sym memory) (inr part)
+pub refuses_at : (kind : Kind) (image folder : List ℕ) (files : List Found) (n : ℕ) (file : Found) (old mid new : Option (List Made)) (out before after : Option (List ℕ)) (refusal : Refusal)
+    → AreFounds kind image files → n < length files → get_or files n file ≡ file → is_given file ≡ true → MakesFiles kind image folder (filter is_given (take n files)) old mid out before
+    → FailsOne (made_of kind image folder file) (line_of kind image folder file) mid new before after refusal → RefusesExtract kind image folder old new out after refusal
+refuses_at kind image folder files n file old mid new out before after refusal are inside is given makes (inl (exists, same, kept, there)) =
+    subst (RefusesExtract kind image folder old new out after) (sym exists) (
+      part_of_all kind image folder files n old new out after are
+          (subst (λ m. MakesAll old m (map (made_of kind image folder) (filter is_given (take n files)))) (sym same) makes.made)
+          (whole_part out before after _ makes.lines kept),
+      subst (FindsNext new folder) (sym (given_next files n file inside is given)) there,
+    )
+refuses_at kind image folder files n file old mid new out before after refusal are inside is given makes (inr (inl device, stops)) =
+    subst (RefusesExtract kind image folder old new out after) (sym device) (inr (extracts_part kind image folder files n file old mid new out before after are inside is given makes stops))
+refuses_at kind image folder files n file old mid new out before after refusal are inside is given makes (inr (inr memory, stops)) =
+    subst (RefusesExtract kind image folder old new out after) (sym memory) (inr (extracts_part kind image folder files n file old mid new out before after are inside is given makes stops))
+
+-- why a file is not made
+pub not_made : (fault : WriteFault) (refusal : Refusal) (made : Made) (line : List ℕ) (old new : Option (List Made)) (out : Option (List ℕ)) → refusal ≡ refusal_to_write fault → new ≡ old
+    → (fault ≡ write_fault.Exists → IsTaken new made.folder made.name) → FailsOne made line old new out out refusal
+not_made write_fault.Exists refusal made line old new out is same taken = inl (is, same, Keeps-refl out, taken refl)
+not_made write_fault.Failed refusal made line old new out is same taken = inr (inl is, inl (same, Keeps-refl out))
+not_made write_fault.NoMemory refusal made line old new out is same taken = inr (inr is, inl (same, Keeps-refl out))
+
+pub fails_named : (made : Made) (line : List ℕ) (old new : Option (List Made)) (out after : Option (List ℕ)) (refusal : Refusal) → FailsOne made line old new out after refusal
+    → IsFilesRefusal refusal
+fails_named made line old new out after refusal (inl exists) = inr (inl exists.0)
+fails_named made line old new out after refusal (inr (failed, stops)) = inr (inr failed)
 
 -- one before the first file
 pub refuses_early : (files : List ℕ → Option (List ℕ)) (input : Option (List ℕ)) (path folder : List ℕ) (kind : Kind) (made : Option (List Made)) (out : Option (List ℕ)) (refusal : Refusal)

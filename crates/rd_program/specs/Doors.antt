@@ -14,13 +14,13 @@ Asks old wanted new = IfSome old (λ before. new ≡ Some (wanted ∷ before))
 abbrev pub AsksPath : Option (List Wanted) → List ℕ → Option (List Wanted) → Type 0
 AsksPath old path new = Asks old (StoreAt path false false) new
 
--- this was asked for, if anything
-abbrev pub MayAsk : Option (List Wanted) → Wanted → Option (List Wanted) → Type 0
-MayAsk old wanted new = IfSome old (λ before. (new ≡ Some before) ⊎ (new ≡ Some (wanted ∷ before)))
+-- nothing was asked for, or this, and then something holds
+abbrev pub MayAsk : Option (List Wanted) → Wanted → Option (List Wanted) → Type 0 → Type 0
+MayAsk old wanted new Holds = IfSome old (λ before. (new ≡ Some before) ⊎ ((new ≡ Some (wanted ∷ before)) × Holds))
 
--- the first of these two was asked for, and then, if at all, the second, and nothing else; and if the second was, this holds
+-- the first of these two was asked for, and then nothing, or the second, and then something holds
 abbrev pub AsksThen : Option (List Wanted) → Wanted → Wanted → Option (List Wanted) → Type 0 → Type 0
-AsksThen old first second new Holds = IfSome old (λ before. (new ≡ Some (first ∷ before)) ⊎ ((new ≡ Some (second ∷ first ∷ before)) × Holds))
+AsksThen old first second new Holds = IfSome old (λ before. MayAsk (Some (first ∷ before)) second new Holds)
 
 -- The machine shows what it showed, but for its clock; that a door was asked for at the place, and nothing else; there, if it
 -- showed the door, the door as its borrower left it; and, if it shows its connections, that visitors may take as long as it

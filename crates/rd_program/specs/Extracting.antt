@@ -21,6 +21,10 @@ use Rattle.rd_program.specs.declared.machine.WriteFault.TheVariants as write_fau
 abbrev pub IsNewPlace : List Made → List ℕ → List ℕ → Type 0
 IsNewPlace before folder name = All (λ made. made.folder ≡ folder → made.name ≡ name → ⊥) before
 
+-- something stands in this folder under this name, as far as that is shown
+abbrev pub IsTaken : Option (List Made) → List ℕ → List ℕ → Type 0
+IsTaken shown folder name = IfSome shown (λ there. ¬ IsNewPlace there folder name)
+
 -- each of these is where none of those before it is
 abbrev pub AreNew : List Made → List Made → Type 0
 AreNew before [] = ⊤
@@ -86,25 +90,30 @@ pub record OfImage (files : List ℕ → Option (List ℕ)) (input : Option (Lis
   pub on_input : path ≡ codes "-" → IfSome input P
   pub in_file : path ≢ codes "-" → IfSome (files path) P
 
--- why the command fails: the image has another size, and nothing was made; or a front part was made
+-- something stands where the next of these files is to be
+abbrev pub FindsNext : Option (List Made) → List ℕ → List Found → Type 0
+FindsNext shown folder [] = ⊥
+FindsNext shown folder (file ∷ more) = IsTaken shown folder (file_name file.slot file.name)
+
+-- why the command fails: the image has another size, and nothing was made; or a front part was made, and something stands
+-- where the next one is to be, or the device failed, or memory ran out
 abbrev pub RefusesExtract : Kind → List ℕ → List ℕ → Option (List Made) → Option (List Made) → Option (List ℕ) → Option (List ℕ) → Refusal → Type 0
 RefusesExtract kind image folder old new out written WrongSize = (length image ≢ size_of kind) × (new ≡ old) × Keeps out written
-RefusesExtract kind image folder old new out written Exists = ExtractsPart kind image folder old new out written
+RefusesExtract kind image folder old new out written Exists =
+    (part : ExtractsPart kind image folder old new out written) × FindsNext new folder part.rest
 RefusesExtract kind image folder old new out written Device = (new ≡ old) × Keeps out written ⊎ ExtractsPart kind image folder old new out written
 RefusesExtract kind image folder old new out written NoMemory = (new ≡ old) × Keeps out written ⊎ ExtractsPart kind image folder old new out written
 RefusesExtract kind image folder old new out written other = ⊥
 
 -- ---- inside
 
--- Why one file was not made, or its line not written: nothing was made or written; or it was made, and a front part of its line
--- was written.
-abbrev pub FailsOne : Made → List ℕ → Option (List Made) → Option (List Made) → Option (List ℕ) → Option (List ℕ) → Type 0
-FailsOne made line old new out written = ((new ≡ old) × Keeps out written) ⊎ (MakesNext old new made × AppendsPart out written line)
+-- Why one file was not made, or its line not written: something stands in its place, and nothing was made or written; or the
+-- device failed, or memory ran out, and so it was, or the file was made, and a front part of its line was written.
+abbrev pub FailsOne : Made → List ℕ → Option (List Made) → Option (List Made) → Option (List ℕ) → Option (List ℕ) → Refusal → Type 0
+FailsOne made line old new out written refusal =
+    ((refusal ≡ Exists) × ((new ≡ old) × Keeps out written × IsTaken new made.folder made.name))
+    ⊎ (((refusal ≡ Device) ⊎ (refusal ≡ NoMemory)) × (((new ≡ old) × Keeps out written) ⊎ (MakesNext old new made × AppendsPart out written line)))
 
--- why the file of a folder is refused
-abbrev pub IsExtractRefusal : Refusal → Type 0
-IsExtractRefusal refusal = (refusal ≡ Exists) ⊎ ((refusal ≡ Device) ⊎ (refusal ≡ NoMemory))
-
--- why the command is: the image has another size, or one of these
+-- why the command is refused
 abbrev pub IsFilesRefusal : Refusal → Type 0
-IsFilesRefusal refusal = (refusal ≡ WrongSize) ⊎ IsExtractRefusal refusal
+IsFilesRefusal refusal = (refusal ≡ WrongSize) ⊎ ((refusal ≡ Exists) ⊎ ((refusal ≡ Device) ⊎ (refusal ≡ NoMemory)))

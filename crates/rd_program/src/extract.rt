@@ -1,6 +1,6 @@
 //! Writes the sound files of an image into a folder.
 
-ghost use Rattle.std.specs.Prelude.{◌≡◌, ◌+◌, IfErr, IfOk, IsTrue, OnErr, OnOk, string_bytes, true};
+ghost use Rattle.std.specs.Prelude.{◌≡◌, ◌+◌, IfErr, IfOk, IsTrue, OnOk, string_bytes, true};
 ghost use Rattle.std.specs.Io.KnownBytes.{Appends};
 ghost use Rattle.rd_geometry.specs.Images.{bytes_of, kind_of};
 ghost use Rattle.rd_geometry.specs.Kinds.{size_of};
@@ -11,7 +11,7 @@ ghost use Rattle.rd_volume.specs.Founds.{Fits};
 ghost use Rattle.rd_volume.specs.Volumes.{contents_of};
 ghost use Rattle.rd_program.specs.World.{ChangesFolders};
 ghost use Rattle.rd_program.specs.Extracting as spec;
-ghost use Rattle.rd_program.specs.Extracting.{Extracts, FailsOne, IsExtractRefusal, IsFilesRefusal, MakesNext, OfImage, RefusesExtract, made_of, refusal_to_write};
+ghost use Rattle.rd_program.specs.Extracting.{Extracts, FailsOne, IsFilesRefusal, MakesNext, OfImage, RefusesExtract, made_of, refusal_to_write};
 
 use crate::machine::{Machine, WriteFault};
 use rd_commands::{ExtractAsk, Refusal, read_image, write_whole};
@@ -76,10 +76,9 @@ fn extract_one<W: Write, M: Machine>(
     requires fits { Fits (kind_of image.now) file.now }
     ensures made { OnOk result (MakesNext (M.seen machine.old).written (M.seen machine.new).written (made_of (kind_of image.now) (bytes_of image.now) folder.now file.now)) }
     ensures line { OnOk result (Appends (W.contents output.old) (W.contents output.new) (spec.line_of (kind_of image.now) (bytes_of image.now) folder.now file.now)) }
-    ensures failed { OnErr result (FailsOne (made_of (kind_of image.now) (bytes_of image.now) folder.now file.now) (spec.line_of (kind_of image.now) (bytes_of image.now) folder.now file.now)
+    ensures failed { IfErr result (FailsOne (made_of (kind_of image.now) (bytes_of image.now) folder.now file.now) (spec.line_of (kind_of image.now) (bytes_of image.now) folder.now file.now)
         (M.seen machine.old).written (M.seen machine.new).written (W.contents output.old) (W.contents output.new)) }
     ensures flushed { OnOk result (IsTrue (M.flushed (W.contents output.new))) }
-    ensures refused { IfErr result IsExtractRefusal }
     ensures frame { ChangesFolders (M.seen machine.old) (M.seen machine.new) }
 {
     let name = file_name(alloc, file.slot, file.name.as_str().as_bytes())?;

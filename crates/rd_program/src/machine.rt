@@ -4,7 +4,7 @@ ghost use Rattle.sqlite.specs.declared.error.ErrorCode.TheVariants as code;
 ghost use Rattle.std.specs.Borrow.{sem};
 ghost use Rattle.rd_commands.specs.Serving.{place_of};
 ghost use Rattle.rd_program.specs.Doors.{Asks, LendsDoor};
-ghost use Rattle.rd_program.specs.Extracting.{MakesNext};
+ghost use Rattle.rd_program.specs.Extracting.{IsTaken, MakesNext};
 ghost use Rattle.rd_program.specs.Leaves.{LeavesNone};
 ghost use Rattle.rd_program.specs.World.{ChangesClock, ChangesFolders, OpensNewStore, OpensStore, TakesBack, TakesBackNew, World};
 ghost use Rattle.rd_program.specs.World.Wanted.{NewAt, StoreAt};
@@ -128,6 +128,7 @@ pub trait Machine: Files {
             (record { folder = folder.now; name = name.now; bytes = bytes.now })) }
         ensures none { OnErr result ((seen self.new).written ≡ (seen self.old).written) }
         ensures over_nothing { result ≡ Err WriteFault.Exists → self.new ≡ self.old }
+        ensures taken { result ≡ Err WriteFault.Exists → IsTaken (seen self.new).written folder.now name.now }
         ensures frame { ChangesFolders (seen self.old) (seen self.new) };
 
     /// The seconds since 1970-01-01T00:00:00 UTC.

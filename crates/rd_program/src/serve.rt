@@ -1,4 +1,4 @@
-ghost use Rattle.std.specs.Prelude.{◌≡◌, ◌⊎◌, IfErr, IfOk, IfSome, IsSomeAnd, IsTrue, OnErr, OnOk, false};
+ghost use Rattle.std.specs.Prelude.{◌≡◌, ◌⊎◌, ⊤, IfErr, IfOk, IfSome, IsSomeAnd, IsTrue, OnErr, OnOk, false};
 ghost use Rattle.std.specs.Io.KnownBytes.{Appends, Keeps};
 ghost use Rattle.std.specs.String.{string_bytes};
 ghost use Rattle.rd_store.specs.Held.{Lasts};
@@ -117,7 +117,7 @@ fn serve_visits<W: Write, M: Machine>(
     ensures unserved { IfErr result (λ _. IsStillOrRead M.Disk.Store desk.old.store desk.new.store) }
     ensures lent { WritesOnceLent (M.seen machine.old).shows (M.seen machine.new).limits (W.contents output.old) (W.contents output.new) }
     ensures frame { ChangesDoors (M.seen machine.old) (M.seen machine.new) }
-    ensures asked { MayAsk (M.seen machine.old).wanted (DoorAt (place_of ask.entry.place)) (M.seen machine.new).wanted }
+    ensures asked { MayAsk (M.seen machine.old).wanted (DoorAt (place_of ask.entry.place)) (M.seen machine.new).wanted ⊤ }
     ensures limits { IfOk result (λ _. IsTrue (M.seen machine.old).shows → IsSomeAnd (M.seen machine.new).limits (AreLimitsOf ask.entry.timeouts)) }
     ensures visits { IfOk result (λ served. IfSome ((M.seen machine.old).doors (place_of ask.entry.place))
         (λ before. IsSomeAnd ((M.seen machine.new).doors (place_of ask.entry.place)) (λ after.

@@ -5,7 +5,7 @@ use Rattle.rd_program.specs.Leaves.{IsSame}
 use Rattle.rd_program.specs.Showing.{EndsWith}
 use Rattle.rd_program.proofs.CopyLemmas.{back_between, back_same, copied_from, init_opens_all, init_refused, kept_left, not_copied_from, opened_left, unopened_new}
 use Rattle.rd_program.proofs.LeftStores.{gives_back, has_both, on_ended_always, opening_fails, unopened_left}
-use Rattle.rd_program.proofs.Named.{asked_first, asked_more, asked_one}
+use Rattle.rd_program.proofs.Named.{asked_more, asked_none, asked_one}
 use Rattle.rd_program.proofs.ShowLemmas.{passed_on}
 use Rattle.rd_program.specs.World.{World}
 use Rattle.rd_program.proofs.copy.copy_store.Goals as goal
@@ -30,18 +30,18 @@ pub returns-clause-asked : goal.returns-clause-asked
 returns-clause-asked g c =
     let mid = (g.M.Machine.seen c.open_store.new.machine).wanted in
     let last = (g.M.Machine.seen c.copy_to-copied.new.machine).wanted in
-    asked_more (g.M.Machine.seen c.args.machine.now).wanted (g.M.Machine.seen c.release.new.self).wanted (StoreAt c.args.ask.store.now false false)
-    (NewAt c.args.ask.target.now c.args.ask.has_sums) (EndsWith ((g.M.Machine.seen c.args.machine.now).stands c.args.ask.store.now) (g.M.Machine.seen c.release.new.self).left (OpensDesk g.M.Disk.Store))
-    mid last c.open_store.ensures.asked (asked_one mid mid last _ refl c.copy_to-copied.ensures.asked) (ap (λ (w : World _ _). w.wanted) c.release.ensures.frame)
+    asked_more (g.M.Machine.seen c.args.machine.now).wanted mid last (g.M.Machine.seen c.release.new.self).wanted (StoreAt c.args.ask.store.now false false) (NewAt c.args.ask.target.now c.args.ask.has_sums)
+    (EndsWith ((g.M.Machine.seen c.args.machine.now).stands c.args.ask.store.now) (g.M.Machine.seen c.release.new.self).left (OpensDesk g.M.Disk.Store)) c.open_store.ensures.asked
+    (asked_one mid mid last _ _ refl c.copy_to-copied.ensures.asked
     (opened_left g.M.Disk.Store ((g.M.Machine.seen c.args.machine.now).stands c.args.ask.store.now) (g.M.Machine.seen c.release.new.self).left
     c.in_ok-store.store c.copy_to-copied.new.from c.into_connection.result c.copy_to-copied.ensures.leaves
-    c.in_ok-store.ensures.opened c.into_connection.ensures.same c.release.ensures.left)
+    c.in_ok-store.ensures.opened c.into_connection.ensures.same c.release.ensures.left)) (ap (λ (w : World _ _). w.wanted) c.release.ensures.frame)
 
 pub returns-in_err-store-clause-asked : goal.returns-in_err-store-clause-asked
 returns-in_err-store-clause-asked g c =
-    asked_first (g.M.Machine.seen c.args.machine.now).wanted (g.M.Machine.seen c.open_store.new.machine).wanted (StoreAt c.args.ask.store.now false false)
-    (NewAt c.args.ask.target.now c.args.ask.has_sums) (EndsWith ((g.M.Machine.seen c.args.machine.now).stands c.args.ask.store.now) (g.M.Machine.seen c.open_store.new.machine).left (OpensDesk g.M.Disk.Store))
-    c.open_store.ensures.asked
+    let mid = (g.M.Machine.seen c.open_store.new.machine).wanted in
+    asked_more (g.M.Machine.seen c.args.machine.now).wanted mid mid mid (StoreAt c.args.ask.store.now false false) (NewAt c.args.ask.target.now c.args.ask.has_sums) _ c.open_store.ensures.asked
+    (asked_none mid mid _ _ refl) refl
 
 pub returns-in_err-store-clause-leaves : goal.returns-in_err-store-clause-leaves
 returns-in_err-store-clause-leaves g c =

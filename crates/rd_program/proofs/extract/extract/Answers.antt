@@ -5,7 +5,7 @@ use Rattle.rd_volume.specs.Volumes.{AreFounds}
 use Rattle.rd_commands.specs.declared.refusal.Refusal.TheVariants.{NoMemory, WrongSize}
 use Rattle.rd_program.specs.Extracting.{OfImage, RefusesExtract}
 use Rattle.rd_program.proofs.FileLemmas.{shown_as}
-use Rattle.rd_program.proofs.FolderLemmas.{all_of_image, extracts_all, extracts_part, makes_more, makes_same, of_sized, part_of_image, refuses_early, refuses_part, size_refused}
+use Rattle.rd_program.proofs.FolderLemmas.{all_of_image, extracts_all, fails_named, makes_more, makes_same, of_sized, part_of_image, refuses_at, refuses_early, size_refused}
 use Rattle.rd_program.proofs.ShowLemmas.{passed_on}
 use Rattle.rd_program.proofs.extract.extract.Goals.{then-is_given+in_ok-extract_one, else-is_given}
 use Rattle.std.specs.Prelude.{IsSome}
@@ -63,14 +63,17 @@ returns-in_err-extract_one-clause-refused g c =
     let files = c.as_slice-file-items.result.now in
     let inside : at.file-index < length files = omega arith in
     let are : AreFounds (kind_of c.in_ok-image.image) (bytes_of c.in_ok-image.image) files = subst (AreFounds _ _) (sym c.as_slice-file-items.ensures) c.in_ok-files.ensures.files in
-    let part = extracts_part (kind_of c.in_ok-image.image) (bytes_of c.in_ok-image.image) c.args.ask.folder.now files at.file-index c.file-item.result _ _ _ _ _ _ are inside (sym c.file-item.is)
-    (sym c.is_given.ensures ∙ c.if-is_given.true) at.invariant.makes c.in_err-extract_one.ensures.failed in
+    let refused = refuses_at (kind_of c.in_ok-image.image) (bytes_of c.in_ok-image.image) c.args.ask.folder.now files at.file-index c.file-item.result _ _ _ _ _ _ c.in_err-extract_one.field-0.0
+    are inside (sym c.file-item.is) (sym c.is_given.ensures ∙ c.if-is_given.true) at.invariant.makes c.in_err-extract_one.ensures.failed in
     passed_on c.from_residual-in_err-extract_one.result c.in_err-extract_one.field-0.0 _ c.from_residual-in_err-extract_one.ensures.1
     (of_sized _ _ _ c.in_ok-bytes.bytes.items (size_of c.args.ask.image.kind) _ c.in_ok-bytes.ensures.front (λ other. shown_as _ _ c.args.ask.image.image.now (λ file. c.in_ok-bytes.bytes.items ≡ file) (g.met.M.Machine.gives c.args.machine.now).0 (c.in_ok-bytes.ensures.of_file other))
     (ap length (sym c.as_slice.ensures.value) ∙ c.in_ok-image.ensures.taken.0 (refl {a = true}))
-    (refuses_part c.args.ask.image.kind c.in_ok-bytes.bytes.items c.args.ask.folder.now _ _ _ _ c.in_err-extract_one.field-0.0 c.in_err-extract_one.ensures.refused
-    (part_of_image c.args.ask.image.kind _ c.in_ok-bytes.bytes.items _ c.args.ask.folder.now _ _ _ _ c.in_ok-image.ensures.kind
-    (c.in_ok-image.ensures.bytes ∙ c.as_slice.ensures.value) part)))
+    (part_of_image c.args.ask.image.kind _ c.in_ok-bytes.bytes.items _ c.args.ask.folder.now _ _ _ _ c.in_err-extract_one.field-0.0 c.in_ok-image.ensures.kind
+    (c.in_ok-image.ensures.bytes ∙ c.as_slice.ensures.value) refused))
+
+pub returns-in_err-extract_one-clause-named : goal.returns-in_err-extract_one-clause-named
+returns-in_err-extract_one-clause-named g c =
+    passed_on c.from_residual-in_err-extract_one.result c.in_err-extract_one.field-0.0 _ c.from_residual-in_err-extract_one.ensures.1 (fails_named _ _ _ _ _ _ c.in_err-extract_one.field-0.0 c.in_err-extract_one.ensures.failed)
 
 pub returns-clause-extracted : goal.returns-clause-extracted
 returns-clause-extracted g c =

@@ -1,7 +1,7 @@
 use Rattle.std.proofs.Common.{◌≡◌, ◌∙◌, Err, IsTrue, ap, false, inl, inr, refl, rules, subst, sym}
 use Rattle.std.proofs.KnownBytes.{Keeps-refl}
 use Rattle.rd_commands.specs.Serving.{place_of}
-use Rattle.rd_program.proofs.Named.{asked_first, asked_more}
+use Rattle.rd_program.proofs.Named.{asked_more, asked_none}
 use Rattle.rd_program.proofs.LeftStores.{gives_back, has_both, on_ended_always, opening_fails, still_same, unopened_with}
 use Rattle.rd_program.proofs.ImportLemmas.{ok_whole}
 use Rattle.rd_program.proofs.InitLemmas.{at_err_both}
@@ -50,8 +50,8 @@ pub returns-clause-does : goal.returns-clause-does
 returns-clause-does g c = record {
   frame = doors_back (g.M.Machine.seen c.args.machine.now) (g.M.Machine.seen c.serve_visits-served.new.machine) (g.M.Machine.seen c.release.new.self)
       (opened_doors (g.M.Machine.seen c.args.machine.now) (g.M.Machine.seen c.open_desk.new.machine) (g.M.Machine.seen c.serve_visits-served.new.machine) c.open_desk.ensures.frame c.serve_visits-served.ensures.frame) c.release.ensures.frame;
-  asked = asked_more (g.M.Machine.seen c.args.machine.now).wanted (g.M.Machine.seen c.release.new.self).wanted (StoreAt c.args.ask.store.now false false) (DoorAt (place_of c.args.ask.place)) ⊤
-      (g.M.Machine.seen c.open_desk.new.machine).wanted (g.M.Machine.seen c.serve_visits-served.new.machine).wanted c.open_desk.ensures.asked c.serve_visits-served.ensures.asked (ap (λ (w : World _ _). w.wanted) c.release.ensures.frame) tt;
+  asked = asked_more (g.M.Machine.seen c.args.machine.now).wanted (g.M.Machine.seen c.open_desk.new.machine).wanted (g.M.Machine.seen c.serve_visits-served.new.machine).wanted (g.M.Machine.seen c.release.new.self).wanted
+      (StoreAt c.args.ask.store.now false false) (DoorAt (place_of c.args.ask.place)) ⊤ c.open_desk.ensures.asked c.serve_visits-served.ensures.asked (ap (λ (w : World _ _). w.wanted) c.release.ensures.frame);
   there = on_ended_always (whole c.tell_ended.result) _ (has_both (g.M.Machine.seen c.args.machine.now).shows ((g.M.Machine.seen c.args.machine.now).stands c.args.ask.store.now) (g.M.Machine.seen c.release.new.self).left _ c.in_ok-desk.ensures.there (λ shows. c.release.ensures.back (subst (λ b. IsTrue b) (sym ((ap (λ (w : World _ _). w.shows) c.serve_visits-served.ensures.frame) ∙ (ap (λ (w : World _ _). w.shows) c.open_desk.ensures.frame))) shows)));
   leaves = lasts_left g.M.Disk.Store (g.M.Machine.seen c.args.machine.now).left ((g.M.Machine.seen c.args.machine.now).stands c.args.ask.store.now) (g.M.Machine.seen c.release.new.self).left
       c.in_ok-desk.desk.store c.serve_visits-served.new.desk.store c.into_connection.result c.in_ok-desk.ensures.opened c.in_ok-served.ensures.lasts
@@ -98,8 +98,8 @@ returns-in_err-served-clause-does g c =
     g.M.Door.Door.told g.M.Door.Door.coming c.args.ask (whole r)) (sym (is_err c.from_residual-in_err-served.result refusal c.from_residual-in_err-served.ensures.1)) (record {
       frame = doors_back (g.M.Machine.seen c.args.machine.now) (g.M.Machine.seen c.serve_visits-served.new.machine) (g.M.Machine.seen c.release.new.self)
           (opened_doors (g.M.Machine.seen c.args.machine.now) (g.M.Machine.seen c.open_desk.new.machine) (g.M.Machine.seen c.serve_visits-served.new.machine) c.open_desk.ensures.frame c.serve_visits-served.ensures.frame) c.release.ensures.frame;
-      asked = asked_more (g.M.Machine.seen c.args.machine.now).wanted (g.M.Machine.seen c.release.new.self).wanted (StoreAt c.args.ask.store.now false false) (DoorAt (place_of c.args.ask.place)) ⊤
-          (g.M.Machine.seen c.open_desk.new.machine).wanted (g.M.Machine.seen c.serve_visits-served.new.machine).wanted c.open_desk.ensures.asked c.serve_visits-served.ensures.asked (ap (λ (w : World _ _). w.wanted) c.release.ensures.frame) tt;
+      asked = asked_more (g.M.Machine.seen c.args.machine.now).wanted (g.M.Machine.seen c.open_desk.new.machine).wanted (g.M.Machine.seen c.serve_visits-served.new.machine).wanted (g.M.Machine.seen c.release.new.self).wanted
+          (StoreAt c.args.ask.store.now false false) (DoorAt (place_of c.args.ask.place)) ⊤ c.open_desk.ensures.asked c.serve_visits-served.ensures.asked (ap (λ (w : World _ _). w.wanted) c.release.ensures.frame);
       there = on_ended_always {T = Done} (Err refusal) _ (has_both (g.M.Machine.seen c.args.machine.now).shows ((g.M.Machine.seen c.args.machine.now).stands c.args.ask.store.now) (g.M.Machine.seen c.release.new.self).left _ c.in_ok-desk.ensures.there (λ shows. c.release.ensures.back (subst (λ b. IsTrue b) (sym ((ap (λ (w : World _ _). w.shows) c.serve_visits-served.ensures.frame) ∙ (ap (λ (w : World _ _). w.shows) c.open_desk.ensures.frame))) shows)));
       leaves = lasts_left g.M.Disk.Store (g.M.Machine.seen c.args.machine.now).left ((g.M.Machine.seen c.args.machine.now).stands c.args.ask.store.now) (g.M.Machine.seen c.release.new.self).left
           c.in_ok-desk.desk.store c.serve_visits-served.new.desk.store c.into_connection.result c.in_ok-desk.ensures.opened (still_same g.M.Disk.Store c.in_ok-desk.desk.store c.serve_visits-served.new.desk.store c.in_err-served.ensures.unserved).lasts
@@ -127,7 +127,8 @@ returns-in_err-desk-clause-does g c =
     subst (λ r. DoesServe g.M.Disk.Store (g.M.Machine.seen c.args.machine.now) (g.M.Machine.seen c.open_desk.new.machine) (g.W.Write.contents c.args.output.now) (g.W.Write.contents c.args.output.now)
     g.M.Door.Door.told g.M.Door.Door.coming c.args.ask (whole r)) (sym (is_err c.from_residual.result refusal c.from_residual.ensures.1)) (record {
       frame = opened_doors (g.M.Machine.seen c.args.machine.now) (g.M.Machine.seen c.open_desk.new.machine) (g.M.Machine.seen c.open_desk.new.machine) c.open_desk.ensures.frame refl;
-      asked = asked_first (g.M.Machine.seen c.args.machine.now).wanted (g.M.Machine.seen c.open_desk.new.machine).wanted (StoreAt c.args.ask.store.now false false) (DoorAt (place_of c.args.ask.place)) ⊤ c.open_desk.ensures.asked;
+      asked = let mid = (g.M.Machine.seen c.open_desk.new.machine).wanted in
+          asked_more (g.M.Machine.seen c.args.machine.now).wanted mid mid mid (StoreAt c.args.ask.store.now false false) (DoorAt (place_of c.args.ask.place)) ⊤ c.open_desk.ensures.asked (asked_none mid mid _ ⊤ refl) refl;
       there = opening_fails {T = Done} (Err refusal) refusal _ refl c.in_err-desk.ensures.refused;
       leaves = unopened_with g.M.Disk.Store (g.M.Machine.seen c.args.machine.now).left ((g.M.Machine.seen c.args.machine.now).stands c.args.ask.store.now) (g.M.Machine.seen c.open_desk.new.machine).left
           (Lasts g.M.Disk.Store) (λ fault before after failed. failed.lasts) refusal c.in_err-desk.ensures.refused c.in_err-desk.ensures.left;

@@ -1,7 +1,7 @@
 use Rattle.std.proofs.Common.{◌∙◌, ◌⊎◌, OnErr, OnOk, ap, inl, inr, refl, subst, sym}
 use Rattle.std.proofs.KnownBytes.{Keeps-refl}
 use Rattle.std.specs.Io.KnownBytes.{Keeps}
-use Rattle.std.specs.Prelude.{IsOk}
+use Rattle.std.specs.Prelude.{⊤, IsOk}
 use Rattle.rd_program.specs.World.{ChangesClock, World}
 use Rattle.rd_program.proofs.Named.{asked_none, asked_one}
 use Rattle.rd_commands.specs.Serving.{place_of}
@@ -101,24 +101,24 @@ returns-clause-frame g c =
 -- ---- the door that is asked for
 
 pub returns-in_err-late-clause-asked : goal.returns-in_err-late-clause-asked
-returns-in_err-late-clause-asked g c = asked_none _ _ _ (ap (λ (w : World _ _). w.wanted) c.clock_shown-shown.ensures.frame)
+returns-in_err-late-clause-asked g c = asked_none _ _ _ ⊤ (ap (λ (w : World _ _). w.wanted) c.clock_shown-shown.ensures.frame)
 
 pub returns-then-late-clause-asked : goal.returns-then-late-clause-asked
-returns-then-late-clause-asked g c = asked_none _ _ _ (ap (λ (w : World _ _). w.wanted) c.clock_shown-shown.ensures.frame)
+returns-then-late-clause-asked g c = asked_none _ _ _ ⊤ (ap (λ (w : World _ _). w.wanted) c.clock_shown-shown.ensures.frame)
 
 pub returns-in-Err-clause-asked : goal.returns-in-Err-clause-asked
 returns-in-Err-clause-asked g c =
     let shown = g.M.Machine.seen c.clock_shown-shown.new.machine in
     let after = g.M.Machine.seen c.listen.follows.lender-at-none in
     let kept : ChangesClock shown after = subst (λ r. OnErr r (ChangesClock shown after)) c.in-Err.is c.listen.follows.holds-at-none in
-    asked_none (g.M.Machine.seen c.args.machine.now).wanted after.wanted _ ((ap (λ (w : World _ _). w.wanted) kept) ∙ (ap (λ (w : World _ _). w.wanted) c.clock_shown-shown.ensures.frame))
+    asked_none (g.M.Machine.seen c.args.machine.now).wanted after.wanted _ ⊤ ((ap (λ (w : World _ _). w.wanted) kept) ∙ (ap (λ (w : World _ _). w.wanted) c.clock_shown-shown.ensures.frame))
 
 pub returns-in_err-tell_listening-clause-asked : goal.returns-in_err-tell_listening-clause-asked
 returns-in_err-tell_listening-clause-asked g c =
-    asked_one (g.M.Machine.seen c.args.machine.now).wanted (g.M.Machine.seen c.clock_shown-shown.new.machine).wanted (g.M.Machine.seen (c.listen.follows.lender c.in-Ok.door.now)).wanted _
-    (ap (λ (w : World _ _). w.wanted) c.clock_shown-shown.ensures.frame) (c.listen.follows.holds c.in-Ok.door.now (subst (λ r. IsOk r) (sym c.in-Ok.is) refl)).asked
+    asked_one (g.M.Machine.seen c.args.machine.now).wanted (g.M.Machine.seen c.clock_shown-shown.new.machine).wanted (g.M.Machine.seen (c.listen.follows.lender c.in-Ok.door.now)).wanted _ ⊤
+    (ap (λ (w : World _ _). w.wanted) c.clock_shown-shown.ensures.frame) (c.listen.follows.holds c.in-Ok.door.now (subst (λ r. IsOk r) (sym c.in-Ok.is) refl)).asked tt
 
 pub returns-clause-asked : goal.returns-clause-asked
 returns-clause-asked g c =
-    asked_one (g.M.Machine.seen c.args.machine.now).wanted (g.M.Machine.seen c.clock_shown-shown.new.machine).wanted (g.M.Machine.seen (c.listen.follows.lender c.serve_many.new.door)).wanted _
-    (ap (λ (w : World _ _). w.wanted) c.clock_shown-shown.ensures.frame) (c.listen.follows.holds c.serve_many.new.door (subst (λ r. IsOk r) (sym c.in-Ok.is) refl)).asked
+    asked_one (g.M.Machine.seen c.args.machine.now).wanted (g.M.Machine.seen c.clock_shown-shown.new.machine).wanted (g.M.Machine.seen (c.listen.follows.lender c.serve_many.new.door)).wanted _ ⊤
+    (ap (λ (w : World _ _). w.wanted) c.clock_shown-shown.ensures.frame) (c.listen.follows.holds c.serve_many.new.door (subst (λ r. IsOk r) (sym c.in-Ok.is) refl)).asked tt
