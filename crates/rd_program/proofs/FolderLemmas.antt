@@ -139,7 +139,7 @@ extracts_all kind image folder files n old new out after are past makes = record
 }
 
 -- a front part of them was
-part_of_all : (kind : Kind) (image folder : List ℕ) (files : List Found) (n : ℕ) (old new : Option (List Made)) (out after : Option (List ℕ)) → AreFounds kind image files
+abbrev part_of_all : (kind : Kind) (image folder : List ℕ) (files : List Found) (n : ℕ) (old new : Option (List Made)) (out after : Option (List ℕ)) → AreFounds kind image files
     → MakesAll old new (map (made_of kind image folder) (filter is_given (take n files)))
     → AppendsPart out after (concat (map (line_of kind image folder) (filter is_given (take n files)))) → ExtractsPart kind image folder old new out after
 part_of_all kind image folder files n old new out after are made lines = record {

@@ -214,6 +214,7 @@ fn row_bytes<M: Machine>(
 ) -> Result<Option<Vec<u8>>, Refusal>
     ensures read { IfOk result (λ found. IfSome found (λ bytes. IfSome ((M.seen machine.old).files file.now) (λ shown. bytes.items ≡ shown))) }
     ensures lost { IfOk result (λ found. IfNone found (way.keep_going ≡ true)) }
+    ensures goes_on { way.keep_going ≡ true → IfErr result (λ refusal. refusal ≡ Refusal.NoMemory) }
     ensures same { machine.new ≡ machine.old }
     ensures refused { IfErr result IsRowRefusal }
 {
@@ -378,7 +379,7 @@ fn import_rows<W: Write, M: Machine>(
 /// It fails with `Device` when the file of a row could not be read.
 fn ended_by(fate: Fate) -> Result<Done, Refusal>
     ensures ended { IfOk result (λ done. fate ≡ spec.fate_of done) }
-    ensures lost { IfErr result (λ refusal. refusal ≡ Refusal.Device) }
+    ensures lost { IfErr result (λ refusal. (refusal ≡ Refusal.Device) × (fate ≡ Fate.Lost)) }
 {
     match fate {
         Fate::Done => Ok(Done::Whole),

@@ -86,8 +86,8 @@ pub returns-clause-moment : goal.returns-clause-moment
 returns-clause-moment g c =
     asks_then g.M.Disk.Store true c.args.ask.when (g.M.Machine.seen c.args.machine.now).clock c.args.desk.now.zone c.args.desk.now.store c.day_on_time.new.desk.store c.import_rows.new.desk.store c.ended_by.result
     c.in_ok-day.day c.import_rows.ensures.takes.lasts c.in_ok-day.ensures.day c.in_ok-day.ensures.dayless (λ dates. c.in_ok-day.ensures.on_time)
-    (IfErr-weaker c.ended_by.result _ _ (λ refusal is. row_never refusal (inr (inl is))) c.ended_by.ensures.lost)
-    (IfErr-weaker c.ended_by.result _ _ (λ refusal is. row_opened refusal (inr (inl is))) c.ended_by.ensures.lost)
+    (IfErr-weaker c.ended_by.result _ _ (λ refusal is. row_never refusal (inr (inl is.0))) c.ended_by.ensures.lost)
+    (IfErr-weaker c.ended_by.result _ _ (λ refusal is. row_opened refusal (inr (inl is.0))) c.ended_by.ensures.lost)
 
 pub returns-in_err-day-clause-refused : goal.returns-in_err-day-clause-refused
 returns-in_err-day-clause-refused g c =
@@ -102,7 +102,7 @@ returns-in_err-import_rows-clause-refused g c =
 
 pub returns-clause-refused : goal.returns-clause-refused
 returns-clause-refused g c =
-    IfErr-weaker c.ended_by.result _ _ (λ refusal is. inl (inr (inl is, front_kept _ _ (rows_of c.args.way.dry_run c.in_ok-import_rows.field-0 _ _ c.in_ok-import_rows.ensures.written)))) c.ended_by.ensures.lost
+    IfErr-weaker c.ended_by.result _ _ (λ refusal is. inl (inr (inl is.0, front_kept _ _ (rows_of c.args.way.dry_run c.in_ok-import_rows.field-0 _ _ c.in_ok-import_rows.ensures.written)))) c.ended_by.ensures.lost
 
 pub returns-clause-written : goal.returns-clause-written
 returns-clause-written g c =
@@ -117,7 +117,7 @@ returns-in_err-import_rows-clause-bad_sheet g c =
 
 pub returns-clause-bad_sheet : goal.returns-clause-bad_sheet
 returns-clause-bad_sheet g c =
-    IfErr-weaker c.ended_by.result _ _ (λ refusal is. always_due ((g.M.Machine.seen c.args.machine.now).sheets c.args.ask.sheet.now) refusal (λ sheet. row_no_sheet sheet refusal (inl is))) c.ended_by.ensures.lost
+    IfErr-weaker c.ended_by.result _ _ (λ refusal is. always_due ((g.M.Machine.seen c.args.machine.now).sheets c.args.ask.sheet.now) refusal (λ sheet. row_no_sheet sheet refusal (inl is.0))) c.ended_by.ensures.lost
 
 -- ---- the rows before the end
 
