@@ -1,12 +1,13 @@
 -- What a desk is asked once, and what is told of it.
-use Rattle.std.proofs.Common.{◌≡◌, ◌≢◌, ℕ, List, Option, arith, inl, inr, subst, sym}
+use Rattle.std.proofs.Common.{◌≡◌, ◌≢◌, ◌∙◌, ℕ, List, Option, arith, inl, inr, subst, sym}
 use Rattle.std.specs.Io.KnownBytes.{Keeps}
 use Rattle.rd_program.specs.Asking.{IsAskRefusal, IsReplyRefusal, RefusesOneQuestion}
 use Rattle.rd_program.specs.Importing.{IsRowRefusal}
 use Rattle.rd_commands.specs.Refusals.{status_of}
 use Rattle.rd_program.specs.Serving.{IsClockRefusal, IsOpenRefusal}
 use Rattle.rd_commands.specs.declared.refusal.Refusal.{Refusal}
-use Rattle.rd_commands.specs.declared.refusal.Refusal.TheVariants.{Clock, Device, Inconsistent, NoAccession, NoMemory, NotADesk, StaffOnly, Store, UnknownKey, Version}
+use Rattle.rd_commands.specs.declared.refusal.Refusal.TheVariants.{Clock, Device, NoAccession, NoMemory, StaffOnly, Store, UnknownKey}
+use Rattle.rd_program.proofs.LeftStores.{opening_is_3}
 
 -- ---- why it is refused
 
@@ -29,11 +30,7 @@ of_clock refusal (inl is) = told_as refusal Clock is (λ two. omega (arith, two)
 of_clock refusal (inr is) = told_as refusal NoMemory is (λ two. omega (arith, two))
 
 of_open : (refusal : Refusal) → IsOpenRefusal refusal → status_of refusal ≢ 2
-of_open refusal (inl is) = told_as refusal NotADesk is (λ two. omega (arith, two))
-of_open refusal (inr (inl is)) = told_as refusal Version is (λ two. omega (arith, two))
-of_open refusal (inr (inr (inl is))) = told_as refusal Inconsistent is (λ two. omega (arith, two))
-of_open refusal (inr (inr (inr (inl is)))) = told_as refusal Store is (λ two. omega (arith, two))
-of_open refusal (inr (inr (inr (inr is)))) = told_as refusal NoMemory is (λ two. omega (arith, two))
+of_open refusal opening two = let three : 2 ≡ 3 = sym two ∙ opening_is_3 refusal opening in omega (arith, three)
 
 of_ask : (refusal : Refusal) → IsAskRefusal refusal → status_of refusal ≢ 2
 of_ask refusal (inl opening) = of_open refusal opening

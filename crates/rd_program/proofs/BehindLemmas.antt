@@ -1,5 +1,5 @@
 -- A clock that is named: it was behind.
-use Rattle.std.proofs.Common.{◌≡◌, ◌≢◌, Bool, ℤ, Option, Result, IfErr, IfSome, IsTrue, None, Some, inl, inr, refl, subst, sym, true}
+use Rattle.std.proofs.Common.{◌≡◌, ◌≢◌, Bool, ℤ, Option, Result, IfErr, IfSome, IsTrue, None, Some, refl, subst, true}
 use Rattle.std.proofs.lemmas.Result.{IfErr-weaker}
 use Rattle.sqlite.specs.Held.{Held}
 use Rattle.sqlite.specs.Store.{Ghosts}
@@ -15,6 +15,7 @@ use Rattle.rd_program.specs.OnTime.{IsBehind, IsBehindIn, IsBehindOn, StoodBehin
 use Rattle.rd_program.specs.Serving.{IsOpenRefusal}
 use Rattle.rd_program.specs.Showing.{EndsWith}
 use Rattle.rd_program.proofs.ShowLemmas.{ends_with}
+use Rattle.rd_program.proofs.LeftStores.{of_opening}
 
 -- once the day is known nothing else names it
 pub no_behind_on : {S : Type 0} (g : Ghosts S) (dated must : Bool) (moment : Option ℤ) (zone : Zone) (opened last : Held S) (refusal : Refusal) → refusal ≢ Clock
@@ -25,11 +26,7 @@ no_behind_on g dated must moment zone opened last refusal other = tt
 -- no opening names it
 pub opening_no_behind : {S : Type 0} (g : Ghosts S) (dated must : Bool) (moment : Option ℤ) (zone : Zone) (old new : Option (Held S)) (refusal : Refusal) → IsOpenRefusal refusal
     → IsBehindIn g dated must moment zone old new refusal
-opening_no_behind g dated must moment zone old new refusal (inl is) = subst (IsBehindIn g dated must moment zone old new) (sym is) tt
-opening_no_behind g dated must moment zone old new refusal (inr (inl is)) = subst (IsBehindIn g dated must moment zone old new) (sym is) tt
-opening_no_behind g dated must moment zone old new refusal (inr (inr (inl is))) = subst (IsBehindIn g dated must moment zone old new) (sym is) tt
-opening_no_behind g dated must moment zone old new refusal (inr (inr (inr (inl is)))) = subst (IsBehindIn g dated must moment zone old new) (sym is) tt
-opening_no_behind g dated must moment zone old new refusal (inr (inr (inr (inr is)))) = subst (IsBehindIn g dated must moment zone old new) (sym is) tt
+opening_no_behind g dated must moment zone old new refusal opening = of_opening (IsBehindIn g dated must moment zone old new) refusal opening tt tt tt tt tt
 
 module _ {S : Type 0} (g : Ghosts S) (dated must : Bool) (old new : Option (Held S)) (opened last conn : Held S) (is : IfSome old (λ before. IsMigrated g before opened))
     (lasts : Lasts g opened last) (same : conn ≡ last) (took : IfSome new (λ held. Some conn ≡ Some held)) where

@@ -16,13 +16,13 @@ use Rattle.rd_store.specs.declared.faults.CreateFault.TheVariants as create
 use Rattle.rd_commands.specs.Refusals.{status_of}
 use Rattle.rd_commands.specs.declared.refusal.Refusal.{Refusal}
 use Rattle.rd_commands.specs.declared.refusal.Refusal.TheVariants.{Device, Exists, NoMemory, Store}
-use Rattle.rd_program.specs.Copying.{CopiesTo, IfAll, IsCopyRefusal, LeavesCopy, LeavesNew, LeavesNoPart, LeavesOldOrStood, LeavesTarget, MakesCopy, NotCopied, OpensDesk, RefusesCopy}
+use Rattle.rd_program.specs.Copying.{IfAll, IsCopyRefusal, LeavesCopy, LeavesNew, LeavesNoPart, LeavesOldOrStood, LeavesTarget, MakesCopy, NotCopied, OpensDesk, RefusesCopy}
 use Rattle.rd_program.specs.Faults.{refusal_to_create}
 use Rattle.rd_program.specs.Inits.{IsInitRefusal}
 use Rattle.rd_program.specs.Leaves.{GivesBack, HasBoth, IfBoth, IsSame, Leaves, LeavesDesk, LeavesNone, LeavesStore, NamesOpening}
 use Rattle.rd_program.specs.Serving.{IsOpenRefusal}
 use Rattle.rd_program.specs.Showing.{EndsWith}
-use Rattle.rd_program.proofs.LeftStores.{desk_left, none_still, opening_is_3}
+use Rattle.rd_program.proofs.LeftStores.{desk_left, none_still, of_opening, opening_is_3}
 use Rattle.rd_program.proofs.ShowLemmas.{ends_with}
 
 -- ---- the desk of the store, and its copy
@@ -132,7 +132,7 @@ module _ {S : Type 0} (g : Ghosts S) (from last : Held S) (shows : Bool) (was fr
 
   -- the desk was made in it
   pub done_to : {T : Type 0} (r : Result T Refusal) → (IsTrue shows → fresh ≡ Some conn) → (IsTrue shows → made ≡ Some new) → OnOk r (IsCopied g from last conn new)
-      → OnOk r (HasBoth shows fresh made × CopiesTo fresh made (IsCopied g from last))
+      → OnOk r (HasBoth shows fresh made × IfBoth fresh made (IsCopied g from last))
   done_to (Ok value) there back copied =
       (λ is. (subst (λ o. IsSome o) (sym (there is)) refl, subst (λ o. IsSome o) (sym (back is)) refl), both_to (IsCopied g from last) copied fresh made stood took)
   done_to (Err refusal) there back copied = tt
@@ -151,14 +151,14 @@ module _ {S : Type 0} (g : Ghosts S) (from last : Held S) (shows : Bool) (was fr
 -- the four connections of the whole, by those between two calls
 module _ {S : Type 0} (g : Ghosts S) (stood left : Option (Held S)) (opened last conn : Held S) (leaves : LeavesDesk g IsSame opened last) (fresh between made taken : Option (Held S))
     (same_fresh : between ≡ fresh) (same_made : made ≡ taken) (is : IfSome stood (λ before. IsMigrated g before opened)) (same : conn ≡ last) (took : IfSome left (λ held. Some conn ≡ Some held)) where
-  pub copied_from : {T : Type 0} (r : Result T Refusal) (shows mid : Bool) → mid ≡ shows → OnOk r (HasBoth mid between taken × CopiesTo between taken (IsCopied g opened last))
+  pub copied_from : {T : Type 0} (r : Result T Refusal) (shows mid : Bool) → mid ≡ shows → OnOk r (HasBoth mid between taken × IfBoth between taken (IsCopied g opened last))
       → OnOk r (HasBoth shows fresh made × IfAll stood left fresh made (MakesCopy g))
   copied_from (Err refusal) shows mid same_shows told = tt
   copied_from (Ok value) shows mid same_shows told =
-      let all : HasBoth shows fresh made × CopiesTo fresh made (IsCopied g opened last) =
-      subst (λ (m : Option (Held S)). HasBoth shows fresh m × CopiesTo fresh m (IsCopied g opened last)) (sym same_made)
-      (subst (λ (f : Option (Held S)). HasBoth shows f taken × CopiesTo f taken (IsCopied g opened last)) same_fresh
-      (subst (λ b. HasBoth b between taken × CopiesTo between taken (IsCopied g opened last)) same_shows told)) in
+      let all : HasBoth shows fresh made × IfBoth fresh made (IsCopied g opened last) =
+      subst (λ (m : Option (Held S)). HasBoth shows fresh m × IfBoth fresh m (IsCopied g opened last)) (sym same_made)
+      (subst (λ (f : Option (Held S)). HasBoth shows f taken × IfBoth f taken (IsCopied g opened last)) same_fresh
+      (subst (λ b. HasBoth b between taken × IfBoth between taken (IsCopied g opened last)) same_shows told)) in
       (all.0, makes_copy g stood left opened last conn leaves fresh made is same took all.1)
 
   pub not_copied_from : {T : Type 0} (r : Result T Refusal) (was mid : Option (Held S)) → mid ≡ was → IfErr r IsInitRefusal → IfErr r (LeavesTarget g opened last mid between taken)
@@ -195,11 +195,7 @@ none_taken : {S : Type 0} (was made : Option (Held S)) → made ≡ was → Leav
 none_taken {S} was made same = subst (λ (m : Option (Held S)). LeavesNone was m) (sym same) (none_still was)
 
 no_device : IsOpenRefusal Device → ⊥
-no_device (inl is) = cc is
-no_device (inr (inl is)) = cc is
-no_device (inr (inr (inl is))) = cc is
-no_device (inr (inr (inr (inl is)))) = cc is
-no_device (inr (inr (inr (inr is)))) = cc is
+no_device opening = of_opening (λ r. r ≢ Device) Device opening (λ is. cc is) (λ is. cc is) (λ is. cc is) (λ is. cc is) (λ is. cc is) refl
 
 no_exists : IsOpenRefusal Exists → ⊥
 no_exists opening = let three : 1 ≡ 3 = opening_is_3 Exists opening in omega (arith, three)

@@ -12,6 +12,7 @@ use Rattle.rd_program.specs.Leaves.{moment_of}
 use Rattle.rd_program.specs.Showing.{EndsWith}
 use Rattle.rd_program.proofs.ShowLemmas.{ends_with}
 use Rattle.rd_program.specs.Serving.{IsDayless, IsOpenRefusal, IsRefused, IsUnasked, IsUnaskedRefusal}
+use Rattle.rd_program.proofs.LeftStores.{of_opening}
 
 -- after a desk was opened, by a clock that shows the same as before
 pub unasked : {T : Type 0} (told clock other : Option ℤ) (r : Result T Refusal) → other ≡ clock → IsDayless (moment_of told other) r → IsUnasked (moment_of told clock) r
@@ -56,11 +57,7 @@ clock_ended r g dated moment old new opened last conn is same took =
 -- no opening names it
 pub opening_no_clock : {S : Type 0} (g : Ghosts S) (dated : Bool) (moment : Option ℤ) (old new : Option (Held S)) (refusal : Refusal) → IsOpenRefusal refusal
     → IsClockDue g dated moment old new refusal
-opening_no_clock g dated moment old new refusal (inl is) = subst (IsClockDue g dated moment old new) (sym is) tt
-opening_no_clock g dated moment old new refusal (inr (inl is)) = subst (IsClockDue g dated moment old new) (sym is) tt
-opening_no_clock g dated moment old new refusal (inr (inr (inl is))) = subst (IsClockDue g dated moment old new) (sym is) tt
-opening_no_clock g dated moment old new refusal (inr (inr (inr (inl is)))) = subst (IsClockDue g dated moment old new) (sym is) tt
-opening_no_clock g dated moment old new refusal (inr (inr (inr (inr is)))) = subst (IsClockDue g dated moment old new) (sym is) tt
+opening_no_clock g dated moment old new refusal opening = of_opening (IsClockDue g dated moment old new) refusal opening tt tt tt tt tt
 
 -- and once the day is known nothing else does
 pub no_clock_on : {S : Type 0} (g : Ghosts S) (dated : Bool) (moment : Option ℤ) (opened last : Held S) (refusal : Refusal) → refusal ≢ Clock → IsClockOn g dated moment opened last refusal

@@ -1,5 +1,5 @@
 -- The files of an image that are made in a folder, one after another.
-use Rattle.std.proofs.Common.{◌≡◌, ◌≢◌, ◌∙◌, ◌⊎◌, ◌++◌, ◌∷◌, [], ◌+◌, ◌<◌, ◌≤◌, ℕ, IfSome, List, None, Option, Some, ap, append-nil, append_assoc, arith, codes, drop, drop-cons, false, get_or, inl, inr, length, map, refl, subst, sym, take, true}
+use Rattle.std.proofs.Common.{◌≡◌, ◌≢◌, ◌∙◌, ◌⊎◌, ◌++◌, ◌∷◌, [], ◌+◌, ◌<◌, ◌≤◌, ℕ, Err, IfErr, IfSome, List, None, Ok, OnErr, Option, Result, Some, ap, append-nil, append_assoc, arith, codes, drop, drop-cons, false, get_or, inl, inr, length, map, refl, subst, suc, sym, take, true}
 use Rattle.std.specs.Io.KnownBytes.{Appends, Keeps}
 use Rattle.std.specs.List.{concat, filter}
 use Rattle.std.specs.Prelude.{cond}
@@ -194,7 +194,7 @@ given_next files n file inside is given =
 pub refuses_at : (kind : Kind) (image folder : List ℕ) (files : List Found) (n : ℕ) (file : Found) (old mid new : Option (List Made)) (out before after : Option (List ℕ)) (refusal : Refusal)
     → AreFounds kind image files → n < length files → get_or files n file ≡ file → is_given file ≡ true → MakesFiles kind image folder (filter is_given (take n files)) old mid out before
     → FailsOne (made_of kind image folder file) (line_of kind image folder file) mid new before after refusal → RefusesExtract kind image folder old new out after refusal
-refuses_at kind image folder files n file old mid new out before after refusal are inside is given makes (inl (exists, same, kept, there)) =
+refuses_at kind image folder files n file old mid new out before after refusal are inside is given makes (inl (exists, (same, kept, there))) =
     subst (RefusesExtract kind image folder old new out after) (sym exists) (
       part_of_all kind image folder files n old new out after are
           (subst (λ m. MakesAll old m (map (made_of kind image folder) (filter is_given (take n files)))) (sym same) makes.made)
@@ -209,9 +209,15 @@ refuses_at kind image folder files n file old mid new out before after refusal a
 -- why a file is not made
 pub not_made : (fault : WriteFault) (refusal : Refusal) (made : Made) (line : List ℕ) (old new : Option (List Made)) (out : Option (List ℕ)) → refusal ≡ refusal_to_write fault → new ≡ old
     → (fault ≡ write_fault.Exists → IsTaken new made.folder made.name) → FailsOne made line old new out out refusal
-not_made write_fault.Exists refusal made line old new out is same taken = inl (is, same, Keeps-refl out, taken refl)
+not_made write_fault.Exists refusal made line old new out is same taken = inl (is, (same, Keeps-refl out, taken refl))
 not_made write_fault.Failed refusal made line old new out is same taken = inr (inl is, inl (same, Keeps-refl out))
 not_made write_fault.NoMemory refusal made line old new out is same taken = inr (inr is, inl (same, Keeps-refl out))
+
+-- or its line not written whole
+pub line_failed : {T : Type 0} (r : Result T Refusal) (made : Made) (line : List ℕ) (old new : Option (List Made)) (out after : Option (List ℕ)) → IfErr r (λ refusal. refusal ≡ Device)
+    → MakesNext old new made → OnErr r (AppendsPart out after line) → IfErr r (FailsOne made line old new out after)
+line_failed (Ok done) made line old new out after device makes cut = tt
+line_failed (Err refusal) made line old new out after device makes cut = inr (inl device, inr (makes, cut))
 
 pub fails_named : (made : Made) (line : List ℕ) (old new : Option (List Made)) (out after : Option (List ℕ)) (refusal : Refusal) → FailsOne made line old new out after refusal
     → IsFilesRefusal refusal

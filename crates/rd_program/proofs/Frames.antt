@@ -1,6 +1,6 @@
 -- What stays of a world over two calls, by what stays over each.
 use Rattle.std.proofs.Common.{ap, subst, sym}
-use Rattle.rd_program.specs.World.{ChangesClock, ChangesDoors, ChangesFolders, ChangesStore, ChangesStoreAndDoors, OpensNewStore, OpensStore, TakesBack, TakesBackNew, World}
+use Rattle.rd_program.specs.World.{ChangesClock, ChangesDoors, ChangesFolders, ChangesStore, ChangesStoreAndDoors, CopiesStore, OpensNewStore, OpensStore, TakesBack, TakesBackNew, World}
 
 module _ {S D : Type 0} (old mid new : World S D) where
   -- the connection to a store is taken back
@@ -40,6 +40,17 @@ module _ {S D : Type 0} (old mid new : World S D) where
   new_back opened back =
       subst (OpensNewStore old) (sym back)
       (ap (λ (w : World S D). record w { fresh = new.fresh; made = new.made; wanted = mid.wanted }) opened)
+
+  -- after a store was
+  pub opened_new : OpensStore old mid → OpensNewStore mid new → CopiesStore old new
+  opened_new opened made =
+      subst (CopiesStore old) (sym made)
+      (ap (λ (w : World S D). record w { stands = mid.stands; left = mid.left; fresh = new.fresh; made = new.made; wanted = new.wanted }) opened)
+
+  pub copied_back : CopiesStore old mid → TakesBack mid new → CopiesStore old new
+  copied_back copies back =
+      subst (CopiesStore old) (sym back)
+      (ap (λ (w : World S D). record w { stands = new.stands; left = new.left; fresh = mid.fresh; made = mid.made; wanted = mid.wanted }) copies)
 
   -- a file is made after others
   pub more_made : ChangesFolders old mid → ChangesFolders mid new → ChangesFolders old new

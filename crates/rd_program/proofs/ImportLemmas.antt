@@ -89,7 +89,7 @@ front_kept old new rows = front_of old new new rows (none_of_line new)
 pub accession_front : (acc : ℕ) (word : List ℕ) (old new : Option (List ℕ)) → AppendsPart old new (accession_line acc word) → GainsFrontOfLine old new
 accession_front acc word old new part = record { line = accession_line acc word; is = inl (acc, word, refl); gained = part }
 
-of_device : (refusal : Refusal) → IsDeviceOrMemory refusal → IsRowRefusal refusal
+pub of_device : (refusal : Refusal) → IsDeviceOrMemory refusal → IsRowRefusal refusal
 of_device Device is = inl refl
 of_device NoMemory is = inr (inl refl)
 of_device refusal is = absurd is

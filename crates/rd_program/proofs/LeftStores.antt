@@ -56,12 +56,16 @@ pub on_ended_always : {T : Type 0} (r : Result T Refusal) (P : Type 0) → P →
 on_ended_always (Ok value) P holds = holds
 on_ended_always (Err refusal) P holds = λ one. holds
 
+-- what is so of each refusal of an opening is so of one that is known to be one of them
+pub of_opening : (P : Refusal → Type 0) (refusal : Refusal) → IsOpenRefusal refusal → P NotADesk → P Version → P Inconsistent → P Store → P NoMemory → P refusal
+of_opening P refusal (inl is) not_a_desk version inconsistent store memory = subst P (sym is) not_a_desk
+of_opening P refusal (inr (inl is)) not_a_desk version inconsistent store memory = subst P (sym is) version
+of_opening P refusal (inr (inr (inl is))) not_a_desk version inconsistent store memory = subst P (sym is) inconsistent
+of_opening P refusal (inr (inr (inr (inl is)))) not_a_desk version inconsistent store memory = subst P (sym is) store
+of_opening P refusal (inr (inr (inr (inr is)))) not_a_desk version inconsistent store memory = subst P (sym is) memory
+
 pub opening_is_3 : (refusal : Refusal) → IsOpenRefusal refusal → status_of refusal ≡ 3
-opening_is_3 refusal (inl is) = ap status_of is
-opening_is_3 refusal (inr (inl is)) = ap status_of is
-opening_is_3 refusal (inr (inr (inl is))) = ap status_of is
-opening_is_3 refusal (inr (inr (inr (inl is)))) = ap status_of is
-opening_is_3 refusal (inr (inr (inr (inr is)))) = ap status_of is
+opening_is_3 refusal opening = of_opening (λ r. status_of r ≡ 3) refusal opening refl refl refl refl refl
 
 -- a desk that is not opened is a failure
 pub opening_fails : {T : Type 0} (r : Result T Refusal) (refusal : Refusal) (P : Type 0) → IsErrAnd r (λ other. other ≡ refusal) → IsOpenRefusal refusal → OnEnded r P

@@ -17,6 +17,7 @@ use Rattle.rd_program.specs.Serving.{IsOpenRefusal}
 use Rattle.rd_commands.specs.declared.done.Done.{Done}
 use Rattle.rd_commands.specs.declared.refusal.Refusal.{Refusal}
 use Rattle.rd_program.specs.Rows.{HasRows, IsBadSheetDue, IsSheetOf, TakesRecords}
+use Rattle.rd_program.proofs.LeftStores.{of_opening}
 
 -- ---- records
 
@@ -195,14 +196,7 @@ due_shown None bytes refusal is due = tt
 due_shown (Some sheet) bytes refusal is due = subst (λ b. IsBadSheetDue b refusal) is due
 
 pub opening_no_sheet : (shown : Option (List ℕ)) (refusal : Refusal) → IsOpenRefusal refusal → IfSome shown (λ bytes. IsBadSheetDue bytes refusal)
-opening_no_sheet shown refusal opening = always_due shown refusal (of opening)
-  where
-    of : IsOpenRefusal refusal → (sheet : List ℕ) → IsBadSheetDue sheet refusal
-    of (inl is) sheet = subst (IsBadSheetDue sheet) (sym is) tt
-    of (inr (inl is)) sheet = subst (IsBadSheetDue sheet) (sym is) tt
-    of (inr (inr (inl is))) sheet = subst (IsBadSheetDue sheet) (sym is) tt
-    of (inr (inr (inr (inl is)))) sheet = subst (IsBadSheetDue sheet) (sym is) tt
-    of (inr (inr (inr (inr is)))) sheet = subst (IsBadSheetDue sheet) (sym is) tt
+opening_no_sheet shown refusal opening = always_due shown refusal (λ sheet. of_opening (IsBadSheetDue sheet) refusal opening tt tt tt tt tt)
 
 -- and the one that it showed before
 pub shown_before : (r : Result Done Refusal) (later shown : Option (List ℕ)) → later ≡ shown → IfErr r (λ refusal. IfSome later (λ sheet. IsBadSheetDue sheet refusal))

@@ -13,14 +13,12 @@ use Rattle.rd_commands.specs.declared.refusal.Refusal.{Refusal}
 use Rattle.rd_commands.specs.declared.refusal.Refusal.TheVariants.{Clock, Device, NoMemory, Store}
 use Rattle.rd_commands.proofs.WriterLemmas.{none_written, part_after, part_of, whole_part}
 use Rattle.rd_commands.specs.Serving.{Place}
+use Rattle.rd_program.proofs.LeftStores.{of_opening}
 
 -- where the desk was not opened nothing was written
 pub not_opened : (refusal : Refusal) (place : Place) (count : ℕ) (o : Option (List ℕ)) → IsOpenRefusal refusal → RefusesServe refusal place count o o
-not_opened refusal place count o (inl is) = subst (λ r. RefusesServe r place count o o) (sym is) (Keeps-refl o, inl refl)
-not_opened refusal place count o (inr (inl is)) = subst (λ r. RefusesServe r place count o o) (sym is) (Keeps-refl o, inr (inl refl))
-not_opened refusal place count o (inr (inr (inl is))) = subst (λ r. RefusesServe r place count o o) (sym is) (Keeps-refl o, inr (inr (inl refl)))
-not_opened refusal place count o (inr (inr (inr (inl is)))) = subst (λ r. RefusesServe r place count o o) (sym is) (Keeps-refl o, inr (inr (inr (inl refl))))
-not_opened refusal place count o (inr (inr (inr (inr is)))) = subst (λ r. RefusesServe r place count o o) (sym is) (none_written o o (serve_text place count) (Keeps-refl o))
+not_opened refusal place count o opening = of_opening (λ r. RefusesServe r place count o o) refusal opening (Keeps-refl o, inl refl) (Keeps-refl o, inr (inl refl))
+    (Keeps-refl o, inr (inr (inl refl))) (Keeps-refl o, inr (inr (inr (inl refl)))) (none_written o o (serve_text place count) (Keeps-refl o))
 
 of_failure : (refusal : Refusal) (place : Place) (count : ℕ) (old new : Option (List ℕ)) → IsDeviceOrMemory refusal
     → AppendsPart old new (serve_text place count) → RefusesServe refusal place count old new

@@ -38,7 +38,7 @@ use Rattle.rd_program.specs.Answers.{answer_to_show, outcome_of, refusal_to_chec
 use Rattle.rd_program.specs.Leaves.{IsDayAt, IsSame, LeavesDesk, StepsOf, moment_of}
 use Rattle.rd_program.specs.Serving.{IsClockRefusal, IsOpenRefusal}
 use Rattle.rd_program.specs.Showing.{AnswersOneQuestion, EndsWith, Finds, FindsStore, IsDueIn, IsDueOn, IsRefusedFor, IsShowRefusal, IsToShow, OfDesk, HoldsOfDesks, RefusesShow, Shows, ShowsStore, asked_of, badge_of, found_by, request_of, shown_text, what_to_show}
-use Rattle.rd_program.proofs.LeftStores.{from_opened}
+use Rattle.rd_program.proofs.LeftStores.{from_opened, of_opening}
 use Rattle.rd_program.proofs.DeskSteps.{response_step}
 
 -- ---- the desk is as it was
@@ -254,18 +254,10 @@ module _ {S : Type 0} (g : Ghosts S) (old new : Option (Held S)) (opened last co
 -- no caller is refused where no desk was opened
 pub open_due : {S : Type 0} (g : Ghosts S) (Days : ℤ → Type 0) (asked : Request) (old new : Option (Held S)) (refusal : Refusal) → IsOpenRefusal refusal
     → IsDueIn g Days asked old new refusal
-open_due g Days asked old new refusal (inl is) = subst (IsDueIn g Days asked old new) (sym is) tt
-open_due g Days asked old new refusal (inr (inl is)) = subst (IsDueIn g Days asked old new) (sym is) tt
-open_due g Days asked old new refusal (inr (inr (inl is))) = subst (IsDueIn g Days asked old new) (sym is) tt
-open_due g Days asked old new refusal (inr (inr (inr (inl is)))) = subst (IsDueIn g Days asked old new) (sym is) tt
-open_due g Days asked old new refusal (inr (inr (inr (inr is)))) = subst (IsDueIn g Days asked old new) (sym is) tt
+open_due g Days asked old new refusal opening = of_opening (IsDueIn g Days asked old new) refusal opening tt tt tt tt tt
 
 pub open_no_accession : (refusal : Refusal) → IsOpenRefusal refusal → refusal ≢ NoAccession
-open_no_accession refusal (inl is) same = cc (sym is ∙ same)
-open_no_accession refusal (inr (inl is)) same = cc (sym is ∙ same)
-open_no_accession refusal (inr (inr (inl is))) same = cc (sym is ∙ same)
-open_no_accession refusal (inr (inr (inr (inl is)))) same = cc (sym is ∙ same)
-open_no_accession refusal (inr (inr (inr (inr is)))) same = cc (sym is ∙ same)
+open_no_accession refusal opening = of_opening (λ r. r ≢ NoAccession) refusal opening (λ is. cc is) (λ is. cc is) (λ is. cc is) (λ is. cc is) (λ is. cc is)
 
 pub clock_no_accession : (refusal : Refusal) → IsClockRefusal refusal → refusal ≢ NoAccession
 clock_no_accession refusal (inl is) same = cc (sym is ∙ same)

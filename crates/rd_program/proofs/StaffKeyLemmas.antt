@@ -19,7 +19,7 @@ use Rattle.rd_program.specs.Leaves.{IsSame, LeavesUnopened, NamesOpening}
 use Rattle.rd_program.specs.Serving.{IsOpenRefusal}
 use Rattle.rd_program.specs.Showing.{EndsWith}
 use Rattle.rd_program.specs.StaffKeys.{LeavesOldOrPut, LeavesStaffKey, PutsNone, PutsStaff, RefusesStaffKey}
-use Rattle.rd_program.proofs.LeftStores.{after_opening, from_opened, from_unopened, opening_is_3, unopened_with}
+use Rattle.rd_program.proofs.LeftStores.{after_opening, from_opened, from_unopened, of_opening, opening_is_3, unopened_with}
 use Rattle.rd_program.proofs.ShowLemmas.{ends_with}
 
 -- ---- the desk with the key
@@ -62,11 +62,7 @@ module _ {S : Type 0} (g : Ghosts S) (digest : List ℕ) (old new : Option (Held
 -- ---- where no desk was opened
 
 no_device : IsOpenRefusal Device → ⊥
-no_device (inl is) = cc is
-no_device (inr (inl is)) = cc is
-no_device (inr (inr (inl is))) = cc is
-no_device (inr (inr (inr (inl is)))) = cc is
-no_device (inr (inr (inr (inr is)))) = cc is
+no_device opening = of_opening (λ r. r ≢ Device) Device opening (λ is. cc is) (λ is. cc is) (λ is. cc is) (λ is. cc is) (λ is. cc is) refl
 
 module _ {S : Type 0} (g : Ghosts S) (digest : List ℕ) where
   -- a crash may leave the desk that stood in tables of version 2

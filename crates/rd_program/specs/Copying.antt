@@ -88,10 +88,6 @@ pub record NotCopied {S : Type 0} (g : Ghosts S) (from read old new : Held S) (r
   pub refusal_is : refusal ≡ refusal_to_create fault
   pub not_copied : IsNotCopied g from read old new fault
 
--- this holds of the connections for the new store, if the machine shows both
-abbrev pub CopiesTo : {S : Type 0} → Option (Held S) → Option (Held S) → (Held S → Held S → Type 0) → Type 0
-CopiesTo fresh made P = IfBoth fresh made P
-
 -- no desk was made in the new store: a connection for it was taken back, over which none was made for this reason; or none
 -- was, and so it is where memory ran out
 abbrev pub LeavesTarget : {S : Type 0} → Ghosts S → Held S → Held S → Option (Held S) → Option (Held S) → Option (Held S) → Refusal → Type 0

@@ -51,7 +51,7 @@ use Rattle.rd_program.specs.Sifting.{SiftsSheetIn, StopsSheetIn, fate_of}
 use Rattle.rd_program.specs.StaffKeys.{LeavesStaffKey, PutsStaff, RefusesStaffKey}
 use Rattle.rd_program.specs.Visiting.{LeavesServe, ServesDoor, ServesSome}
 use Rattle.rd_program.specs.declared.import.Way.{Way}
-use Rattle.rd_program.specs.World.{ChangesFolders, ChangesStore, ChangesStoreAndDoors, OpensStore, World}
+use Rattle.rd_program.specs.World.{ChangesFolders, ChangesStore, ChangesStoreAndDoors, CopiesStore, OpensStore, World}
 use Rattle.rd_program.specs.World.Wanted.{DoorAt, NewAt, StoreAt}
 
 -- What a command reads and writes beside the machine: what is to come on standard input, and what standard output has taken
@@ -145,6 +145,7 @@ module _ {S D : Type 0} (g : Ghosts S) (before after : World S D) where
     -- `copy` makes the desk that stood in a new store, and says that it is done; or it names why not. It asks for no new store
     -- but this one, and only where it opened the desk, which is as it was.
     pub record DoesCopy (ask : CopyAsk) (result : Result Done Refusal) : Type 0 where
+      pub frame : CopiesStore before after
       pub asked : AsksThen before.wanted (StoreAt ask.store.now false false) (NewAt ask.target.now ask.has_sums) after.wanted (EndsAt ask.store.now (OpensDesk g))
       pub there : OnEnded result (HasBoth before.shows (before.stands ask.store.now) after.left)
       pub leaves : LeavesAt ask.store.now (LeavesStore g IsSame)

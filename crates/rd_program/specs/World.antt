@@ -87,6 +87,10 @@ ChangesStoreAndDoors old new =
 abbrev pub OpensNewStore : {S D : Type 0} → World S D → World S D → Type 0
 OpensNewStore old new = new ≡ record old { fresh = new.fresh; made = new.made; wanted = new.wanted }
 
+-- these, and what a store changes
+abbrev pub CopiesStore : {S D : Type 0} → World S D → World S D → Type 0
+CopiesStore old new = new ≡ record old { stands = new.stands; left = new.left; fresh = new.fresh; made = new.made; wanted = new.wanted }
+
 -- only the files that were made
 abbrev pub ChangesFolders : {S D : Type 0} → World S D → World S D → Type 0
 ChangesFolders old new = new ≡ record old { written = new.written }

@@ -4,12 +4,12 @@ ghost use Rattle.std.specs.Prelude.{◌≡◌, IfErr, IsTrue, OnOk, false};
 ghost use Rattle.rd_store.specs.Copied.{IsCopied};
 ghost use Rattle.rd_commands.specs.RefusalLines.{whole};
 ghost use Rattle.rd_program.specs.Does.{DoesCopy};
-ghost use Rattle.rd_program.specs.Copying.{CopiesTo, IfAll, IsCopyRefusal, LeavesCopy, LeavesTarget, MakesCopy, NotCopied, OpensDesk, RefusesCopy};
+ghost use Rattle.rd_program.specs.Copying.{IfAll, IsCopyRefusal, LeavesCopy, LeavesTarget, MakesCopy, NotCopied, OpensDesk, RefusesCopy};
 ghost use Rattle.rd_program.specs.Doors.{Asks, AsksThen};
 ghost use Rattle.rd_program.specs.Inits.{IsInitRefusal};
-ghost use Rattle.rd_program.specs.Leaves.{GivesBack, HasBoth, IsSame, Leaves, LeavesDesk, LeavesStore, NamesOpening, OnEnded};
+ghost use Rattle.rd_program.specs.Leaves.{GivesBack, HasBoth, IfBoth, IsSame, Leaves, LeavesDesk, LeavesStore, NamesOpening, OnEnded};
 ghost use Rattle.rd_program.specs.Showing.{EndsWith};
-ghost use Rattle.rd_program.specs.World.{OpensNewStore};
+ghost use Rattle.rd_program.specs.World.{CopiesStore, OpensNewStore};
 ghost use Rattle.rd_program.specs.World.Wanted.{NewAt, StoreAt};
 
 use crate::faults::not_made;
@@ -52,7 +52,7 @@ fn copy_to<M: Machine>(
 ) -> Result<(), Refusal>
     ensures leaves { LeavesDesk M.Disk.Store IsSame from.old from.new }
     ensures copied { OnOk result (HasBoth (M.seen machine.old).shows ((M.seen machine.old).fresh target.now) (M.seen machine.new).made
-        × CopiesTo ((M.seen machine.old).fresh target.now) (M.seen machine.new).made (IsCopied M.Disk.Store from.old from.new)) }
+        × IfBoth ((M.seen machine.old).fresh target.now) (M.seen machine.new).made (IsCopied M.Disk.Store from.old from.new)) }
     ensures not_copied { IfErr result (LeavesTarget M.Disk.Store from.old from.new (M.seen machine.old).made ((M.seen machine.old).fresh target.now) (M.seen machine.new).made) }
     ensures refused { IfErr result IsInitRefusal }
     ensures back_new { GivesBack (M.seen machine.old).shows (M.seen machine.old).made (M.seen machine.new).made }
@@ -88,6 +88,7 @@ fn copy_store<M: Machine>(alloc: Global, ask: CopyAsk, machine: &mut M) -> Resul
     ensures asked { AsksThen (M.seen machine.old).wanted (StoreAt ask.entry.store.now false false)
         (NewAt ask.entry.target.now ask.entry.has_sums) (M.seen machine.new).wanted
         (EndsWith ((M.seen machine.old).stands ask.entry.store.now) (M.seen machine.new).left (OpensDesk M.Disk.Store)) }
+    ensures frame { CopiesStore (M.seen machine.old) (M.seen machine.new) }
 {
     let mut store = open_store(alloc, ask.store, machine)?;
     let copied = copy_to(alloc, &mut store, ask.target, ask.has_sums, machine);

@@ -17,7 +17,7 @@ ghost use Rattle.rd_program.specs.World.{ChangesClock};
 ghost use Rattle.rd_program.specs.Leaves.{GivesBack, IsDayAt, IsSame, LeavesDesk, TakesFields, TakesRow, TakesUnlessDry, moment_of};
 ghost use Rattle.rd_program.specs.Rows.{IsBadSheetDue};
 ghost use Rattle.rd_program.specs.Sifting as spec;
-ghost use Rattle.rd_program.specs.Importing.{IsRowRefusal, RefusesImport, RefusesRow, RefusesRows, TellsRow, TellsRows, accession_line, done_word as done_word_of, row_line};
+ghost use Rattle.rd_program.specs.Importing.{RefusesImport, RefusesRow, RefusesRows, TellsRow, TellsRows, accession_line, done_word as done_word_of, row_line};
 ghost use Rattle.rd_program.specs.Sifting.{CutsFate, SiftsOn, SiftsOne, SiftsRows, StopsOn, StopsOne, StopsRows, TellsFate};
 
 use crate::machine::{Machine, file_at, sheet_at};
@@ -216,7 +216,7 @@ fn row_bytes<M: Machine>(
     ensures lost { IfOk result (λ found. IfNone found (way.keep_going ≡ true)) }
     ensures goes_on { way.keep_going ≡ true → IfErr result (λ refusal. refusal ≡ Refusal.NoMemory) }
     ensures same { machine.new ≡ machine.old }
-    ensures refused { IfErr result IsRowRefusal }
+    ensures refused { IfErr result IsDeviceOrMemory }
 {
     let fault = match file_at(alloc, file, machine) {
         Ok(bytes) => return Ok(Some(bytes)),

@@ -55,8 +55,7 @@ fn make_desk<M: Machine>(ask: InitAsk, machine: &mut M) -> Result<(), Refusal>
     made
 }
 
-/// Makes a desk in the file of a store, with one staff key, says that it is done, and flushes the
-/// output.
+/// Makes a desk in the file of a store, with one staff key, says that it is done, and flushes the output.
 ///
 /// It fails with `Exists` when there is a desk already, with `Store`, with `NoMemory`, and with
 /// `Device` when a write or the flush fails.

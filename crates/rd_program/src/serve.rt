@@ -159,8 +159,7 @@ fn tell_ended<M: Machine, W: Write>(
     }
 }
 
-/// Serves visits of the desk in the file of a store. It writes where they come and, at the
-/// end, how many there were, and flushes each line.
+/// Serves visits of the desk in a store. It writes where they come, how many came, and flushes each line.
 ///
 /// It fails with `NotADesk`, `Version`, `Inconsistent` and `Store` when it cannot open the desk,
 /// then as `serve_visits` does, with `Device` when the door shuts, and with `Clock` when a moment has no day.

@@ -24,6 +24,7 @@ returns-clause-does g c =
     let written = g.W.Write.contents c.write_whole.new.output in
     let r = c.write_whole.result in
     record {
+      frame = c.copy_store.ensures.frame;
       asked = c.copy_store.ensures.asked;
       there = on_ended_always (whole r) _ c.in_ok-copy_store.ensures.there;
       leaves = c.copy_store.ensures.leaves;
@@ -43,6 +44,7 @@ returns-in_err-copy_store-clause-does g c =
     let out = g.W.Write.contents c.args.output.now in
     let refusal = c.in_err-copy_store.field-0.0 in
     subst (λ r. DoesCopy g.M.Disk.Store before after out out c.args.ask (whole r)) (sym (is_err c.from_residual.result refusal c.from_residual.ensures.1)) (record {
+      frame = c.copy_store.ensures.frame;
       asked = c.copy_store.ensures.asked;
       there = c.in_err-copy_store.ensures.there;
       leaves = c.copy_store.ensures.leaves;

@@ -8,6 +8,7 @@ use Rattle.rd_program.proofs.LeftStores.{gives_back, has_both, on_ended_always, 
 use Rattle.rd_program.proofs.Named.{asked_more, asked_none, asked_one}
 use Rattle.rd_program.proofs.ShowLemmas.{passed_on}
 use Rattle.rd_program.specs.World.{World}
+use Rattle.rd_program.proofs.Frames.{copied_back, opened_new}
 use Rattle.rd_program.proofs.copy.copy_store.Goals as goal
 
 pub returns-clause-leaves : goal.returns-clause-leaves
@@ -85,3 +86,13 @@ returns-clause-back_new g c =
 
 pub returns-in_err-store-clause-back_new : goal.returns-in_err-store-clause-back_new
 returns-in_err-store-clause-back_new g c = back_same (g.M.Machine.seen c.args.machine.now).shows (g.M.Machine.seen c.args.machine.now).made (g.M.Machine.seen c.open_store.new.machine).made (ap (λ (w : World _ _). w.made) c.open_store.ensures.frame)
+
+pub returns-clause-frame : goal.returns-clause-frame
+returns-clause-frame g c =
+    let before = g.M.Machine.seen c.args.machine.now in
+    let copied = g.M.Machine.seen c.copy_to-copied.new.machine in
+    let after = g.M.Machine.seen c.release.new.self in
+    copied_back before copied after (opened_new before (g.M.Machine.seen c.open_store.new.machine) copied c.open_store.ensures.frame c.copy_to-copied.ensures.frame) c.release.ensures.frame
+
+pub returns-in_err-store-clause-frame : goal.returns-in_err-store-clause-frame
+returns-in_err-store-clause-frame g c = opened_new (g.M.Machine.seen c.args.machine.now) (g.M.Machine.seen c.open_store.new.machine) (g.M.Machine.seen c.open_store.new.machine) c.open_store.ensures.frame refl

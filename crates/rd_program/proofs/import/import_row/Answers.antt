@@ -5,7 +5,7 @@ use Rattle.std.proofs.KnownBytes.{Keeps-refl}
 use Rattle.std.specs.Io.KnownBytes.{Appends}
 use Rattle.rd_commands.specs.Output.{AppendsPart}
 use Rattle.rd_program.specs.declared.import.Fate.TheVariants.{Lost}
-use Rattle.rd_program.proofs.ImportLemmas.{answer_row, none_of_line, on_err, row_refused}
+use Rattle.rd_program.proofs.ImportLemmas.{answer_row, none_of_line, of_device, on_err, row_refused}
 use Rattle.rd_program.proofs.ShowLemmas.{passed_on}
 use Rattle.rd_program.proofs.import.import_row.Goals as goal
 
@@ -33,7 +33,7 @@ returns-clause-wet g c = λ wet.
 
 pub returns-in_err-bytes-clause-refused : goal.returns-in_err-bytes-clause-refused
 returns-in_err-bytes-clause-refused g c =
-    passed_on c.from_residual.result c.in_err-bytes.field-0.0 _ c.from_residual.ensures.1 (c.in_err-bytes.ensures.refused, none_of_line (g.W.Write.contents c.args.output.now))
+    passed_on c.from_residual.result c.in_err-bytes.field-0.0 _ c.from_residual.ensures.1 (of_device c.in_err-bytes.field-0.0 c.in_err-bytes.ensures.refused, none_of_line (g.W.Write.contents c.args.output.now))
 
 pub returns-in_err-tell_row-clause-refused : goal.returns-in_err-tell_row-clause-refused
 returns-in_err-tell_row-clause-refused g c =
