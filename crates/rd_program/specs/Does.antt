@@ -61,6 +61,10 @@ pub record Io : Type 0 where
   pub out : Option (List ℕ)
   pub written : Option (List ℕ)
 
+-- the record of these
+abbrev pub io_of : Option (List ℕ) → Option (List ℕ) → Option (List ℕ) → Io
+io_of input out written = record { input = input; out = out; written = written }
+
 -- ---- by what is asked for
 
 module _ {S D : Type 0} (g : Ghosts S) (before after : World S D) where

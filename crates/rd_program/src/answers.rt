@@ -9,7 +9,7 @@ ghost use Rattle.rd_program.specs.Showing.{IsShowRefusal};
 use rd_commands::Refusal;
 use rd_desk::{Outcome, Refusal as DeskRefusal, Response, Unavailable};
 
-/// The refusal of a command that shows something, by the desk's reason; `Store` for a reason that none of them can have.
+/// The refusal of a command that shows something, by the desk's reason; `Store` for one that none can have.
 fn refusal_to_show(reason: DeskRefusal) -> Refusal
     ensures is { result ≡ spec.refusal_to_show reason }
     ensures of { IsShowRefusal result }
@@ -33,9 +33,7 @@ fn refusal_to_check(reason: DeskRefusal) -> Refusal
     }
 }
 
-/// An answer to show.
-///
-/// It fails with the refusal of the caller.
+/// An answer to show. It fails with the refusal of the caller.
 fn if_to_show(answer: Response) -> Result<Response, Refusal>
     ensures is { result ≡ spec.if_to_show answer }
     ensures of { IfErr result IsShowRefusal }
@@ -46,9 +44,7 @@ fn if_to_show(answer: Response) -> Result<Response, Refusal>
     }
 }
 
-/// The answer to show, if there is one.
-///
-/// It fails with the refusal of the caller, and with `Store` when there is no answer.
+/// The answer to show, if there is one. It fails with the caller's refusal, and with `Store` without one.
 pub(crate) fn answer_to_show(answer: Result<Response, Unavailable>) -> Result<Response, Refusal>
     ensures is { result ≡ spec.answer_to_show answer }
     ensures of { IfErr result IsShowRefusal }
@@ -59,9 +55,7 @@ pub(crate) fn answer_to_show(answer: Result<Response, Unavailable>) -> Result<Re
     }
 }
 
-/// What a check has found, by an answer.
-///
-/// It fails with the refusal of the desk, and with `Store` when the answer says nothing of a check.
+/// What a check found, by an answer. It fails with the desk's refusal, and with `Store` if it is of no check.
 fn outcome_in(answer: &Response) -> Result<Outcome, Refusal>
     ensures is { result ≡ spec.outcome_in answer.now }
     ensures of { IfErr result IsReplyRefusal }
@@ -74,9 +68,7 @@ fn outcome_in(answer: &Response) -> Result<Outcome, Refusal>
     }
 }
 
-/// What a check has found, if there is an answer.
-///
-/// It fails as `outcome_in` does, and with `Store` when there is no answer.
+/// What a check found, if there is an answer. It fails as `outcome_in` does, and with `Store` without one.
 pub(crate) fn outcome_of(answer: &Result<Response, Unavailable>) -> Result<Outcome, Refusal>
     ensures is { result ≡ spec.outcome_of answer.now }
     ensures of { IfErr result IsReplyRefusal }

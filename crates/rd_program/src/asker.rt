@@ -30,9 +30,7 @@ pub(crate) fn badge_of(key: Option<&[u8]>) -> Option<[u8; 32]>
     }
 }
 
-/// Asks a desk, and gives its answer.
-///
-/// It fails with `Unavailable` when the store fails or memory runs out.
+/// Asks a desk, and gives its answer. It fails with `Unavailable` when the store fails or memory runs out.
 pub(crate) fn answer_of<S: Alter + Drop>(
     alloc: Global,
     what: What,

@@ -4,7 +4,7 @@ ghost use Rattle.std.specs.Prelude.{◌≡◌, IfErr, IfOk, List, Option, Some, 
 ghost use Rattle.rd_commands.specs.Input.{ReadsUpTo};
 ghost use Rattle.rd_commands.specs.Refusals.{IsDeviceOrMemory};
 ghost use Rattle.rd_program.specs.Completing as spec;
-ghost use Rattle.rd_program.specs.Completing.{AreOperands, Completes, IsDated, IsKeyRead, IsKeyedBy, IsZoneRead, IsZonedBy};
+ghost use Rattle.rd_program.specs.Completing.{AreOperands, Completes, IsDated, IsKeyRead, IsZoneRead};
 
 use crate::machine::Machine;
 use crate::operands::{key_from, moment_of_day, zone_from};
@@ -120,7 +120,7 @@ fn at_day<'a>(ask: Ask<'a>, day: i32) -> Ask<'a>
 
 /// What is asked for, with the key that was read, if one was.
 fn keyed<'a>(ask: Ask<'a>, operands: &'a Operands) -> Ask<'a>
-    ensures { IsKeyedBy (option_map (λ key. key.items) operands.now.key) ask.entry result }
+    ensures { spec.IsKeyedBy (option_map (λ key. key.items) operands.now.key) ask.entry result }
 {
     match &operands.key {
         Some(key) => with_key(ask, key.as_slice()),
@@ -130,7 +130,7 @@ fn keyed<'a>(ask: Ask<'a>, operands: &'a Operands) -> Ask<'a>
 
 /// What is asked for, by the clocks of the zone that was read, if one was.
 fn zoned<'a>(ask: Ask<'a>, zone: Option<Zone>) -> Ask<'a>
-    ensures { IsZonedBy zone ask.entry result }
+    ensures { spec.IsZonedBy zone ask.entry result }
 {
     match zone {
         Some(zone) => with_zone(ask, zone),
@@ -148,16 +148,15 @@ fn dated<'a>(ask: Ask<'a>, day: Option<i32>) -> Ask<'a>
     }
 }
 
-/// The key in the file at a path, or on standard input if the path is a hyphen; `None` if there is no path.
-///
-/// It fails as `key_from` does.
+/// The key that `key_from` gives for a path, and it fails as that does; `None` if there is no path.
 fn key_read<R: Read, M: Machine>(
     alloc: Global,
     path: Option<&str>,
     input: &mut R,
     machine: &mut M,
 ) -> Result<Option<Vec<u8>>, Refusal>
-    ensures read { IfOk result (λ key. IsKeyRead (M.seen machine.old).files (R.remaining input.old) (option_map (λ path. path.now) path.entry) (option_map (λ key. key.items) key)) }
+    ensures read { IfOk result (λ key. IsKeyRead (M.seen machine.old).files (R.remaining input.old)
+        (option_map (λ path. path.now) path.entry) (option_map (λ key. key.items) key)) }
     ensures refused { IfErr result IsDeviceOrMemory }
     ensures same { machine.new ≡ machine.old }
     ensures limit { ReadsUpTo 4_097 (R.remaining input.old) (R.remaining input.new) }
@@ -168,15 +167,14 @@ fn key_read<R: Read, M: Machine>(
     }
 }
 
-/// The zone in whose rule the file at a path ends; `None` if there is no path.
-///
-/// It fails as `zone_from` does.
+/// The zone in whose rule the file at a path ends; `None` if there is no path. It fails as `zone_from` does.
 fn zone_read<M: Machine>(
     alloc: Global,
     path: Option<&str>,
     machine: &mut M,
 ) -> Result<Option<Zone>, Refusal>
-    ensures read { IfOk result (λ zone. IsZoneRead (M.seen machine.old).files (option_map (λ path. path.now) path.entry) zone) }
+    ensures read { IfOk result
+        (λ zone. IsZoneRead (M.seen machine.old).files (option_map (λ path. path.now) path.entry) zone) }
     ensures refused { IfErr result IsDeviceOrMemory }
     ensures same { machine.new ≡ machine.old }
 {
@@ -186,16 +184,16 @@ fn zone_read<M: Machine>(
     }
 }
 
-/// Reads the files that the words name: first the one with a key, then the one with a zone.
-///
-/// It fails with `Device` when one cannot be read, is too long, or has no rule, and with `NoMemory`.
+/// Reads the files that the words name: first the one with a key, then the one with a zone. It fails with
+/// `Device` when one cannot be read, is too long, or has no rule, and with `NoMemory`.
 pub(crate) fn read_operands<R: Read, M: Machine>(
     alloc: Global,
     told: &Told,
     input: &mut R,
     machine: &mut M,
 ) -> Result<Operands, Refusal>
-    ensures read { IfOk result (λ operands. AreOperands (M.seen machine.old).files (R.remaining input.old) told.now.beside (option_map (λ key. key.items) operands.key) operands.zone) }
+    ensures read { IfOk result (λ operands. AreOperands (M.seen machine.old).files (R.remaining input.old)
+        told.now.beside (option_map (λ key. key.items) operands.key) operands.zone) }
     ensures refused { IfErr result IsDeviceOrMemory }
     ensures same { machine.new ≡ machine.old }
     ensures limit { ReadsUpTo 4_097 (R.remaining input.old) (R.remaining input.new) }
@@ -208,7 +206,8 @@ pub(crate) fn read_operands<R: Read, M: Machine>(
 /// What the words ask for, with what stands in files, and at the moment of a day.
 pub(crate) fn completed<'a>(told: Told<'a>, operands: &'a Operands) -> Ask<'a>
     ensures { (files : List ℕ → Option (List ℕ)) (input : Option (List ℕ))
-        → AreOperands files input told.entry.beside (option_map (λ key. key.items) operands.now.key) operands.now.zone → Completes files input told.entry result }
+        → AreOperands files input told.entry.beside (option_map (λ key. key.items) operands.now.key)
+        operands.now.zone → Completes files input told.entry result }
 {
     let with_both = zoned(keyed(told.ask, operands), operands.zone);
     dated(with_both, told.beside.day)

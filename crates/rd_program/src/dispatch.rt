@@ -10,8 +10,9 @@ ghost use Rattle.rd_commands.specs.Printed.{refusal_line};
 ghost use Rattle.rd_commands.specs.Refusals.{status_of};
 ghost use Rattle.rd_commands.specs.Told.{TellsAll};
 ghost use Rattle.rd_commands.specs.Beside.{IsPlain};
-ghost use Rattle.rd_program.specs.Does.{Does, DoesTold, EndsEarly, Runs};
-ghost use Rattle.rd_program.specs.Promises.{EndsByWords, EndsUntold, KeepsMachine, ReadsInput, TellsOfItself, WritesByStatus, texts};
+ghost use Rattle.rd_program.specs.Does.{Does, DoesTold, EndsEarly, Runs, io_of};
+ghost use Rattle.rd_program.specs.Promises.{EndsByWords, EndsUntold, KeepsMachine, ReadsInput};
+ghost use Rattle.rd_program.specs.Promises.{TellsOfItself, WritesByStatus, texts};
 
 use crate::completing::{completed, read_operands};
 use crate::copy::copy;
@@ -28,9 +29,7 @@ use rd_commands::{Ask, Done, Refusal, Told, read_words, tell_refusal, tell_unrea
 use std::alloc::Global;
 use std::io::{Read, Write};
 
-/// Does what a command asks for.
-///
-/// It fails as `cat`, `list`, `init`, `serve`, `import`, `extract`, `ask_once`, `staff_key` and `copy` do.
+/// Does what a command asks for. It fails as the function of that command does.
 fn perform<R: Read, W: Write, M: Machine>(
     alloc: Global,
     ask: Ask,
@@ -40,12 +39,12 @@ fn perform<R: Read, W: Write, M: Machine>(
 ) -> Result<Done, Refusal>
     requires accession { IsWithinLimits ask }
     ensures never { IfErr result (λ refusal. status_of refusal ≢ 2) }
-    ensures kept { IfErr result (λ refusal. status_of refusal ≡ 1
-        → Keeps (W.contents output.old) (W.contents output.new) ⊎ (TellsInRows ask.entry ⊎ IsExtraction ask.entry)) }
+    ensures kept { IfErr result (λ refusal. status_of refusal ≡ 1 → Keeps (W.contents output.old)
+        (W.contents output.new) ⊎ (TellsInRows ask.entry ⊎ IsExtraction ask.entry)) }
     ensures in_part { IfOk result (λ done. done ≡ Done.InPart → TellsOnOutput ask.entry) }
     ensures flushed { OnOk result (IsFlushed M.flushed (W.contents output.old) (W.contents output.new)) }
     ensures does { Does M.Disk.Store M.Door.told M.Door.coming (M.seen machine.old) (M.seen machine.new)
-        (record { input = R.remaining input.old; out = W.contents output.old; written = W.contents output.new }) ask.entry result }
+        (io_of (R.remaining input.old) (W.contents output.old) (W.contents output.new)) ask.entry result }
     ensures back { GivesBack (M.seen machine.old).shows (M.seen machine.old).left (M.seen machine.new).left }
     ensures limit { ReadsUpTo (most_read ask.entry) (R.remaining input.old) (R.remaining input.new) }
 {
@@ -75,10 +74,9 @@ fn perform<R: Read, W: Write, M: Machine>(
     }
 }
 
-/// Does what a command asks for whose operands stand in files in part, or that names a day: it reads the files first.
-///
-/// It fails with `Device` when a file cannot be read or is none of its kind, with `NoMemory`, and then as `perform` does:
-/// so a day that the clocks never show is refused after the store is open.
+/// Does what a command asks for whose operands stand in files in part, or that names a day: it reads the
+/// files first. It fails with `Device` when a file cannot be read or is none of its kind, with `NoMemory`,
+/// and then as `perform` does: so a day that the clocks never show is refused after the store is open.
 fn perform_completed<R: Read, W: Write, M: Machine>(
     alloc: Global,
     told: Told,
@@ -89,16 +87,16 @@ fn perform_completed<R: Read, W: Write, M: Machine>(
     requires accession { IsWithinLimits told.ask }
     requires of_store { most_read told.ask ≡ 0 }
     ensures never { IfErr result (λ refusal. status_of refusal ≢ 2) }
-    ensures kept { IfErr result (λ refusal. status_of refusal ≡ 1
-        → Keeps (W.contents output.old) (W.contents output.new) ⊎ (TellsInRows told.entry.ask ⊎ IsExtraction told.entry.ask)) }
+    ensures kept { IfErr result (λ refusal. status_of refusal ≡ 1 → Keeps (W.contents output.old)
+        (W.contents output.new) ⊎ (TellsInRows told.entry.ask ⊎ IsExtraction told.entry.ask)) }
     ensures in_part { IfOk result (λ done. done ≡ Done.InPart → TellsOnOutput told.entry.ask) }
     ensures flushed { OnOk result (IsFlushed M.flushed (W.contents output.old) (W.contents output.new)) }
     ensures back { GivesBack (M.seen machine.old).shows (M.seen machine.old).left (M.seen machine.new).left }
     ensures limit { ReadsUpTo (size_of kinds.Cpm8 + 1) (R.remaining input.old) (R.remaining input.new) }
-    ensures completed { DoesTold M.Disk.Store M.Door.told M.Door.coming (M.seen machine.old) (M.seen machine.new)
-        (record { input = R.remaining input.old; out = W.contents output.old; written = W.contents output.new }) told.entry result
-        ⊎ EndsEarly (M.seen machine.old) (M.seen machine.new)
-        (record { input = R.remaining input.old; out = W.contents output.old; written = W.contents output.new }) result }
+    ensures completed { DoesTold M.Disk.Store M.Door.told M.Door.coming (M.seen machine.old)
+        (M.seen machine.new) (io_of (R.remaining input.old) (W.contents output.old) (W.contents output.new))
+        told.entry result ⊎ EndsEarly (M.seen machine.old) (M.seen machine.new)
+        (io_of (R.remaining input.old) (W.contents output.old) (W.contents output.new)) result }
 {
     match read_operands(alloc, &told, input, machine) {
         Ok(operands) => {
@@ -109,10 +107,8 @@ fn perform_completed<R: Read, W: Write, M: Machine>(
     }
 }
 
-/// Does what the words of a command tell.
-///
-/// It fails as `perform_completed` does where operands stand in files or a day in place of a moment, and otherwise as
-/// `perform` does.
+/// Does what the words of a command tell. It fails as `perform_completed` does where operands stand in files
+/// or a day in place of a moment, and otherwise as `perform` does.
 fn perform_told<R: Read, W: Write, M: Machine>(
     alloc: Global,
     told: Told,
@@ -123,17 +119,18 @@ fn perform_told<R: Read, W: Write, M: Machine>(
     requires accession { IsWithinLimits told.ask }
     requires of_store { ¬ IsPlain told.beside → most_read told.ask ≡ 0 }
     ensures never { IfErr result (λ refusal. status_of refusal ≢ 2) }
-    ensures kept { IfErr result (λ refusal. status_of refusal ≡ 1
-        → Keeps (W.contents output.old) (W.contents output.new) ⊎ (TellsInRows told.entry.ask ⊎ IsExtraction told.entry.ask)) }
+    ensures kept { IfErr result (λ refusal. status_of refusal ≡ 1 → Keeps (W.contents output.old)
+        (W.contents output.new) ⊎ (TellsInRows told.entry.ask ⊎ IsExtraction told.entry.ask)) }
     ensures in_part { IfOk result (λ done. done ≡ Done.InPart → TellsOnOutput told.entry.ask) }
     ensures flushed { OnOk result (IsFlushed M.flushed (W.contents output.old) (W.contents output.new)) }
     ensures back { GivesBack (M.seen machine.old).shows (M.seen machine.old).left (M.seen machine.new).left }
     ensures limit { ReadsUpTo (size_of kinds.Cpm8 + 1) (R.remaining input.old) (R.remaining input.new) }
-    ensures limit_plain { IsPlain told.entry.beside → ReadsUpTo (most_read told.entry.ask) (R.remaining input.old) (R.remaining input.new) }
+    ensures limit_plain { IsPlain told.entry.beside
+        → ReadsUpTo (most_read told.entry.ask) (R.remaining input.old) (R.remaining input.new) }
     ensures so { DoesTold M.Disk.Store M.Door.told M.Door.coming (M.seen machine.old) (M.seen machine.new)
-        (record { input = R.remaining input.old; out = W.contents output.old; written = W.contents output.new }) told.entry result
+        (io_of (R.remaining input.old) (W.contents output.old) (W.contents output.new)) told.entry result
         ⊎ EndsEarly (M.seen machine.old) (M.seen machine.new)
-        (record { input = R.remaining input.old; out = W.contents output.old; written = W.contents output.new }) result }
+        (io_of (R.remaining input.old) (W.contents output.old) (W.contents output.new)) result }
 {
     if told.beside.is_plain() {
         return perform(alloc, told.ask, input, output, machine);
@@ -169,14 +166,11 @@ fn tell_and_keep<E: Write>(refused: Refusal, errors: &mut E, why: &mut Why<'_>) 
     tell_refusal(refused, errors)
 }
 
-/// Runs the program on its words, without its name, and gives its exit status: 0 if it did what
-/// the words ask for; 1 if it refuses the image, its file, a sheet, a row of it or a request, if
-/// there is a desk already, or if a check finds an image changed; 2 if the words are no command; and 3
-/// if the device, the clock, memory or the store failed.
-///
-/// It reads the image `-` from the input, and any other through the machine. It writes what the
-/// words ask for to the output. It writes a refusal as one line to `errors`, and a mistake in the
-/// words as a text.
+/// Runs the program on its words, without its name, and gives its exit status: 0 if it did what they ask for;
+/// 1 if it refuses the image, its file, a sheet, a row of it or a request, if there is a desk already, or if
+/// a check finds an image changed; 2 if the words are no command; 3 if the device, the clock, memory or the
+/// store failed. It reads the image `-` from the input, any other through the machine, writes what the words
+/// ask for to the output, and a refusal as one line, or a mistake in the words as a text, to `errors`.
 pub fn run<'a, R: Read, W: Write, E: Write, M: Machine>(
     alloc: Global,
     words: &'a [&'a str],
@@ -186,29 +180,29 @@ pub fn run<'a, R: Read, W: Write, E: Write, M: Machine>(
     machine: &mut M,
     why: &mut Why<'a>,
 ) -> u8
-    // Of any words: the status, what the words are at each, what is written and read, and what becomes of the machine.
+    // Of any words: the status, what they are at each, what is written and read, what becomes of the machine.
     ensures status { result ≤ 3 }
     ensures by_words { EndsByWords (texts words.entry.now) result
         (W.contents output.old) (W.contents output.new) (E.contents errors.old) (E.contents errors.new) }
     ensures by_status { WritesByStatus (texts words.entry.now) result M.flushed
         (W.contents output.old) (W.contents output.new) (E.contents errors.old) (E.contents errors.new) }
     ensures reads { ReadsInput (texts words.entry.now) (R.remaining input.old) (R.remaining input.new) }
-    ensures keeps { KeepsMachine (texts words.entry.now) result (M.seen machine.old).shows (M.seen machine.old).left (M.seen machine.new).left
-        machine.old machine.new }
+    ensures keeps { KeepsMachine (texts words.entry.now) result (M.seen machine.old).shows
+        (M.seen machine.old).left (M.seen machine.new).left machine.old machine.new }
     ensures itself { TellsOfItself (texts words.entry.now) result
         (W.contents output.old) (W.contents output.new) (E.contents errors.old) (E.contents errors.new) }
-
     // Where the run keeps why a command was refused, that has this status.
     ensures why { why.old.refused ≡ None → IfSome why.new.refused (λ refusal. status_of refusal ≡ result) }
-    // What it keeps of the words is what they tell, in all forms: operands in files, and days in place of moments. It did
-    // that, once the files were read, or was refused, with the status and the line of that. Where it keeps nothing, the
-    // words are a mistake, ask for help or the version, or memory ran out, and the machine is as it was.
+    // What it keeps of the words is what they tell, operands in files and days in place of moments too. It
+    // did that, once the files were read, or was refused, with the status and line of that. Where it keeps
+    // none, the words are a mistake, ask for help or the version, or memory ran out, and the machine stays.
     ensures told { why.old.told ≡ None → IfSome why.new.told (TellsAll (texts words.entry.now)) }
-    ensures so { why.old.told ≡ None → IfSome why.new.told (λ told. Runs M.Disk.Store M.Door.told M.Door.coming (M.seen machine.old) (M.seen machine.new)
-        (record { input = R.remaining input.old; out = W.contents output.old; written = W.contents output.new })
+    ensures so { why.old.told ≡ None → IfSome why.new.told
+        (λ told. Runs M.Disk.Store M.Door.told M.Door.coming (M.seen machine.old) (M.seen machine.new)
+        (io_of (R.remaining input.old) (W.contents output.old) (W.contents output.new))
         (E.contents errors.old) (E.contents errors.new) told result) }
-    ensures untold { why.old.told ≡ None → why.new.told ≡ None
-        → (machine.new ≡ machine.old) × EndsUntold (texts words.entry.now) result (E.contents errors.old) (E.contents errors.new) }
+    ensures untold { why.old.told ≡ None → why.new.told ≡ None → (machine.new ≡ machine.old)
+        × EndsUntold (texts words.entry.now) result (E.contents errors.old) (E.contents errors.new) }
 {
     match read_words(alloc, words) {
         Ok(told) => {

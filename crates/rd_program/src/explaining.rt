@@ -1,4 +1,4 @@
-//! Explains a refusal: what the system said, which sizes were found, which columns are bad, and what to do next.
+//! Explains a refusal: what the system said, which sizes were found, which columns are bad, what to do next.
 
 ghost use Rattle.std.specs.Prelude.{◌≡◌, IfSome, None, false};
 ghost use Rattle.std.specs.Io.KnownBytes.{Keeps};
@@ -72,8 +72,7 @@ fn is_port(ask: &Ask, path: &str) -> bool {
     }
 }
 
-/// What the system said of a path: that its folder is missing, where a command makes something new there, and that
-/// something stands there already, where it was to be a socket.
+/// What the system said of a path; of a new one, that its folder is missing, of a socket, that it is taken.
 fn said_of(told: &Told, refused: Refusal, path: &str, said: Said) -> Said {
     match said {
         Said::Missing if is_made(told, refused, path) => Said::NoRoom,
@@ -171,8 +170,7 @@ fn note_uncounted(alloc: Global, ask: &ImageAsk, notes: &mut Notes)
     notes.add(Line::Next(Advice::SaveFirst));
 }
 
-/// Notes that the file of an image has another number of bytes than one of its kind. It reads the file once more, if it
-/// is an ordinary one: standard input and pipes give their bytes once.
+/// Notes that the file of an image has another size than its kind. It reads it once more, if it is ordinary.
 fn note_size<M: Machine>(alloc: Global, ask: &ImageAsk, machine: &mut M, notes: &mut Notes)
     ensures quiet { IsQuiet notes.old notes.new }
     ensures same { machine.new ≡ machine.old }
@@ -186,7 +184,7 @@ fn note_size<M: Machine>(alloc: Global, ask: &ImageAsk, machine: &mut M, notes: 
     }
 }
 
-/// Notes that a sheet has another header, or which of its rows has another length. Where memory runs out, it notes neither.
+/// Notes that a sheet has another header, or which row has another length; neither where memory runs out.
 fn note_shape(alloc: Global, sheet: &[u8], notes: &mut Notes)
     ensures quiet { IsQuiet notes.old notes.new }
 {
@@ -323,7 +321,7 @@ fn note_known(alloc: Global, path: Option<&str>, known: Known, notes: &mut Notes
     true
 }
 
-/// Notes that a key could not be taken from standard input or a pipe: a pipe that was read had too many bytes.
+/// Notes that standard input gave no key, or that a pipe, which was read, had too many bytes for one.
 fn note_unknown_key(alloc: Global, path: Option<&str>, notes: &mut Notes)
     ensures quiet { IsQuiet notes.old notes.new }
 {
@@ -355,8 +353,7 @@ fn note_unknown(alloc: Global, beside: &Beside, key: Known, zone: Known, notes: 
     }
 }
 
-/// Notes that a file with a key is too long, and that a file with a zone is none; or, where nothing else is known, that
-/// one may be so which cannot be read again.
+/// Notes that a key's file is too long or a zone's is none; or, if nothing else is known, that one may be so.
 fn note_operands<M: Machine>(
     alloc: Global,
     beside: &Beside,
@@ -376,7 +373,7 @@ fn note_operands<M: Machine>(
     }
 }
 
-/// Whether a command goes by the clock of the machine, and is refused where that is long before a recorded check.
+/// Whether a command goes by the machine's clock, and is refused where that is long before a recorded check.
 fn goes_by_clock(told: &Told) -> bool {
     let when = match told.ask {
         Ask::Serve(ask) => return !ask.is_trusting,
@@ -423,7 +420,8 @@ fn advice_on_moment(day: Option<i32>) -> Advice
 
 /// What to do where the clock fails, or a moment has no day.
 fn advice_on_clock(told: &Told) -> Advice
-    ensures moment { IfSome (spec.seconds_named told.now.ask) (λ _. told.now.beside.day ≡ None → result ≡ advice.MomentLimits) }
+    ensures moment { IfSome (spec.seconds_named told.now.ask)
+        (λ _. told.now.beside.day ≡ None → result ≡ advice.MomentLimits) }
     ensures day { IfSome told.now.beside.day (λ day. spec.IsSureDay day → result ≡ advice.ShownDay) }
     ensures far { IfSome told.now.beside.day (λ day. ¬ spec.IsSureDay day → result ≡ advice.MomentLimits) }
 {
@@ -619,12 +617,12 @@ fn note_refusal<M: Machine>(
     note_next(told, refused, heard, notes);
 }
 
-/// Explains below its line why a run was refused, and which rows of a sheet were not done, if its words ask for that. It
-/// reads an image, a sheet or a file that the words name once more, if that is an ordinary file, and leaves the machine as it
-/// was.
+/// Explains below its line why a run was refused, and which rows of a sheet were not done, if its words ask
+/// for that. It reads ordinary files that the words name once more, and leaves the machine as it was.
 pub fn explain<E: Write, M: Machine>(alloc: Global, why: &Why<'_>, machine: &mut M, errors: &mut E)
     ensures lines { GainsLines (E.contents errors.old) (E.contents errors.new) }
-    ensures silent { IfSome why.now.told (λ told. told.beside.explain ≡ false) → Keeps (E.contents errors.old) (E.contents errors.new) }
+    ensures silent { IfSome why.now.told (λ told. told.beside.explain ≡ false)
+        → Keeps (E.contents errors.old) (E.contents errors.new) }
     ensures same { machine.new ≡ machine.old }
 {
     let Some(told) = why.told else {

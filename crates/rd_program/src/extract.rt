@@ -11,7 +11,7 @@ ghost use Rattle.rd_volume.specs.Founds.{Fits};
 ghost use Rattle.rd_volume.specs.Volumes.{contents_of};
 ghost use Rattle.rd_program.specs.World.{ChangesFolders};
 ghost use Rattle.rd_program.specs.Extracting as spec;
-ghost use Rattle.rd_program.specs.Extracting.{Extracts, FailsOne, IsFilesRefusal, MakesNext, OfImage, RefusesExtract, made_of, refusal_to_write};
+ghost use Rattle.rd_program.specs.Extracting.{Extracts, FailsOne, OfImage, RefusesExtract, made_of};
 
 use crate::machine::{Machine, WriteFault};
 use rd_commands::{ExtractAsk, Refusal, read_image, write_whole};
@@ -29,7 +29,7 @@ fn is_given(file: &Found) -> bool
 
 /// The refusal when a file is not made.
 fn not_written(fault: WriteFault) -> Refusal
-    ensures { result ≡ refusal_to_write fault }
+    ensures { result ≡ spec.refusal_to_write fault }
 {
     match fault {
         WriteFault::Exists => Refusal::Exists,
@@ -42,7 +42,8 @@ fn not_written(fault: WriteFault) -> Refusal
 fn contents(alloc: Global, image: &Image<'_>, file: &Found) -> Result<Vec<u8>, AllocError>
     requires given { spec.is_given file.now ≡ true }
     requires fits { Fits (kind_of image.now) file.now }
-    ensures { IfOk result (λ bytes. bytes.items ≡ contents_of (kind_of image.now) (bytes_of image.now) file.now) }
+    ensures { IfOk result (λ bytes. bytes.items ≡ contents_of (kind_of image.now) (bytes_of image.now)
+        file.now) }
 {
     let mut bytes = Vec::new(alloc);
     for piece in pieces(image, file) {
@@ -51,7 +52,7 @@ fn contents(alloc: Global, image: &Image<'_>, file: &Found) -> Result<Vec<u8>, A
     Ok(bytes)
 }
 
-/// The line of a file: its slot, its name in the folder, and how many bytes it has. It fails when memory runs out.
+/// The line of a file: its slot, its name in the folder and its size in bytes. It fails if memory runs out.
 fn line_text(alloc: Global, slot: u16, name: &str, count: usize) -> Result<String, AllocError>
     ensures { IfOk result (λ line. string_bytes line ≡ spec.line_text slot name.now count) }
 {
@@ -60,10 +61,8 @@ fn line_text(alloc: Global, slot: u16, name: &str, count: usize) -> Result<Strin
     Ok(line)
 }
 
-/// Makes the file of a folder for a file of an image, and writes its line.
-///
-/// It fails with `Exists` when there is a file of that name, with `Device` when it cannot be made whole or a write or the
-/// flush fails, and with `NoMemory`.
+/// Makes the file of a folder for a file of an image, and writes its line. It fails with `Exists` when that
+/// name is taken, with `Device` when it cannot be made whole or a write or flush fails, and with `NoMemory`.
 fn extract_one<W: Write, M: Machine>(
     alloc: Global,
     image: &Image<'_>,
@@ -74,10 +73,14 @@ fn extract_one<W: Write, M: Machine>(
 ) -> Result<(), Refusal>
     requires given { spec.is_given file.now ≡ true }
     requires fits { Fits (kind_of image.now) file.now }
-    ensures made { OnOk result (MakesNext (M.seen machine.old).written (M.seen machine.new).written (made_of (kind_of image.now) (bytes_of image.now) folder.now file.now)) }
-    ensures line { OnOk result (Appends (W.contents output.old) (W.contents output.new) (spec.line_of (kind_of image.now) (bytes_of image.now) folder.now file.now)) }
-    ensures failed { IfErr result (FailsOne (made_of (kind_of image.now) (bytes_of image.now) folder.now file.now) (spec.line_of (kind_of image.now) (bytes_of image.now) folder.now file.now)
-        (M.seen machine.old).written (M.seen machine.new).written (W.contents output.old) (W.contents output.new)) }
+    ensures made { OnOk result (spec.MakesNext (M.seen machine.old).written (M.seen machine.new).written
+        (made_of (kind_of image.now) (bytes_of image.now) folder.now file.now)) }
+    ensures line { OnOk result (Appends (W.contents output.old) (W.contents output.new)
+        (spec.line_of (kind_of image.now) (bytes_of image.now) folder.now file.now)) }
+    ensures failed { IfErr result (FailsOne (made_of (kind_of image.now) (bytes_of image.now)
+        folder.now file.now) (spec.line_of (kind_of image.now) (bytes_of image.now) folder.now file.now)
+        (M.seen machine.old).written (M.seen machine.new).written (W.contents output.old)
+        (W.contents output.new)) }
     ensures flushed { OnOk result (IsTrue (M.flushed (W.contents output.new))) }
     ensures frame { ChangesFolders (M.seen machine.old) (M.seen machine.new) }
 {
@@ -90,11 +93,9 @@ fn extract_one<W: Write, M: Machine>(
     }
 }
 
-/// Makes a file in a folder for each sound file of the served class of the image that the command names, and writes a
-/// line for each.
-///
-/// It fails with `Device` or `NoMemory` when it cannot read the image, with `WrongSize`, and as `extract_one` does: the
-/// files before that one stay.
+/// Makes a file in a folder for each sound file of the served class of the image that the command names, and
+/// writes a line for each. It fails with `Device` or `NoMemory` when it cannot read the image, with
+/// `WrongSize`, and as `extract_one` does: the files before that one stay.
 pub(crate) fn extract<R: Read, W: Write, M: Machine>(
     alloc: Global,
     ask: ExtractAsk,
@@ -102,13 +103,18 @@ pub(crate) fn extract<R: Read, W: Write, M: Machine>(
     output: &mut W,
     machine: &mut M,
 ) -> Result<(), Refusal>
-    ensures extracted { OnOk result (OfImage (M.seen machine.old).files (R.remaining input.old) ask.entry.image.image.now (λ image.
-        Extracts ask.entry.image.kind image ask.entry.folder.now (M.seen machine.old).written (M.seen machine.new).written (W.contents output.old) (W.contents output.new))) }
-    ensures refused { IfErr result (λ refusal. OfImage (M.seen machine.old).files (R.remaining input.old) ask.entry.image.image.now (λ image.
-        RefusesExtract ask.entry.image.kind image ask.entry.folder.now (M.seen machine.old).written (M.seen machine.new).written (W.contents output.old) (W.contents output.new) refusal)) }
-    ensures named { IfErr result IsFilesRefusal }
+    ensures extracted { OnOk result
+        (OfImage (M.seen machine.old).files (R.remaining input.old) ask.entry.image.image.now (λ image.
+        Extracts ask.entry.image.kind image ask.entry.folder.now (M.seen machine.old).written
+        (M.seen machine.new).written (W.contents output.old) (W.contents output.new))) }
+    ensures refused { IfErr result (λ refusal.
+        OfImage (M.seen machine.old).files (R.remaining input.old) ask.entry.image.image.now (λ image.
+        RefusesExtract ask.entry.image.kind image ask.entry.folder.now (M.seen machine.old).written
+        (M.seen machine.new).written (W.contents output.old) (W.contents output.new) refusal)) }
+    ensures named { IfErr result spec.IsFilesRefusal }
     ensures flushed { OnOk result (IsFlushed M.flushed (W.contents output.old) (W.contents output.new)) }
-    ensures limit { ReadsUpTo (size_of ask.entry.image.kind + 1) (R.remaining input.old) (R.remaining input.new) }
+    ensures limit { ReadsUpTo (size_of ask.entry.image.kind + 1) (R.remaining input.old)
+        (R.remaining input.new) }
     ensures back { GivesBack (M.seen machine.old).shows (M.seen machine.old).left (M.seen machine.new).left }
     ensures frame { ChangesFolders (M.seen machine.old) (M.seen machine.new) }
 {

@@ -1,6 +1,6 @@
 //! Takes in images, row by row of a sheet, or tells what would become of the rows.
 
-ghost use Rattle.std.specs.Prelude.{◌≡◌, IfErr, IfNone, IfOk, IfSome, IsTrue, OnErr, OnOk, Some, false, true};
+ghost use Rattle.std.specs.Prelude.{◌≡◌, IfErr, IfNone, IfOk, IfSome, IsTrue, OnErr, OnOk, false, true};
 ghost use Rattle.std.specs.Io.KnownBytes.{Appends};
 ghost use Rattle.csv.specs.Records.{fields_of};
 ghost use Rattle.sha2.specs.Sha256.{sha256};
@@ -14,11 +14,13 @@ ghost use Rattle.rd_commands.specs.Sheets.{IsWithin, Says};
 ghost use Rattle.rd_program.specs.Asked.{AsksOn};
 ghost use Rattle.rd_program.specs.Does.{DoesImport};
 ghost use Rattle.rd_program.specs.World.{ChangesClock};
-ghost use Rattle.rd_program.specs.Leaves.{GivesBack, IsDayAt, IsSame, LeavesDesk, TakesFields, TakesRow, TakesUnlessDry, moment_of};
+ghost use Rattle.rd_program.specs.Leaves.{GivesBack, IsDayAt, IsSame, LeavesDesk, moment_of};
+ghost use Rattle.rd_program.specs.Leaves.{TakesFields, TakesRow, TakesUnlessDry};
 ghost use Rattle.rd_program.specs.Rows.{IsBadSheetDue};
 ghost use Rattle.rd_program.specs.Sifting as spec;
-ghost use Rattle.rd_program.specs.Importing.{RefusesImport, RefusesRow, RefusesRows, TellsRow, TellsRows, accession_line, done_word as done_word_of, row_line};
-ghost use Rattle.rd_program.specs.Sifting.{CutsFate, SiftsOn, SiftsOne, SiftsRows, StopsOn, StopsOne, StopsRows, TellsFate};
+ghost use Rattle.rd_program.specs.Importing.{RefusesImport, RefusesRow, RefusesRows, TellsRow, TellsRows};
+ghost use Rattle.rd_program.specs.Importing.{accession_line, done_word as done_word_of, row_line};
+ghost use Rattle.rd_program.specs.Sifting.{CutsFate, SiftsOne, SiftsRows, StopsOne, StopsRows};
 
 use crate::machine::{Machine, file_at, sheet_at};
 use crate::noted::{note_answer, note_bad_row};
@@ -43,9 +45,7 @@ struct Giver {
     day: i32,
 }
 
-/// Asks a desk to take in the image of a row, and gives its answer.
-///
-/// It fails with `Unavailable` when the store fails or memory runs out.
+/// Has a desk take in the image of a row. It fails with `Unavailable` if the store fails or memory runs out.
 fn put_image<S: Alter + Drop>(
     alloc: Global,
     row: SheetRow,
@@ -56,7 +56,7 @@ fn put_image<S: Alter + Drop>(
     requires day { IsDay giver.day }
     requires within { IsWithin row }
     ensures responds { Responds S.Store desk.old.store desk.new.store giver.day
-        (record { badge = Some giver.badge; what = What.PutImage row.entry.acc row.entry.kind row.entry.deed row.entry.digest bytes.items }) result }
+        (spec.put_of giver.badge row.entry bytes.items) result }
     ensures zone { desk.new.zone ≡ desk.old.zone }
 {
     let what = What::PutImage {
@@ -70,17 +70,18 @@ fn put_image<S: Alter + Drop>(
     desk.respond(alloc, giver.day, &Request { badge, what })
 }
 
-/// Writes the line of an accession, which says in a word what became of its row, and flushes the output.
-///
-/// It fails with `NoMemory`, and with `Device` when a write or the flush fails.
+/// Writes the line of an accession, which says in a word what became of its row, and flushes the output. It
+/// fails with `NoMemory`, and with `Device` when a write or the flush fails.
 fn tell_accession<M: Machine, W: Write>(
     alloc: Global,
     acc: u32,
     word: &str,
     output: &mut W,
 ) -> Result<(), Refusal>
-    ensures done { OnOk result (Appends (W.contents output.old) (W.contents output.new) (accession_line acc word.now)) }
-    ensures cut { OnErr result (AppendsPart (W.contents output.old) (W.contents output.new) (accession_line acc word.now)) }
+    ensures done { OnOk result
+        (Appends (W.contents output.old) (W.contents output.new) (accession_line acc word.now)) }
+    ensures cut { OnErr result
+        (AppendsPart (W.contents output.old) (W.contents output.new) (accession_line acc word.now)) }
     ensures flushed { OnOk result (IsTrue (M.flushed (W.contents output.new))) }
     ensures refused { IfErr result IsDeviceOrMemory }
 {
@@ -90,7 +91,6 @@ fn tell_accession<M: Machine, W: Write>(
 }
 
 /// Writes the line of a row, counted from 1, which says in a word what became of it, and flushes the output.
-///
 /// It fails with `NoMemory`, and with `Device` when a write or the flush fails.
 fn tell_row<M: Machine, W: Write>(
     alloc: Global,
@@ -98,8 +98,10 @@ fn tell_row<M: Machine, W: Write>(
     word: &str,
     output: &mut W,
 ) -> Result<(), Refusal>
-    ensures done { OnOk result (Appends (W.contents output.old) (W.contents output.new) (row_line number word.now)) }
-    ensures cut { OnErr result (AppendsPart (W.contents output.old) (W.contents output.new) (row_line number word.now)) }
+    ensures done { OnOk result
+        (Appends (W.contents output.old) (W.contents output.new) (row_line number word.now)) }
+    ensures cut { OnErr result
+        (AppendsPart (W.contents output.old) (W.contents output.new) (row_line number word.now)) }
     ensures flushed { OnOk result (IsTrue (M.flushed (W.contents output.new))) }
     ensures refused { IfErr result IsDeviceOrMemory }
 {
@@ -168,9 +170,7 @@ fn fate_by(answer: &Response) -> Fate
     }
 }
 
-/// Asks a desk to take in the image of a row, or what it would answer after the earlier rows.
-///
-/// It fails with `Unavailable` when the store fails or memory runs out.
+/// A desk's answer to a row's image, taken in, or as if after the earlier rows. It fails as `put_image` does.
 fn answer_to_row<M: Machine>(
     alloc: Global,
     row: SheetRow,
@@ -184,7 +184,8 @@ fn answer_to_row<M: Machine>(
     requires within { IsWithin row }
     ensures zone { desk.new.zone ≡ desk.old.zone }
     ensures dry { way.dry_run ≡ true → Reads M.Disk.Store desk.old.store desk.new.store result
-        (WouldAnswer shelf.old.images.items shelf.new.images.items (desk_in M.Disk.Store desk.old.store) giver.badge (spec.shelved_row row.entry) bytes.items) }
+        (WouldAnswer shelf.old.images.items shelf.new.images.items (desk_in M.Disk.Store desk.old.store)
+        giver.badge (spec.shelved_row row.entry) bytes.items) }
     ensures wet { way.dry_run ≡ false → Responds M.Disk.Store desk.old.store desk.new.store giver.day
         (spec.put_of giver.badge row.entry bytes.items) result }
     ensures shelf { way.dry_run ≡ false → shelf.new.images.items ≡ shelf.old.images.items }
@@ -202,9 +203,8 @@ fn answer_to_row<M: Machine>(
     desk.would_take(alloc, &giver.badge, image, bytes.as_slice(), shelf)
 }
 
-/// The bytes of the file of a row; `None` if it cannot be read and the run goes on after it. Rows are counted from 1.
-///
-/// It fails with `Device` when the file cannot be read and the run does not go on, and with `NoMemory`.
+/// The bytes of the file of a row, counted from 1; `None` if it cannot be read and the run goes on after it.
+/// It fails with `Device` when it cannot be read and the run does not go on, and with `NoMemory`.
 fn row_bytes<M: Machine>(
     alloc: Global,
     file: &str,
@@ -212,7 +212,8 @@ fn row_bytes<M: Machine>(
     way: Way,
     machine: &mut M,
 ) -> Result<Option<Vec<u8>>, Refusal>
-    ensures read { IfOk result (λ found. IfSome found (λ bytes. IfSome ((M.seen machine.old).files file.now) (λ shown. bytes.items ≡ shown))) }
+    ensures read { IfOk result (λ found. IfSome found
+        (λ bytes. IfSome ((M.seen machine.old).files file.now) (λ shown. bytes.items ≡ shown))) }
     ensures lost { IfOk result (λ found. IfNone found (way.keep_going ≡ true)) }
     ensures goes_on { way.keep_going ≡ true → IfErr result (λ refusal. refusal ≡ Refusal.NoMemory) }
     ensures same { machine.new ≡ machine.old }
@@ -229,9 +230,8 @@ fn row_bytes<M: Machine>(
     Err(fault.or(Refusal::Device))
 }
 
-/// Writes a line with what a desk answers about an accession, or would answer.
-///
-/// It fails with `Store` when there is no answer, with `NoMemory`, and with `Device` when a write or the flush fails.
+/// Writes a line with what a desk answers about an accession, or would answer. It fails with `Store` when
+/// there is no answer, with `NoMemory`, and with `Device` when a write or the flush fails.
 fn tell_fate<M: Machine, W: Write>(
     alloc: Global,
     acc: u32,
@@ -239,7 +239,8 @@ fn tell_fate<M: Machine, W: Write>(
     answer: Result<Response, Unavailable>,
     output: &mut W,
 ) -> Result<Fate, Refusal>
-    ensures written { IfOk result (TellsFate acc dry_run answer (W.contents output.old) (W.contents output.new)) }
+    ensures written { IfOk result
+        (spec.TellsFate acc dry_run answer (W.contents output.old) (W.contents output.new)) }
     ensures cut { OnErr result (CutsFate acc dry_run answer (W.contents output.old) (W.contents output.new)) }
     ensures flushed { OnOk result (IsTrue (M.flushed (W.contents output.new))) }
     ensures refused { IfErr result (RefusesRow (W.contents output.old) (W.contents output.new)) }
@@ -251,9 +252,7 @@ fn tell_fate<M: Machine, W: Write>(
     Ok(fate_by(&answer))
 }
 
-/// Takes a row, and writes its line. Rows are counted from 1.
-///
-/// It fails as `row_bytes` and `tell_fate` do.
+/// Takes a row, and writes its line. Rows are counted from 1. It fails as `row_bytes` and `tell_fate` do.
 fn import_row<W: Write, M: Machine>(
     alloc: Global,
     row: SheetRow,
@@ -270,11 +269,16 @@ fn import_row<W: Write, M: Machine>(
     ensures zone { desk.new.zone ≡ desk.old.zone }
     ensures same { machine.new ≡ machine.old }
     ensures dry { way.dry_run ≡ true → LeavesDesk M.Disk.Store IsSame desk.old.store desk.new.store }
-    ensures wet { way.dry_run ≡ false → LeavesDesk M.Disk.Store (TakesRow giver.badge giver.day row.entry) desk.old.store desk.new.store }
-    ensures row { IfOk result (λ fate. (fields : _) → Says fields row.entry → SiftsOne M.Disk.Store Appends (M.seen machine.old).files way giver.badge giver.day
-        number fields fate shelf.old.images.items shelf.new.images.items (W.contents output.old) (W.contents output.new) desk.old.store desk.new.store) }
-    ensures stopped { OnErr result ((fields : _) → Says fields row.entry → StopsOne M.Disk.Store (M.seen machine.old).files way giver.badge giver.day
-        number fields shelf.old.images.items shelf.new.images.items (W.contents output.old) (W.contents output.new) desk.old.store desk.new.store) }
+    ensures wet { way.dry_run ≡ false → LeavesDesk M.Disk.Store (TakesRow giver.badge giver.day row.entry)
+        desk.old.store desk.new.store }
+    ensures row { IfOk result (λ fate. (fields : _) → Says fields row.entry
+        → SiftsOne M.Disk.Store Appends (M.seen machine.old).files way giver.badge giver.day number fields
+        fate shelf.old.images.items shelf.new.images.items (W.contents output.old) (W.contents output.new)
+        desk.old.store desk.new.store) }
+    ensures stopped { OnErr result ((fields : _) → Says fields row.entry
+        → StopsOne M.Disk.Store (M.seen machine.old).files way giver.badge giver.day number
+        fields shelf.old.images.items shelf.new.images.items (W.contents output.old) (W.contents output.new)
+        desk.old.store desk.new.store) }
     ensures written { IfOk result (TellsRow way.dry_run (W.contents output.old) (W.contents output.new)) }
     ensures flushed { OnOk result (IsTrue (M.flushed (W.contents output.new))) }
     ensures refused { IfErr result (RefusesRow (W.contents output.old) (W.contents output.new)) }
@@ -289,9 +293,7 @@ fn import_row<W: Write, M: Machine>(
     tell_fate::<M, W>(alloc, row.acc, way.dry_run, answer, output)
 }
 
-/// Takes the row with these fields, and writes its line. Rows are counted from 1.
-///
-/// It fails as `import_row` does.
+/// Takes the row with these fields, counted from 1, and writes its line. It fails as `import_row` does.
 fn import_fields<W: Write, M: Machine>(
     alloc: Global,
     fields: &ByteRecord,
@@ -307,11 +309,14 @@ fn import_fields<W: Write, M: Machine>(
     ensures zone { desk.new.zone ≡ desk.old.zone }
     ensures same { machine.new ≡ machine.old }
     ensures dry { way.dry_run ≡ true → LeavesDesk M.Disk.Store IsSame desk.old.store desk.new.store }
-    ensures wet { way.dry_run ≡ false → LeavesDesk M.Disk.Store (TakesFields giver.badge giver.day (fields_of fields.now)) desk.old.store desk.new.store }
-    ensures row { IfOk result (λ fate. SiftsOne M.Disk.Store Appends (M.seen machine.old).files way giver.badge giver.day number (fields_of fields.now)
-        fate shelf.old.images.items shelf.new.images.items (W.contents output.old) (W.contents output.new) desk.old.store desk.new.store) }
-    ensures stopped { OnErr result (StopsOne M.Disk.Store (M.seen machine.old).files way giver.badge giver.day number (fields_of fields.now)
-        shelf.old.images.items shelf.new.images.items (W.contents output.old) (W.contents output.new) desk.old.store desk.new.store) }
+    ensures wet { way.dry_run ≡ false → LeavesDesk M.Disk.Store
+        (TakesFields giver.badge giver.day (fields_of fields.now)) desk.old.store desk.new.store }
+    ensures row { IfOk result (λ fate. SiftsOne M.Disk.Store Appends (M.seen machine.old).files way
+        giver.badge giver.day number (fields_of fields.now) fate shelf.old.images.items shelf.new.images.items
+        (W.contents output.old) (W.contents output.new) desk.old.store desk.new.store) }
+    ensures stopped { OnErr result (StopsOne M.Disk.Store (M.seen machine.old).files way giver.badge giver.day
+        number (fields_of fields.now) shelf.old.images.items shelf.new.images.items (W.contents output.old)
+        (W.contents output.new) desk.old.store desk.new.store) }
     ensures written { IfOk result (TellsRow way.dry_run (W.contents output.old) (W.contents output.new)) }
     ensures flushed { OnOk result (IsTrue (M.flushed (W.contents output.new))) }
     ensures refused { IfErr result (RefusesRow (W.contents output.old) (W.contents output.new)) }
@@ -326,10 +331,8 @@ fn import_fields<W: Write, M: Machine>(
     }
 }
 
-/// Takes the rows of a sheet in turn, and writes their lines.
-///
-/// It fails with `BadSheet` when the header is another, and at a row of another length; the rows before that one are done.
-/// It also fails as `import_row` does.
+/// Takes the rows of a sheet in turn, and writes their lines. It fails with `BadSheet` when the header is
+/// another, or at a row of another length, with the rows before it done, and as `import_row` does.
 fn import_rows<W: Write, M: Machine>(
     alloc: Global,
     sheet: &[u8],
@@ -342,11 +345,13 @@ fn import_rows<W: Write, M: Machine>(
     requires day { IsDay giver.day }
     ensures zone { desk.new.zone ≡ desk.old.zone }
     ensures same { machine.new ≡ machine.old }
-    ensures takes { LeavesDesk M.Disk.Store (TakesUnlessDry way.dry_run giver.badge (λ day. day ≡ giver.day)) desk.old.store desk.new.store }
-    ensures rows { IfOk result (λ fate. SiftsRows M.Disk.Store (M.seen machine.old).files way giver.badge giver.day sheet.now
-        (W.contents output.old) (W.contents output.new) fate desk.old.store desk.new.store) }
-    ensures stopped { OnErr result (StopsRows M.Disk.Store (M.seen machine.old).files way giver.badge giver.day sheet.now
-        (W.contents output.old) (W.contents output.new) desk.old.store desk.new.store) }
+    ensures takes { LeavesDesk M.Disk.Store (TakesUnlessDry way.dry_run giver.badge (λ day. day ≡ giver.day))
+        desk.old.store desk.new.store }
+    ensures rows { IfOk result (λ fate. SiftsRows M.Disk.Store (M.seen machine.old).files way giver.badge
+        giver.day sheet.now (W.contents output.old) (W.contents output.new) fate
+        desk.old.store desk.new.store) }
+    ensures stopped { OnErr result (StopsRows M.Disk.Store (M.seen machine.old).files way giver.badge
+        giver.day sheet.now (W.contents output.old) (W.contents output.new) desk.old.store desk.new.store) }
     ensures flushed { OnOk result (IsFlushed M.flushed (W.contents output.old) (W.contents output.new)) }
     ensures bad_sheet { IfErr result (IsBadSheetDue sheet.now) }
     ensures written { IfOk result (TellsRows way.dry_run (W.contents output.old) (W.contents output.new)) }
@@ -374,9 +379,7 @@ fn import_rows<W: Write, M: Machine>(
     Err(Refusal::NoMemory)
 }
 
-/// How the command ends, by what became of all rows.
-///
-/// It fails with `Device` when the file of a row could not be read.
+/// How the command ends, by what became of all rows. It fails with `Device` when a row's file was not read.
 fn ended_by(fate: Fate) -> Result<Done, Refusal>
     ensures ended { IfOk result (λ done. fate ≡ spec.fate_of done) }
     ensures lost { IfErr result (λ refusal. (refusal ≡ Refusal.Device) × (fate ≡ Fate.Lost)) }
@@ -388,11 +391,10 @@ fn ended_by(fate: Fate) -> Result<Done, Refusal>
     }
 }
 
-/// Takes the rows of the sheet that the command names, at the moment that it names.
-///
-/// It fails with `Clock` when the clock fails, the moment has no day, or the clock shows a day that is more than one day
-/// before that of a recorded check, with `Store` when the checks cannot be read, with `Device` when it cannot read the sheet
-/// or, at its end, the file of a row, with `NoMemory`, and as `import_rows` does.
+/// Takes the rows of the sheet that the command names, at the moment that it names. It fails with `Clock`
+/// when the clock fails, the moment has no day, or the clock shows a day that is more than one day before
+/// that of a recorded check, with `Store` when the checks cannot be read, with `Device` when it cannot read
+/// the sheet or, at its end, the file of a row, with `NoMemory`, and as `import_rows` does.
 fn import_sheet<W: Write, M: Machine>(
     alloc: Global,
     ask: ImportAsk,
@@ -401,20 +403,26 @@ fn import_sheet<W: Write, M: Machine>(
     output: &mut W,
     machine: &mut M,
 ) -> Result<Done, Refusal>
-    ensures moment { AsksOn M.Disk.Store true ask.entry.when (M.seen machine.old).clock desk.old.zone desk.old.store desk.new.store result }
+    ensures moment { AsksOn M.Disk.Store true ask.entry.when (M.seen machine.old).clock desk.old.zone
+        desk.old.store desk.new.store result }
     ensures frame { ChangesClock (M.seen machine.old) (M.seen machine.new) }
     ensures takes { LeavesDesk M.Disk.Store (TakesUnlessDry way.dry_run (sha256 ask.entry.key.now)
-        (IsDayAt (moment_of ask.entry.when.seconds (M.seen machine.old).clock) desk.old.zone)) desk.old.store desk.new.store }
-    ensures rows { IfOk result (λ done. SiftsOn M.Disk.Store (M.seen machine.old).files way (sha256 ask.entry.key.now)
-        (IsDayAt (moment_of ask.entry.when.seconds (M.seen machine.old).clock) desk.old.zone) ((M.seen machine.old).sheets ask.entry.sheet.now)
-        (W.contents output.old) (W.contents output.new) done desk.old.store desk.new.store) }
-    ensures stopped { OnErr result (StopsOn M.Disk.Store (M.seen machine.old).files way (sha256 ask.entry.key.now)
-        (IsDayAt (moment_of ask.entry.when.seconds (M.seen machine.old).clock) desk.old.zone) ((M.seen machine.old).sheets ask.entry.sheet.now)
-        (W.contents output.old) (W.contents output.new) desk.old.store desk.new.store) }
-    ensures written { IfOk result (λ done. TellsRows way.dry_run (W.contents output.old) (W.contents output.new) (spec.fate_of done)) }
+        (IsDayAt (moment_of ask.entry.when.seconds (M.seen machine.old).clock) desk.old.zone))
+        desk.old.store desk.new.store }
+    ensures rows { IfOk result (λ done. spec.SiftsOn M.Disk.Store (M.seen machine.old).files
+        way (sha256 ask.entry.key.now) (IsDayAt (moment_of ask.entry.when.seconds (M.seen machine.old).clock)
+        desk.old.zone) ((M.seen machine.old).sheets ask.entry.sheet.now) (W.contents output.old)
+        (W.contents output.new) done desk.old.store desk.new.store) }
+    ensures stopped { OnErr result (spec.StopsOn M.Disk.Store (M.seen machine.old).files
+        way (sha256 ask.entry.key.now) (IsDayAt (moment_of ask.entry.when.seconds (M.seen machine.old).clock)
+        desk.old.zone) ((M.seen machine.old).sheets ask.entry.sheet.now) (W.contents output.old)
+        (W.contents output.new) desk.old.store desk.new.store) }
+    ensures written { IfOk result
+        (λ done. TellsRows way.dry_run (W.contents output.old) (W.contents output.new) (spec.fate_of done)) }
     ensures flushed { OnOk result (IsFlushed M.flushed (W.contents output.old) (W.contents output.new)) }
     ensures refused { IfErr result (RefusesImport (W.contents output.old) (W.contents output.new)) }
-    ensures bad_sheet { IfErr result (λ refusal. IfSome ((M.seen machine.old).sheets ask.entry.sheet.now) (λ bytes. IsBadSheetDue bytes refusal)) }
+    ensures bad_sheet { IfErr result (λ refusal. IfSome ((M.seen machine.old).sheets ask.entry.sheet.now)
+        (λ bytes. IsBadSheetDue bytes refusal)) }
 {
     let day = day_on_time(ask.when, desk, machine)?;
     let sheet = match sheet_at(alloc, ask.sheet, machine) {
@@ -426,11 +434,9 @@ fn import_sheet<W: Write, M: Machine>(
     ended_by(import_rows(alloc, sheet.as_slice(), way, giver, desk, output, machine)?)
 }
 
-/// Takes the images of a sheet into the desk in the file of a store, row by row, or tells what would become of the rows, and
-/// writes a line for each that says so. It flushes each line.
-///
-/// It fails with `NotADesk`, `Version`, `Inconsistent` and `Store` when it cannot open the desk, then as `import_sheet` does.
-/// The images taken in before stay.
+/// Takes the images of a sheet into the desk in the file of a store, row by row, or tells what would become
+/// of the rows, and writes a line for each that says so. It flushes each line. It fails as `open_desk` does,
+/// then as `import_sheet` does. The images taken in before stay.
 pub(crate) fn import<W: Write, M: Machine>(
     alloc: Global,
     ask: ImportAsk,
@@ -438,8 +444,8 @@ pub(crate) fn import<W: Write, M: Machine>(
     output: &mut W,
     machine: &mut M,
 ) -> Result<Done, Refusal>
-    ensures does { DoesImport M.Disk.Store (M.seen machine.old) (M.seen machine.new) (W.contents output.old) (W.contents output.new)
-        ask.entry way result }
+    ensures does { DoesImport M.Disk.Store (M.seen machine.old) (M.seen machine.new) (W.contents output.old)
+        (W.contents output.new) ask.entry way result }
     ensures refused { IfErr result (RefusesImport (W.contents output.old) (W.contents output.new)) }
     ensures flushed { OnOk result (IsFlushed M.flushed (W.contents output.old) (W.contents output.new)) }
     ensures back { GivesBack (M.seen machine.old).shows (M.seen machine.old).left (M.seen machine.new).left }

@@ -17,9 +17,7 @@ use sha2::{Digest, Sha256};
 use sqlite::{Alter, Connection};
 use std::io::Write;
 
-/// Makes a desk over a connection, with one staff key, and gives the connection back.
-///
-/// It fails with `Exists` and `Store`.
+/// Makes a desk over a connection, which it gives back, with a staff key. It fails with `Exists` and `Store`.
 fn make<S: Alter + Drop>(conn: Connection<S>, key: &[u8]) -> (Result<(), Refusal>, Connection<S>)
     requires outside { conn.in_transaction ≡ false }
     ensures made { OnOk result.0 (IsCreated S.Store conn result.1 (sha256 key.now)) }
@@ -31,17 +29,17 @@ fn make<S: Alter + Drop>(conn: Connection<S>, key: &[u8]) -> (Result<(), Refusal
     }
 }
 
-/// Makes a desk in the file of a store, with one staff key, and with sums if the words say so and the file is new.
-///
-/// It fails with `Exists`, with `Store`, and with `NoMemory`.
+/// Makes a desk in the file of a store, with one staff key, and with sums if the words say so and the file is
+/// new. It fails with `Exists`, with `Store`, and with `NoMemory`.
 fn make_desk<M: Machine>(ask: InitAsk, machine: &mut M) -> Result<(), Refusal>
-    ensures made { OnOk result
-        (MakesDesk M.Disk.Store ((M.seen machine.old).stands ask.entry.store.now) (M.seen machine.new).left (sha256 ask.entry.key.now)) }
-    ensures left { IfErr result
-        (LeavesInit M.Disk.Store (M.seen machine.old).left ((M.seen machine.old).stands ask.entry.store.now) (M.seen machine.new).left (sha256 ask.entry.key.now)) }
+    ensures made { OnOk result (MakesDesk M.Disk.Store ((M.seen machine.old).stands ask.entry.store.now)
+        (M.seen machine.new).left (sha256 ask.entry.key.now)) }
+    ensures left { IfErr result (LeavesInit M.Disk.Store (M.seen machine.old).left ((M.seen
+        machine.old).stands ask.entry.store.now) (M.seen machine.new).left (sha256 ask.entry.key.now)) }
     ensures refused { IfErr result IsInitRefusal }
     ensures back { GivesBack (M.seen machine.old).shows (M.seen machine.old).left (M.seen machine.new).left }
-    ensures there { OnEnded result (HasBoth (M.seen machine.old).shows ((M.seen machine.old).stands ask.entry.store.now) (M.seen machine.new).left) }
+    ensures there { OnEnded result (HasBoth (M.seen machine.old).shows
+        ((M.seen machine.old).stands ask.entry.store.now) (M.seen machine.new).left) }
     ensures asked { Asks (M.seen machine.old).wanted (StoreAt ask.entry.store.now true ask.entry.has_sums)
         (M.seen machine.new).wanted }
     ensures frame { OpensStore (M.seen machine.old) (M.seen machine.new) }
@@ -55,18 +53,17 @@ fn make_desk<M: Machine>(ask: InitAsk, machine: &mut M) -> Result<(), Refusal>
     made
 }
 
-/// Makes a desk in the file of a store, with one staff key, says that it is done, and flushes the output.
-///
-/// It fails with `Exists` when there is a desk already, with `Store`, with `NoMemory`, and with
-/// `Device` when a write or the flush fails.
+/// Makes a desk in the file of a store, with one staff key, says that it is done, and flushes the output. It
+/// fails as `make_desk` does, with `Exists` where a desk is, and with `Device` if a write or flush fails.
 pub(crate) fn init<W: Write, M: Machine>(
     ask: InitAsk,
     output: &mut W,
     machine: &mut M,
 ) -> Result<(), Refusal>
-    ensures does { DoesInit M.Disk.Store (M.seen machine.old) (M.seen machine.new) (W.contents output.old) (W.contents output.new)
-        ask.entry (whole result) }
-    ensures refused { IfErr result (λ refusal. RefusesInit refusal (W.contents output.old) (W.contents output.new)) }
+    ensures does { DoesInit M.Disk.Store (M.seen machine.old) (M.seen machine.new) (W.contents output.old)
+        (W.contents output.new) ask.entry (whole result) }
+    ensures refused { IfErr result
+        (λ refusal. RefusesInit refusal (W.contents output.old) (W.contents output.new)) }
     ensures flushed { OnOk result (IsTrue (M.flushed (W.contents output.new))) }
     ensures back { GivesBack (M.seen machine.old).shows (M.seen machine.old).left (M.seen machine.new).left }
 {

@@ -1,4 +1,4 @@
-//! The commands of the program `desk` on a store, and `run`, which runs any command on a machine that it is given.
+//! The commands of the program `desk` on a store, and `run`, which runs any command on a given machine.
 #![tactic(auto)]
 
 mod answers;

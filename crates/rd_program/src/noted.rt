@@ -26,7 +26,8 @@ fn reason_of(refused: Refusal, deed: u32) -> Reason
 
 /// What to note of a row whose image the desk refuses, where its file has so many bytes.
 fn note_of(row: SheetRow<'_>, found: usize, refused: Refusal) -> RowNote<'_>
-    ensures deed { refused ≡ refusal.NoDeed → result ≡ note.Refused row.entry.acc (reason.NoDeed row.entry.deed) }
+    ensures deed { refused ≡ refusal.NoDeed
+        → result ≡ note.Refused row.entry.acc (reason.NoDeed row.entry.deed) }
     ensures size { refused ≡ refusal.WrongSize → result ≡ note.Size row.entry.file found row.entry.kind }
 {
     match refused {
@@ -39,7 +40,7 @@ fn note_of(row: SheetRow<'_>, found: usize, refused: Refusal) -> RowNote<'_>
     }
 }
 
-/// Has a machine remember a row whose image the desk refuses, where its file has so many bytes. Rows are counted from 1.
+/// Has a machine remember a row, counted from 1, whose image of so many bytes the desk refuses.
 pub(crate) fn note_answer<M: Files>(
     number: u64,
     row: SheetRow,

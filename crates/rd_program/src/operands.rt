@@ -12,18 +12,18 @@ use rd_policy::Zone;
 use std::alloc::Global;
 use std::io::Read;
 
-/// The bytes of the file at a path, or of standard input if the path is a hyphen: no more than one byte past the most
-/// that a file with a key may have.
-///
-/// It fails with `Device` when they cannot be read, and with `NoMemory`.
+/// The bytes of the file at a path, or of standard input if the path is a hyphen: at most one more than a
+/// file with a key may have. It fails with `Device` when they cannot be read, and with `NoMemory`.
 fn key_bytes<R: Read, M: Machine>(
     alloc: Global,
     path: &str,
     input: &mut R,
     machine: &mut M,
 ) -> Result<Vec<u8>, Refusal>
-    ensures front { path.now ≡ codes "-" → IfOk result (λ bytes. IfSome (R.remaining input.old) (λ all. bytes.items ≡ take 4_097 all)) }
-    ensures file { path.now ≢ codes "-" → IfOk result (λ bytes. IfSome ((M.seen machine.old).files path.now) (λ shown. bytes.items ≡ shown)) }
+    ensures front { path.now ≡ codes "-"
+        → IfOk result (λ bytes. IfSome (R.remaining input.old) (λ all. bytes.items ≡ take 4_097 all)) }
+    ensures file { path.now ≢ codes "-"
+        → IfOk result (λ bytes. IfSome ((M.seen machine.old).files path.now) (λ shown. bytes.items ≡ shown)) }
     ensures refused { IfErr result IsDeviceOrMemory }
     ensures same { machine.new ≡ machine.old }
     ensures limit { ReadsUpTo 4_097 (R.remaining input.old) (R.remaining input.new) }
@@ -37,16 +37,16 @@ fn key_bytes<R: Read, M: Machine>(
     }
 }
 
-/// The key in the file at a path, or on standard input if the path is a hyphen.
-///
-/// It fails with `Device` when the file cannot be read or has more than 4,096 bytes, and with `NoMemory`.
+/// The key in the file at a path, or on standard input if the path is a hyphen. It fails with `Device` when
+/// the file cannot be read or has more than 4,096 bytes, and with `NoMemory`.
 pub(crate) fn key_from<R: Read, M: Machine>(
     alloc: Global,
     path: &str,
     input: &mut R,
     machine: &mut M,
 ) -> Result<Vec<u8>, Refusal>
-    ensures key { IfOk result (λ key. IsKeyAt (M.seen machine.old).files (R.remaining input.old) path.now key.items) }
+    ensures key { IfOk result
+        (λ key. IsKeyAt (M.seen machine.old).files (R.remaining input.old) path.now key.items) }
     ensures refused { IfErr result IsDeviceOrMemory }
     ensures same { machine.new ≡ machine.old }
     ensures limit { ReadsUpTo 4_097 (R.remaining input.old) (R.remaining input.new) }
@@ -58,10 +58,8 @@ pub(crate) fn key_from<R: Read, M: Machine>(
     }
 }
 
-/// The zone in whose rule the file at a path ends.
-///
-/// It fails with `Device` when the file cannot be read, has more than 65,536 bytes, or is no file of the time zone
-/// database that ends in a rule, and with `NoMemory`.
+/// The zone in whose rule the file at a path ends. It fails with `Device` when the file cannot be read, has
+/// more than 65,536 bytes, or is no file of the time zone database that ends in a rule, and with `NoMemory`.
 pub(crate) fn zone_from<M: Machine>(
     alloc: Global,
     path: &str,
@@ -85,8 +83,7 @@ pub(crate) fn zone_from<M: Machine>(
 /// A moment without a day, which a desk refuses with `Clock`.
 const WITHOUT_A_DAY: i64 = i64::MAX;
 
-/// The first moment at which the clocks of a zone show a day, in seconds since 1970-01-01T00:00:00 UTC; a moment without
-/// a day where they never show it.
+/// The first moment of a day in a zone, in seconds since 1970-01-01T00:00:00 UTC; one without a day if none.
 pub(crate) fn moment_of_day(day: i32, zone: &Zone) -> i64
     ensures { IsMomentOf day zone.now result }
 {

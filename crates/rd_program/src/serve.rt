@@ -14,7 +14,8 @@ ghost use Rattle.rd_program.specs.World.Wanted.{DoorAt};
 ghost use Rattle.rd_program.specs.Visiting.{RunsVisits};
 ghost use Rattle.rd_commands.specs.Output.{AppendsPart};
 ghost use Rattle.rd_commands.specs.Refusals.{IsDeviceOrMemory};
-ghost use Rattle.rd_program.specs.Serving.{AreLimitsOf, RefusesServe, RefusesToEnd, RefusesVisits, WritesOnceLent, listening_at, listening_line, listening_on, served_line};
+ghost use Rattle.rd_program.specs.Serving as spec;
+ghost use Rattle.rd_program.specs.Serving.{AreLimitsOf, RefusesVisits, listening_at, served_line};
 
 use crate::machine::Machine;
 use crate::open_desk::{clock_shown, is_late, open_desk};
@@ -27,7 +28,7 @@ use std::time::Duration;
 
 /// The line that says at which port visits come. It fails when memory runs out.
 fn port_line(alloc: Global, port: u16) -> Result<String, AllocError>
-    ensures { IfOk result (λ line. string_bytes line ≡ listening_line port) }
+    ensures { IfOk result (λ line. string_bytes line ≡ spec.listening_line port) }
 {
     let mut line = String::new(alloc);
     write!(line, "listening 127.0.0.1:{port}\n")?;
@@ -36,7 +37,7 @@ fn port_line(alloc: Global, port: u16) -> Result<String, AllocError>
 
 /// The line that says at the Unix socket of which path visits come. It fails when memory runs out.
 fn socket_line(alloc: Global, path: &str) -> Result<String, AllocError>
-    ensures { IfOk result (λ line. string_bytes line ≡ listening_on path.now) }
+    ensures { IfOk result (λ line. string_bytes line ≡ spec.listening_on path.now) }
 {
     let mut line = String::new(alloc);
     write!(line, "listening {path}\n")?;
@@ -53,32 +54,31 @@ fn place_line(alloc: Global, place: Place) -> Result<String, AllocError>
     }
 }
 
-/// Writes where visits come, and flushes the output.
-///
-/// It fails with `NoMemory`, and with `Device` when a write or the flush fails.
+/// Writes where visits come, and flushes. It fails with `NoMemory`, and `Device` if a write or flush fails.
 fn tell_listening<M: Machine, W: Write>(
     alloc: Global,
     place: Place,
     output: &mut W,
 ) -> Result<(), Refusal>
-    ensures done { OnOk result (Appends (W.contents output.old) (W.contents output.new) (listening_at (place_of place.entry))) }
-    ensures cut { OnErr result (AppendsPart (W.contents output.old) (W.contents output.new) (listening_at (place_of place.entry))) }
+    ensures done { OnOk result
+        (Appends (W.contents output.old) (W.contents output.new) (listening_at (place_of place.entry))) }
+    ensures cut { OnErr result
+        (AppendsPart (W.contents output.old) (W.contents output.new) (listening_at (place_of place.entry))) }
     ensures refused { IfErr result IsDeviceOrMemory }
 {
     let line = place_line(alloc, place)?;
     write_whole::<M, W>(output, line.as_bytes())
 }
 
-/// Writes how many visits it served, and flushes the output.
-///
-/// It fails with `NoMemory`, and with `Device` when a write or the flush fails.
+/// Writes how many visits it served, and flushes the output. It fails as `tell_listening` does.
 fn tell_served<M: Machine, W: Write>(
     alloc: Global,
     count: u32,
     output: &mut W,
 ) -> Result<(), Refusal>
     ensures done { OnOk result (Appends (W.contents output.old) (W.contents output.new) (served_line count)) }
-    ensures cut { OnErr result (AppendsPart (W.contents output.old) (W.contents output.new) (served_line count)) }
+    ensures cut { OnErr result
+        (AppendsPart (W.contents output.old) (W.contents output.new) (served_line count)) }
     ensures flushed { OnOk result (IsTrue (M.flushed (W.contents output.new))) }
     ensures refused { IfErr result IsDeviceOrMemory }
 {
@@ -98,11 +98,9 @@ fn time_limits(timeouts: Timeouts) -> TimeLimits
     }
 }
 
-/// Serves visits at the place that the command names, unless the clock is not trusted and shows a day that is more than one
-/// day before that of a recorded check.
-///
-/// It fails with `Clock` then, with `Store` when the checks cannot be read, with `Device` when it cannot open the place or a
-/// write fails, and with `NoMemory`.
+/// Serves visits at the place that the command names, unless the clock is not trusted and shows a day that is
+/// more than one day before that of a recorded check. It fails with `Clock` then, with `Store` when the
+/// checks cannot be read, with `Device` when it cannot open the place or a write fails, and with `NoMemory`.
 fn serve_visits<W: Write, M: Machine>(
     alloc: Global,
     ask: ServeAsk,
@@ -110,20 +108,28 @@ fn serve_visits<W: Write, M: Machine>(
     output: &mut W,
     machine: &mut M,
 ) -> Result<Served, Refusal>
-    ensures listening { OnOk result (Appends (W.contents output.old) (W.contents output.new) (listening_at (place_of ask.entry.place))) }
-    ensures refused { IfErr result (RefusesVisits (place_of ask.entry.place) (W.contents output.old) (W.contents output.new)) }
+    ensures listening { OnOk result
+        (Appends (W.contents output.old) (W.contents output.new) (listening_at (place_of ask.entry.place))) }
+    ensures refused { IfErr result
+        (RefusesVisits (place_of ask.entry.place) (W.contents output.old) (W.contents output.new)) }
     ensures count { IfOk result (λ served. served.ended ≡ Ended.Count → served.visits ≡ ask.entry.count) }
     ensures lasts { IfOk result (λ _. Lasts M.Disk.Store desk.old.store desk.new.store) }
     ensures unserved { IfErr result (λ _. IsStillOrRead M.Disk.Store desk.old.store desk.new.store) }
-    ensures lent { WritesOnceLent (M.seen machine.old).shows (M.seen machine.new).limits (W.contents output.old) (W.contents output.new) }
+    ensures lent { spec.WritesOnceLent (M.seen machine.old).shows (M.seen machine.new).limits
+        (W.contents output.old) (W.contents output.new) }
     ensures frame { ChangesDoors (M.seen machine.old) (M.seen machine.new) }
-    ensures asked { MayAsk (M.seen machine.old).wanted (DoorAt (place_of ask.entry.place)) (M.seen machine.new).wanted ⊤ }
-    ensures limits { IfOk result (λ _. IsTrue (M.seen machine.old).shows → IsSomeAnd (M.seen machine.new).limits (AreLimitsOf ask.entry.timeouts)) }
+    ensures asked { MayAsk (M.seen machine.old).wanted (DoorAt (place_of ask.entry.place))
+        (M.seen machine.new).wanted ⊤ }
+    ensures limits { IfOk result (λ _. IsTrue (M.seen machine.old).shows
+        → IsSomeAnd (M.seen machine.new).limits (AreLimitsOf ask.entry.timeouts)) }
     ensures visits { IfOk result (λ served. IfSome ((M.seen machine.old).doors (place_of ask.entry.place))
         (λ before. IsSomeAnd ((M.seen machine.new).doors (place_of ask.entry.place)) (λ after.
-        RunsVisits M.Disk.Store M.Door.told M.Door.coming desk.old.zone before after served desk.old.store desk.new.store))) }
-    ensures on_time { ask.entry.is_trusting ≡ false → OnOk result (IsOnTimeBy M.Disk.Store (M.seen machine.old).clock desk.old.zone desk.old.store desk.new.store) }
-    ensures begun_on_time { ask.entry.is_trusting ≡ false → OnErr result (Keeps (W.contents output.old) (W.contents output.new)
+        RunsVisits M.Disk.Store M.Door.told M.Door.coming desk.old.zone before after served
+        desk.old.store desk.new.store))) }
+    ensures on_time { ask.entry.is_trusting ≡ false → OnOk result
+        (IsOnTimeBy M.Disk.Store (M.seen machine.old).clock desk.old.zone desk.old.store desk.new.store) }
+    ensures begun_on_time { ask.entry.is_trusting ≡ false
+        → OnErr result (Keeps (W.contents output.old) (W.contents output.new)
         ⊎ IsOnTimeBy M.Disk.Store (M.seen machine.old).clock desk.old.zone desk.old.store desk.new.store) }
 {
     let shown = clock_shown(ask.is_trusting, machine);
@@ -139,18 +145,19 @@ fn serve_visits<W: Write, M: Machine>(
     Ok(serve_many(alloc, door, desk, ask.count))
 }
 
-/// Writes how many visits a run served, or fails as the run ended.
-///
-/// It fails with `Clock` when a moment has no day, with `Device` when the door shuts or a write fails, and with `NoMemory`.
+/// Writes how many visits a run served, or fails as the run ended. It fails with `Clock` when a moment has no
+/// day, with `Device` when the door shuts or a write fails, and with `NoMemory`.
 fn tell_ended<M: Machine, W: Write>(
     alloc: Global,
     served: Served,
     output: &mut W,
 ) -> Result<(), Refusal>
-    ensures done { OnOk result (Appends (W.contents output.old) (W.contents output.new) (served_line served.visits)) }
+    ensures done { OnOk result
+        (Appends (W.contents output.old) (W.contents output.new) (served_line served.visits)) }
     ensures count { OnOk result (served.ended ≡ Ended.Count) }
     ensures flushed { OnOk result (IsTrue (M.flushed (W.contents output.new))) }
-    ensures refused { IfErr result (RefusesToEnd served.ended served.visits (W.contents output.old) (W.contents output.new)) }
+    ensures refused { IfErr result
+        (spec.RefusesToEnd served.ended served.visits (W.contents output.old) (W.contents output.new)) }
 {
     match served.ended {
         Ended::Count => tell_served::<M, W>(alloc, served.visits, output),
@@ -159,20 +166,19 @@ fn tell_ended<M: Machine, W: Write>(
     }
 }
 
-/// Serves visits of the desk in a store. It writes where they come, how many came, and flushes each line.
-///
-/// It fails with `NotADesk`, `Version`, `Inconsistent` and `Store` when it cannot open the desk,
-/// then as `serve_visits` does, with `Device` when the door shuts, and with `Clock` when a moment has no day.
+/// Serves visits of the desk in the file of a store. It writes where they come and, at the end, how many
+/// there were, and flushes each line. It fails as `open_desk` does, then as `serve_visits` does, with
+/// `Device` when the door shuts, and with `Clock` when a moment has no day.
 pub(crate) fn serve<W: Write, M: Machine>(
     alloc: Global,
     ask: ServeAsk,
     output: &mut W,
     machine: &mut M,
 ) -> Result<(), Refusal>
-    ensures does { DoesServe M.Disk.Store (M.seen machine.old) (M.seen machine.new) (W.contents output.old) (W.contents output.new)
-        M.Door.told M.Door.coming ask.entry (whole result) }
-    ensures refused { IfErr result (λ refusal. RefusesServe refusal (place_of ask.entry.place) ask.entry.count
-        (W.contents output.old) (W.contents output.new)) }
+    ensures does { DoesServe M.Disk.Store (M.seen machine.old) (M.seen machine.new) (W.contents output.old)
+        (W.contents output.new) M.Door.told M.Door.coming ask.entry (whole result) }
+    ensures refused { IfErr result (λ refusal. spec.RefusesServe refusal (place_of ask.entry.place)
+        ask.entry.count (W.contents output.old) (W.contents output.new)) }
     ensures flushed { OnOk result (IsTrue (M.flushed (W.contents output.new))) }
     ensures back { GivesBack (M.seen machine.old).shows (M.seen machine.old).left (M.seen machine.new).left }
 {

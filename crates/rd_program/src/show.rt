@@ -46,15 +46,15 @@ fn bytes_of(alloc: Global, body: &Body) -> Result<Vec<u8>, AllocError>
     Ok(bytes)
 }
 
-/// Writes the body of a reply, and a line feed after it if it is JSON, and flushes the output.
-///
-/// It fails with `NoMemory`, and with `Device` when a write or the flush fails.
+/// Writes the body of a reply, and a line feed after it if it is JSON, and flushes the output. It fails with
+/// `NoMemory`, and with `Device` when a write or the flush fails.
 fn write_shown<M: Machine, W: Write>(
     alloc: Global,
     reply: &Reply,
     output: &mut W,
 ) -> Result<(), Refusal>
-    ensures done { OnOk result (Appends (W.contents output.old) (W.contents output.new) (shown_text reply.now)) }
+    ensures done { OnOk result
+        (Appends (W.contents output.old) (W.contents output.new) (shown_text reply.now)) }
     ensures refused { IfErr result (RefusesOneQuestion (W.contents output.old) (W.contents output.new)) }
     ensures device { IfErr result IsDeviceOrMemory }
     ensures flushed { OnOk result (IsTrue (M.flushed (W.contents output.new))) }
@@ -66,10 +66,8 @@ fn write_shown<M: Machine, W: Write>(
     write_whole::<M, W>(output, bytes.as_slice())
 }
 
-/// Writes what is asked to be shown. It changes nothing.
-///
-/// It fails with the refusal of the caller, with `Store` when the desk is unavailable, and as
-/// `write_shown` does.
+/// Writes what is asked to be shown. It changes nothing. It fails with the refusal of the caller, with
+/// `Store` when the desk is unavailable, and as `write_shown` does.
 pub(crate) fn show<S: Alter + Drop, M: Machine, W: Write>(
     alloc: Global,
     what: What,
@@ -85,8 +83,8 @@ pub(crate) fn show<S: Alter + Drop, M: Machine, W: Write>(
         (record { badge = asker.badge; what = what }) stood
         (W.contents output.old) (W.contents output.new)) desk.old.store desk.new.store) }
     ensures refused { IfErr result (RefusesShow (W.contents output.old) (W.contents output.new)) }
-    ensures due { IsSome asker.badge ⊎ ¬ IsForStaff what → IfErr result (IsDueOn S.Store (λ day. day ≡ asker.day)
-        (record { badge = asker.badge; what = what }) desk.old.store desk.new.store) }
+    ensures due { IsSome asker.badge ⊎ ¬ IsForStaff what → IfErr result (IsDueOn S.Store (λ day.
+        day ≡ asker.day) (record { badge = asker.badge; what = what }) desk.old.store desk.new.store) }
     ensures opened { IfErr result IsOfOpenDesk }
     ensures dated { IfErr result (λ refusal. refusal ≢ Refusal.Clock) }
     ensures same { LeavesDesk S.Store IsSame desk.old.store desk.new.store }

@@ -23,11 +23,10 @@ use sqlite::Alter;
 use std::alloc::Global;
 use std::io::Write;
 
-/// Puts a desk key by its digest, its SHA-256, as one of the staff.
-///
-/// It fails with `Store`.
+/// Puts a desk key by its digest, its SHA-256, as one of the staff. It fails with `Store`.
 fn put_digest<S: Alter>(store: &mut Store<S>, digest: &[u8; 32]) -> Result<(), Refusal>
-    ensures changes { Changes S.Store store.old store.new (with_key digest.now Audience.Staff (desk S.Store store.old)) result }
+    ensures changes { Changes S.Store store.old store.new
+        (with_key digest.now Audience.Staff (desk S.Store store.old)) result }
     ensures refused { IfErr result (λ refusal. refusal ≡ Refusal.Store) }
 {
     match store.put_key(digest, Audience::Staff) {
@@ -36,28 +35,27 @@ fn put_digest<S: Alter>(store: &mut Store<S>, digest: &[u8; 32]) -> Result<(), R
     }
 }
 
-/// Puts a desk key as one of the staff.
-///
-/// It fails with `Store`.
+/// Puts a desk key as one of the staff. It fails with `Store`.
 fn put_staff<S: Alter>(store: &mut Store<S>, key: &[u8]) -> Result<(), Refusal>
-    ensures changes { Changes S.Store store.old store.new (with_key (sha256 key.now) Audience.Staff (desk S.Store store.old)) result }
+    ensures changes { Changes S.Store store.old store.new
+        (with_key (sha256 key.now) Audience.Staff (desk S.Store store.old)) result }
     ensures refused { IfErr result (λ refusal. refusal ≡ Refusal.Store) }
 {
     put_digest(store, &Sha256::digest(key))
 }
 
-/// Puts a desk key as one of the staff of the desk in the file of a store.
-///
-/// It fails with `NotADesk`, `Version`, `Inconsistent` and `Store`, and with `NoMemory`.
+/// Puts a key of the staff in the desk in the file of a store. It fails as `open_store` and `put_staff` do.
 fn put_in_store<M: Machine>(alloc: Global, ask: StaffKeyAsk, machine: &mut M) -> Result<(), Refusal>
-    ensures put { OnOk result
-        (EndsWith ((M.seen machine.old).stands ask.entry.store.now) (M.seen machine.new).left (PutsStaff M.Disk.Store (sha256 ask.entry.key.now))) }
-    ensures left { IfErr result
-        (LeavesStaffKey M.Disk.Store (M.seen machine.old).left ((M.seen machine.old).stands ask.entry.store.now) (M.seen machine.new).left (sha256 ask.entry.key.now)) }
-    ensures opens { IfErr result (NamesOpening M.Disk.Store ((M.seen machine.old).stands ask.entry.store.now) (M.seen machine.new).left) }
+    ensures put { OnOk result (EndsWith ((M.seen machine.old).stands ask.entry.store.now)
+        (M.seen machine.new).left (PutsStaff M.Disk.Store (sha256 ask.entry.key.now))) }
+    ensures left { IfErr result (LeavesStaffKey M.Disk.Store (M.seen machine.old).left ((M.seen
+        machine.old).stands ask.entry.store.now) (M.seen machine.new).left (sha256 ask.entry.key.now)) }
+    ensures opens { IfErr result (NamesOpening M.Disk.Store ((M.seen machine.old).stands ask.entry.store.now)
+        (M.seen machine.new).left) }
     ensures refused { IfErr result IsOpenRefusal }
     ensures back { GivesBack (M.seen machine.old).shows (M.seen machine.old).left (M.seen machine.new).left }
-    ensures there { OnEnded result (HasBoth (M.seen machine.old).shows ((M.seen machine.old).stands ask.entry.store.now) (M.seen machine.new).left) }
+    ensures there { OnEnded result (HasBoth (M.seen machine.old).shows
+        ((M.seen machine.old).stands ask.entry.store.now) (M.seen machine.new).left) }
     ensures asked { AsksPath (M.seen machine.old).wanted ask.entry.store.now (M.seen machine.new).wanted }
     ensures frame { OpensStore (M.seen machine.old) (M.seen machine.new) }
 {
@@ -67,20 +65,18 @@ fn put_in_store<M: Machine>(alloc: Global, ask: StaffKeyAsk, machine: &mut M) ->
     put
 }
 
-/// Puts a desk key as one of the staff of the desk in the file of a store, says that it is done, and flushes the
-/// output. It asks for no key of the staff.
-///
-/// It fails with `NotADesk`, `Version`, `Inconsistent` and `Store` when it cannot open the desk or put the key, with
-/// `NoMemory`, and with `Device` when a write or the flush fails; the key stands then.
+/// Puts a key of the staff in the desk of a store's file, says that it is done, and flushes. It asks for no
+/// staff key. It fails as `put_in_store` does, and with `Device` if a write or flush fails; the key stays.
 pub(crate) fn staff_key<W: Write, M: Machine>(
     alloc: Global,
     ask: StaffKeyAsk,
     output: &mut W,
     machine: &mut M,
 ) -> Result<(), Refusal>
-    ensures does { DoesStaffKey M.Disk.Store (M.seen machine.old) (M.seen machine.new) (W.contents output.old) (W.contents output.new)
-        ask.entry (whole result) }
-    ensures refused { IfErr result (λ refusal. RefusesStaffKey refusal (W.contents output.old) (W.contents output.new)) }
+    ensures does { DoesStaffKey M.Disk.Store (M.seen machine.old) (M.seen machine.new) (W.contents output.old)
+        (W.contents output.new) ask.entry (whole result) }
+    ensures refused { IfErr result
+        (λ refusal. RefusesStaffKey refusal (W.contents output.old) (W.contents output.new)) }
     ensures flushed { OnOk result (IsTrue (M.flushed (W.contents output.new))) }
     ensures back { GivesBack (M.seen machine.old).shows (M.seen machine.old).left (M.seen machine.new).left }
 {
