@@ -1,7 +1,8 @@
 -- What a command does: one step from world to world, by what is asked of it.
 --
 -- `before` and `after` are what the machine shows before the command and after it, `io` is what it read and wrote, and
--- `result` is how it ended: all is done; or a part is, since a row was refused or an image is changed; or it was refused.
+-- `result` is how it ended: well, where all is done, or a part is, since a row was refused or an image is changed; or it was
+-- refused.
 -- `g` is what a connection shows, and `told` and `coming` are what a door shows. A command that is refused ends with the
 -- status of its refusal and writes its line; else the status is 1 where a part is done, and 0 where all is.
 use Rattle.std.specs.Prelude.{◌≡◌, ◌⊎◌, ⊤, ℕ, ℤ, Bool, IfErr, IfOk, IfSome, IsErr, IsSomeAnd, IsTrue, List, MatchResult, Ok, OnErr, OnOk, Option, Result, Err, false, true}
@@ -168,8 +169,10 @@ module _ {S D : Type 0} (g : Ghosts S) (before after : World S D) where
       pub opening : IfErr result (NamesOpeningAt ask.store.now)
 
     -- `import` takes in the images of a sheet at a moment, row by row, and writes the line of each, which says what became of
-    -- it; or it names why it ends before the last, and the lines say what became of the rows before. With `--dry-run` the lines say what would become of the rows, and the desk
-    -- is as it was; with `--keep-going` it goes on past files that it cannot read. Nothing else changes.
+    -- it; or it names why it was refused, and the lines say what became of the first rows, perhaps of all. With `--dry-run` the
+    -- lines say what would become of the rows, and the desk is as it was; with `--keep-going` a row whose file is not read has
+    -- a line, and the next one follows. `rows` and `stopped` tell of rows while the connection is open at the end, `tells` of
+    -- the form of the lines in any case. Nothing else changes.
     pub record DoesImport (ask : ImportAsk) (way : Way) (result : Result Done Refusal) : Type 0 where
       pub frame : ChangesStore before after
       pub store : UsesStore ask.store.now false false result
@@ -201,7 +204,8 @@ module _ {S D : Type 0} (g : Ghosts S) (before after : World S D) where
       pub lent : WritesOnceLent before.shows after.limits out written
       pub on_time : ask.is_trusting ≡ false → Keeps out written ⊎ ServesOnTime g before.clock ask.zone (before.stands ask.store.now) after.left
 
--- what a command does
+-- what a command does: `File` is `cat`, `Files` is `list`, `Extract` is `files`, and `Sift` is `import` with `--dry-run`,
+-- `--keep-going` or both
 abbrev pub Does : {S D : Type 0} → Ghosts S → (D → Option VisitsSoFar) → (D → Option (List Coming)) → World S D → World S D → Io → Ask → Result Done Refusal → Type 0
 Does g told coming before after io (File ask) result = DoesCat g before after io.out io.written io.input ask result
 Does g told coming before after io (Files ask) result = DoesList g before after io.out io.written io.input ask result
@@ -230,7 +234,7 @@ pub record EndsEarly {S D : Type 0} (before after : World S D) (io : Io) (result
   pub same : after ≡ before
   pub kept : Keeps io.out io.written
 
--- What the words tell was done, or it was refused before it began. Where they name a file with a key or with clocks, or a
+-- The command that the words tell did what `Does` says. Where they name a file with a key or with clocks, or a
 -- day, it is what they would tell with the key, the clocks and the first moment in its place.
 pub record DoesTold {S D : Type 0} (g : Ghosts S) (told : D → Option VisitsSoFar) (coming : D → Option (List Coming)) (before after : World S D) (io : Io)
     (words : Told) (result : Result Done Refusal) : Type 0 where
@@ -238,7 +242,7 @@ pub record DoesTold {S D : Type 0} (g : Ghosts S) (told : D → Option VisitsSoF
   pub whole : Completes before.files io.input words command
   pub does : Does g told coming before after io command result
 
--- A run that was told this ended with the status and the line of what became of it.
+-- A run that was told this ended with the status and the line of a result: that of its command, or of one that ended early.
 pub record Runs {S D : Type 0} (g : Ghosts S) (told : D → Option VisitsSoFar) (coming : D → Option (List Coming)) (before after : World S D) (io : Io)
     (errors said : Option (List ℕ)) (words : Told) (status : ℕ) : Type 0 where
   pub result : Result Done Refusal

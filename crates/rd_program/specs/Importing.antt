@@ -1,4 +1,4 @@
--- What the command `import` gives.
+-- The lines that `import` writes, and why it fails.
 use Rattle.std.specs.Prelude.{◌≡◌, ◌⊎◌, ℕ, Bool, List, Option, All, ◌++◌, codes, false, true}
 use Rattle.std.specs.Fmt.{decimal}
 use Rattle.std.specs.Io.KnownBytes.{Appends, Keeps}
@@ -84,7 +84,7 @@ abbrev pub RefusesRow : Option (List ℕ) → Option (List ℕ) → Refusal → 
 RefusesRow old new refusal = IsRowRefusal refusal × GainsFrontOfLine old new
 
 -- Why a run over the rows of a sheet ends early, and what was written then: the lines of the rows before a row of
--- another length, or those of the rows before a failure and a front part of the next.
+-- another length; or, where the device, memory or the store failed, a front part of the lines of rows, perhaps all.
 abbrev pub RefusesRows : Option (List ℕ) → Option (List ℕ) → Refusal → Type 0
 RefusesRows old new refusal = ((refusal ≡ BadSheet) × GainsLines IsRowLine old new) ⊎ (IsRowRefusal refusal × GainsFront old new)
 

@@ -1,6 +1,5 @@
--- What becomes of the rows of a sheet where files that cannot be read are passed, and where nothing is taken in: the line
--- that is written of each, and the desk after it. Where nothing is taken in, the desks after the first are what the desk
--- would be, and nobody keeps them.
+-- What becomes of the rows of a sheet, in each way of `import`: the line of each, and the desk after it. In a dry run the
+-- desks after the first are what the desk would be, and nobody keeps them.
 use Rattle.std.specs.Prelude.{◌≡◌, ◌⊎◌, ◌+◌, ◌++◌, ℕ, ℤ, All, Bool, Err, IfSome, List, [], ◌∷◌, Ok, Option, Result, Some, false, length, true}
 use Rattle.std.specs.Io.KnownBytes.{Appends, Keeps}
 use Rattle.std.specs.List.{concat}
@@ -56,8 +55,8 @@ pub record SiftsImage (files : List ℕ → Option (List ℕ)) (dry_run : Bool) 
   pub line_is : line ≡ accession_line row.acc (word_by dry_run answer)
   pub fate_is : fate ≡ fate_by answer
 
--- A row with this number, from 1, is bad; or the image that it names is taken in or refused; or its file is not read,
--- which ends the run unless it goes on.
+-- A row with this number, from 1, is bad; or the desk answers about its image; or, where the run goes on after files, its
+-- line says that its file was not read (no clause says that it could not be), and the desk is as it was.
 abbrev pub IsRowSifted : (List ℕ → Option (List ℕ)) → Way → List ℕ → ℤ → ℕ → List (List ℕ) → List ℕ → Fate → Desk → Desk → Type 0
 IsRowSifted files way badge day number fields line fate old new =
     (IsBad fields × ((line ≡ bad_row_line number) × ((fate ≡ Denied) × (new ≡ old))))
@@ -89,7 +88,7 @@ pub record SiftsSheet (files : List ℕ → Option (List ℕ)) (way : Way) (badg
   pub stands : StandsAfter way.dry_run stood left after
   pub gained : Appends out written (concat lines)
 
--- lines were written whole, one after the other, and a front part of this one
+-- lines were written whole, one after the other, and of this one a front part, perhaps nothing or all of it
 pub record CutsLast (lines : List (List ℕ)) (out written : Option (List ℕ)) : Type 0 where
   pub whole : List (List ℕ)
   pub line : List ℕ
@@ -98,8 +97,8 @@ pub record CutsLast (lines : List (List ℕ)) (out written : Option (List ℕ)) 
   pub gained : Appends out told (concat whole)
   pub part : AppendsPart told written line
 
--- The first rows of a sheet are taken so, and then the run ends: the line of each is written, that of the last perhaps in
--- part, and nothing is done about the next row.
+-- The first rows of a sheet, perhaps all, are taken so, and then the run ends: their lines are written, that of the last
+-- perhaps in part, and nothing is done about the rows after them.
 pub record SiftsFront (files : List ℕ → Option (List ℕ)) (way : Way) (badge : List ℕ) (day : ℤ) (sheet : Option (List ℕ)) (out written : Option (List ℕ)) (stood after : Desk) : Type 0 where
   pub rows : List (List (List ℕ))
   pub lines : List (List ℕ)
@@ -124,7 +123,7 @@ SiftsSheetIn g files way badge Days sheet out written done before last =
     × ((day : ℤ) × Days day × SiftsSheet files way badge day sheet out written (fate_of done) stood (desk g last))
 
 -- Where the command does not end well, nothing was taken in and nothing written; or, while the connection is open, the
--- first rows are taken so by the desk that stood, and this one stands after them.
+-- first rows, perhaps all, are taken so by the desk that stood, and this one stands after them.
 abbrev pub StopsSheetIn : {S : Type 0} → Ghosts S → (List ℕ → Option (List ℕ)) → Way → List ℕ → (ℤ → Type 0) → Option (List ℕ) → Option (List ℕ) → Option (List ℕ)
     → Option (Held S) → Option (Held S) → Option (Held S) → Type 0
 StopsSheetIn g files way badge Days sheet out written was stood left =
@@ -139,7 +138,7 @@ abbrev pub TellsFate : {X : Type 0} → ℕ → Bool → Result Response X → O
 TellsFate acc dry_run (Ok answer) out written fate = Appends out written (accession_line acc (word_by dry_run answer)) × (fate ≡ fate_by answer)
 TellsFate acc dry_run (Err fault) out written fate = ⊥
 
--- the line was not written whole; or there was no answer, and nothing was written
+-- a front part of the line was written, perhaps all; or there was no answer, and nothing was written
 abbrev pub CutsFate : {X : Type 0} → ℕ → Bool → Result Response X → Option (List ℕ) → Option (List ℕ) → Type 0
 CutsFate acc dry_run (Ok answer) out written = AppendsPart out written (accession_line acc (word_by dry_run answer))
 CutsFate acc dry_run (Err fault) out written = Keeps out written
@@ -154,7 +153,7 @@ pub record SiftsOne {S : Type 0} (g : Ghosts S) (Gains : Option (List ℕ) → O
       → (last : Desk) × IsRowSifted files way badge day number fields line fate mid last × StandsBeside next (desk g before) last)
   pub wet : way.dry_run ≡ false → IsOpen g after → IsRowSifted files way badge day number fields line fate (desk g before) (desk g after)
 
--- Nothing was done about a row, and nothing written of it; or its line was not written whole.
+-- Nothing was done about a row, and nothing written of it; or a front part of its line was written, perhaps all.
 abbrev pub StopsOne : {S : Type 0} → Ghosts S → (List ℕ → Option (List ℕ)) → Way → List ℕ → ℤ → ℕ → List (List ℕ) → List Shelved → List Shelved → Option (List ℕ) → Option (List ℕ)
     → Held S → Held S → Type 0
 StopsOne g files way badge day number fields shelf next out written before after =
