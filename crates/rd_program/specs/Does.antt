@@ -62,7 +62,7 @@ pub record Io : Type 0 where
   pub out : Option (List ℕ)
   pub written : Option (List ℕ)
 
--- the record of these
+-- what stands on standard input, and what standard output had before and has after
 abbrev pub io_of : Option (List ℕ) → Option (List ℕ) → Option (List ℕ) → Io
 io_of input out written = record { input = input; out = out; written = written }
 

@@ -9,7 +9,7 @@ ghost use Rattle.rd_program.specs.Showing.{IsShowRefusal};
 use rd_commands::Refusal;
 use rd_desk::{Outcome, Refusal as DeskRefusal, Response, Unavailable};
 
-/// The refusal of a command that shows something, by the desk's reason; `Store` for one that none can have.
+/// The refusal of a command that shows something, by the desk's reason; `Store` for one it cannot have.
 fn refusal_to_show(reason: DeskRefusal) -> Refusal
     ensures is { result ≡ spec.refusal_to_show reason }
     ensures of { IsShowRefusal result }
@@ -44,7 +44,7 @@ fn if_to_show(answer: Response) -> Result<Response, Refusal>
     }
 }
 
-/// The answer to show, if there is one. It fails with the caller's refusal, and with `Store` without one.
+/// The answer to show. It fails with the caller's refusal, or with `Store` if there is no answer.
 pub(crate) fn answer_to_show(answer: Result<Response, Unavailable>) -> Result<Response, Refusal>
     ensures is { result ≡ spec.answer_to_show answer }
     ensures of { IfErr result IsShowRefusal }
@@ -55,7 +55,7 @@ pub(crate) fn answer_to_show(answer: Result<Response, Unavailable>) -> Result<Re
     }
 }
 
-/// What a check found, by an answer. It fails with the desk's refusal, and with `Store` if it is of no check.
+/// What a check found, by an answer. It fails with the desk's refusal, and with `Store` for another answer.
 fn outcome_in(answer: &Response) -> Result<Outcome, Refusal>
     ensures is { result ≡ spec.outcome_in answer.now }
     ensures of { IfErr result IsReplyRefusal }

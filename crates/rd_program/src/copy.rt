@@ -40,7 +40,8 @@ fn copy_desk<S: Alter + Drop>(
     }
 }
 
-/// Makes a store's desk in a new file, with sums or without. It fails with `Exists`, `Store` and `NoMemory`.
+/// Makes the desk of a store in a new file, with sums or without. It fails with `Exists` where something is
+/// at the path already, with `Store`, and with `NoMemory`.
 fn copy_to<M: Machine>(
     alloc: Global,
     from: &mut Store<M::Disk>,

@@ -195,7 +195,7 @@ pub fn run<'a, R: Read, W: Write, E: Write, M: Machine>(
     ensures why { why.old.refused ≡ None → IfSome why.new.refused (λ refusal. status_of refusal ≡ result) }
     // What it keeps of the words is what they tell, operands in files and days in place of moments too. It
     // did that, once the files were read, or was refused, with the status and line of that. Where it keeps
-    // none, the words are a mistake, ask for help or the version, or memory ran out, and the machine stays.
+    // nothing, they are a mistake, ask for help or the version, or memory ran out; the machine is as it was.
     ensures told { why.old.told ≡ None → IfSome why.new.told (TellsAll (texts words.entry.now)) }
     ensures so { why.old.told ≡ None → IfSome why.new.told
         (λ told. Runs M.Disk.Store M.Door.told M.Door.coming (M.seen machine.old) (M.seen machine.new)

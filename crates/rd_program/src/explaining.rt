@@ -72,7 +72,8 @@ fn is_port(ask: &Ask, path: &str) -> bool {
     }
 }
 
-/// What the system said of a path; of a new one, that its folder is missing, of a socket, that it is taken.
+/// What the system said of a path: of one that a command makes and that is missing, that its folder is; of
+/// one that is to be a socket and is taken, that something stands there already.
 fn said_of(told: &Told, refused: Refusal, path: &str, said: Said) -> Said {
     match said {
         Said::Missing if is_made(told, refused, path) => Said::NoRoom,
@@ -170,7 +171,7 @@ fn note_uncounted(alloc: Global, ask: &ImageAsk, notes: &mut Notes)
     notes.add(Line::Next(Advice::SaveFirst));
 }
 
-/// Notes that the file of an image has another size than its kind. It reads it once more, if it is ordinary.
+/// Notes that the file of an image has another size than its kind. It reads an ordinary file once more.
 fn note_size<M: Machine>(alloc: Global, ask: &ImageAsk, machine: &mut M, notes: &mut Notes)
     ensures quiet { IsQuiet notes.old notes.new }
     ensures same { machine.new ≡ machine.old }
@@ -353,7 +354,8 @@ fn note_unknown(alloc: Global, beside: &Beside, key: Known, zone: Known, notes: 
     }
 }
 
-/// Notes that a key's file is too long or a zone's is none; or, if nothing else is known, that one may be so.
+/// Notes that a file with a key is too long, and that a file with a zone is none; or, where nothing else is
+/// known, that one may be so which cannot be read again.
 fn note_operands<M: Machine>(
     alloc: Global,
     beside: &Beside,

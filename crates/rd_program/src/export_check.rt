@@ -118,8 +118,8 @@ fn question_day<S: Alter, M: Machine>(
 }
 
 /// Asks an open desk one question, at the moment that the command names, and writes the answer. It fails with
-/// `Clock` when the moment has no day, the clock fails or shows a day more than one before that of a recorded
-/// check, with `Store` when the checks cannot be read, and then as `check` and `show` do.
+/// `Clock` when the moment has no day, or the clock fails or shows a day more than one day before that of a
+/// recorded check, with `Store` when the checks cannot be read, and then as `check` and `show` do.
 fn tell_asked<S: Alter + Drop, W: Write, M: Machine>(
     alloc: Global,
     ask: &OneQuestionAsk,

@@ -45,7 +45,8 @@ struct Giver {
     day: i32,
 }
 
-/// Has a desk take in the image of a row. It fails with `Unavailable` if the store fails or memory runs out.
+/// Asks a desk to take in the image of a row, and gives its answer. It fails with `Unavailable` when the
+/// store fails or memory runs out.
 fn put_image<S: Alter + Drop>(
     alloc: Global,
     row: SheetRow,
@@ -170,7 +171,8 @@ fn fate_by(answer: &Response) -> Fate
     }
 }
 
-/// A desk's answer to a row's image, taken in, or as if after the earlier rows. It fails as `put_image` does.
+/// What a desk answers that is asked to take in the image of a row, or, in a dry run, what it would answer
+/// after the earlier rows. It fails as `put_image` does.
 fn answer_to_row<M: Machine>(
     alloc: Global,
     row: SheetRow,
@@ -379,7 +381,7 @@ fn import_rows<W: Write, M: Machine>(
     Err(Refusal::NoMemory)
 }
 
-/// How the command ends, by what became of all rows. It fails with `Device` when a row's file was not read.
+/// How the command ends, by what became of all rows. It fails with `Device` if a row's file was not readable.
 fn ended_by(fate: Fate) -> Result<Done, Refusal>
     ensures ended { IfOk result (λ done. fate ≡ spec.fate_of done) }
     ensures lost { IfErr result (λ refusal. (refusal ≡ Refusal.Device) × (fate ≡ Fate.Lost)) }

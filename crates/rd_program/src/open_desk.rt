@@ -154,7 +154,7 @@ pub(crate) fn visit_day<S: Alter, M: Machine>(
     }
 }
 
-/// Whether an open desk has a check of a later day than the next. It changes nothing, and fails with `Store`.
+/// Whether a desk has recorded a check more than one day later. It changes nothing. It fails with `Store`.
 fn is_behind<S: Alter>(day: i32, desk: &mut Desk<S>) -> Result<bool, Refusal>
     requires day { IsDay day }
     ensures keeps { Keeps S.Store desk.old.store desk.new.store }

@@ -83,7 +83,8 @@ pub(crate) fn zone_from<M: Machine>(
 /// A moment without a day, which a desk refuses with `Clock`.
 const WITHOUT_A_DAY: i64 = i64::MAX;
 
-/// The first moment of a day in a zone, in seconds since 1970-01-01T00:00:00 UTC; one without a day if none.
+/// The first moment at which the clocks of a zone show a day, counted from 1970-01-01, in seconds since
+/// 1970-01-01T00:00:00 UTC; a moment without a day where they never show it.
 pub(crate) fn moment_of_day(day: i32, zone: &Zone) -> i64
     ensures { IsMomentOf day zone.now result }
 {
