@@ -1,8 +1,8 @@
 // One disk: its title, what may be read of it, and its directory as its own machine shows it.
 import { askStaff } from "./about.js";
 import { allDisks, familyOf, known, lastShown, mayRead, nameOfDisk, nameOfFile, typeWords } from "./room.lists.js";
-import { button, citation, closedWords, filesOf, link, neighbours, numberOf } from "./room.parts.js";
-import { permission, quoting, rulesOf } from "./room.parts.js";
+import { button, citation, closedWords, deedWords, filesOf, link, neighbours } from "./room.parts.js";
+import { numberOf, permission, quoting, rulesOf } from "./room.parts.js";
 import { directoryScreen } from "./screen.js";
 import { askObject, box, cell, counted, element, kindWords, loaded, refusal, row, table } from "./shared.js";
 import { noteOf } from "./titles.js";
@@ -71,7 +71,7 @@ export async function showDisk(number) {
   Object.assign(list, { id: "files", className: "files" });
   const none = element("p", "There is no file on it that you may see.", { className: "callout" });
   const rules = files.length ? `What decides here: ${rulesOf(files)}. ` : "";
-  const words = `${rules}Deed ${deed} is the paper by which the disk came to the museum. `;
+  const words = `${rules}${deedWords(deed)}`;
   const staff = askStaff("this disk", `Disk ${accession}: ${title}`);
   const why = box("p", "quiet", words, staff);
   closedWords(accession, files).then((closed) => closed && why.before(box("p", "callout", `${closed} `, staff)));

@@ -12,17 +12,10 @@ import { cbmText, cpmText, hexText, isInSmall, petsciiText, wordStarText } from 
 // A window in which a line of bytes is short.
 const NARROW = matchMedia("(max-width: 42rem)");
 
-// The bytes on show, as a download, until the view changes; and what shows them anew at another width of the window.
-let download = null;
+// What shows the bytes anew at another width of the window.
 let showAnew = () => {};
 
-NARROW.addEventListener("change", () => showAnew());
-
-function forgetDownload() {
-  if (download !== null) URL.revokeObjectURL(download);
-  download = null;
-  showAnew = () => {};
-}
+NARROW.addEventListener("change", () => part("bytes") && showAnew());
 
 // The ways to show bytes: an id and a word of each one's button, what to say of it, and its text or its picture.
 function viewsOf(kind, bytes) {
@@ -117,7 +110,8 @@ function factsOf({ kind, accession, file, bytes, digest, files }) {
   const disk = box("span", "", link(nameOfDisk(accession), accession), numberOf(accession));
   const inUser = file.user ? `, of user ${file.user}` : "";
   const blocks = kind === "cpm8" ? counted(bytes.length / 128, "record") : counted(blocksOf(bytes.length), "block");
-  const words = (kind !== "cpm8" && pictureIn(bytes)?.words) || typeWords(kind, file);
+  const known = basicListing(bytes, false) ? "a BASIC program" : pictureIn(bytes)?.words;
+  const words = (kind !== "cpm8" && known) || typeWords(kind, file).split(",")[0];
   const pairs = {
     Disk: disk,
     Place: `file ${place} of ${files.length} on its list, at slot ${file.slot} of the directory${inUser}`,
@@ -148,12 +142,13 @@ async function copiesOf(place, digest, words) {
 export async function showFile(number, slot) {
   const accession = Number(number);
   const listing = await askObject(`/images/${accession}`);
-  const bytes = new Uint8Array(await (await ask(`/images/${accession}/files/${slot}`)).arrayBuffer());
   const [{ kind }, files] = [listing, filesOf(listing)];
   const file = files.find((one) => one.slot === Number(slot));
+  const heading = file && nameOfFile(kind, file);
+  const named = (fault) => Promise.reject(Object.assign(fault, { heading }));
+  const bytes = new Uint8Array(await (await ask(`/images/${accession}/files/${slot}`).catch(named)).arrayBuffer());
   if (file === undefined) throw new Refused("changed", {});
   const digest = await digestOf(bytes).catch(() => "");
-  const heading = nameOfFile(kind, file);
   const views = viewsOf(kind, bytes);
   const name = fileName(kind, heading, file.type);
   const save = element("a", "Download", { id: "download", className: "button primary", download: name });
@@ -166,15 +161,14 @@ export async function showFile(number, slot) {
   const facts = factsOf({ kind, accession, file, bytes, digest, files });
   const same = await copiesOf(`${accession}/${slot}`, digest, `${heading} (${nameOfDisk(accession)})`);
   const ways = box("div", "cluster", save, ...quotes.buttons);
-  const aside = box("aside", "card", facts, same, ways, quotes.says, question);
+  const aside = box("aside", "card", facts, same, ways, quotes.says, box("p", "quiet", question));
   aside.ariaLabel = "About the file";
   const image = element("div", null, { id: "picture", className: `monitor ${kind === "cpm8" ? "cpm8" : "d64"}` });
   const says = element("p", null, { id: "shown-as", className: "quiet" });
   const stage = element("pre", null, { id: "bytes", tabIndex: 0, role: "region", ariaLabel: "What is in the file" });
   const main = box("div", "", choices(views), says, image, stage);
   const fill = () => {
-    download = URL.createObjectURL(new Blob([bytes], { type: "application/octet-stream" }));
-    save.href = download;
+    save.href = URL.createObjectURL(new Blob([bytes], { type: "application/octet-stream" }));
     showBytes(views, views[0]);
   };
   const readable = files.filter(mayRead);
@@ -182,5 +176,5 @@ export async function showFile(number, slot) {
   const others = neighbours("file", readable, readable.indexOf(file), wayTo);
   const title = `${heading}, ${nameOfDisk(accession)}`;
   const parts = [box("div", "split", main, aside), others];
-  return { heading, isName: true, title, parts, fill, leave: forgetDownload };
+  return { heading, isName: true, title, parts, fill, leave: () => URL.revokeObjectURL(save.href) };
 }

@@ -1,7 +1,7 @@
 // The home of the page for readers: a search, facets with counts, an order, a list or screens, all in the address.
 import { welcome } from "./about.js";
 import { allDisks, allFiles, familyOf, found, kept, known, letterOf, mayRead, nameOfDisk } from "./room.lists.js";
-import { nameOfFile, plain, showsNow, wordsOf } from "./room.lists.js";
+import { nameOfFile, plain, showsNow, typeWords, wordsOf } from "./room.lists.js";
 import { closedWords, filesOf, link, permission, ways } from "./room.parts.js";
 import { askObject, box, counted, element, kindWords, loaded, part } from "./shared.js";
 import { noteOf } from "./titles.js";
@@ -64,18 +64,18 @@ function choicesBelow({ kinds, types, all }, choices) {
   const sum = [...kinds.values()].reduce((before, one) => before + one, 0);
   const most = [...types].sort(([, one], [, other]) => other - one).slice(0, MOST_TYPES).map(([type]) => type);
   const shown = most.includes(choices.type) || !choices.type ? most : [...most, choices.type];
-  const typeWords = Object.fromEntries(shown.map((type) => [type, TYPES[type] ?? type]));
+  const names = Object.fromEntries(shown.map((type) => [type, TYPES[type] ?? type]));
   const bar = box("div", "bar", chips("Disks", "kind", KINDS, choices, kinds.set("", sum)));
   bar.append(chips("Sort by", "sort", SORTS, choices), chips("Show as", "as", LOOKS, choices));
-  if (shown.length) bar.append(chips("Files", "type", { "": "All", ...typeWords }, choices, types.set("", all)));
-  const [ariaLabel, open] = ["Kinds, order and types", HAS_ROOM.matches || part("choices")?.open === true];
+  if (shown.length) bar.append(chips("Files", "type", { "": "All", ...names }, choices, types.set("", all)));
+  const [ariaLabel, open] = ["Filter and sort", HAS_ROOM.matches || part("choices")?.open === true];
   return Object.assign(box("details", "", element("summary", ariaLabel), bar), { id: "choices", ariaLabel, open });
 }
 
-// How many files of some a reader may read, where this is known.
+// How many files of some a reader may read, where this is known and not all.
 function inSight(count, read) {
   const [open, listed] = [read, count - read].map((one) => one?.toLocaleString("en"));
-  return `${counted(count, "file")}${read === undefined ? "" : `: ${open} to read, ${listed} only listed`}`;
+  return `${counted(count, "file")}${(read ?? count) === count ? "" : `: ${open} to read, ${listed} only listed`}`;
 }
 
 function diskCard(disk, matches, files, machine, words) {
@@ -90,7 +90,7 @@ function diskCard(disk, matches, files, machine, words) {
     way.append(marked(nameOfFile(kind, file), words));
     const { word, colour } = permission(file);
     const badge = colour === "good" ? "" : element("span", word, { className: `badge ${colour}` });
-    return box("li", badge && "closed", way, element("small", ` ${file.type} `), badge);
+    return box("li", badge && "closed", way, element("small", ` ${typeWords(kind, file)} `), badge);
   });
   const more = matches.length - MOST_MATCHES;
   if (more > 0) named.push(element("li", `and ${counted(more, "more file")}`));
@@ -126,9 +126,9 @@ function letters(hits, choices) {
 }
 
 function summary(hits, counts, { q, type, kind }, isRead) {
-  const disks = counted(hits.length, "disk");
+  const [disks, files] = [counted(hits.length, "disk"), counts.files ? ` and ${counted(counts.files, "file")}` : ""];
   if ((q || type) && !isRead) return "Reading the list of all files.";
-  if (hits.length && (q || type)) return `Found: ${disks} and ${counted(counts.files, "file")}.`;
+  if (hits.length && (q || type)) return `Found: ${disks}${files}.`;
   if (hits.length) return `${disks} with ${inSight(counts.files, isRead ? counts.read : undefined)}.`;
   const other = wordsOf(q).length > 1 ? "fewer words" : "another word";
   const ways = [q && other, type && "all types of files", kind && "all kinds of disks"].filter(Boolean);

@@ -2,7 +2,7 @@
 import { askStaff, house, readAbout, room } from "./about.js";
 import { choicesIn, showHome } from "./room.home.js";
 import { allDisks, nameOfDisk } from "./room.lists.js";
-import { button, link } from "./room.parts.js";
+import { button, deedWords, link } from "./room.parts.js";
 import { Refused, box, keyInUse, listenForKey, loaded, part, refusal, useNow } from "./shared.js";
 import { readTitles } from "./titles.js";
 
@@ -54,10 +54,11 @@ function refusedView({ accession, slot }, fault) {
   }
   const disk = accession && nameOfDisk(Number(accession));
   const of = `Disk ${accession}${slot ? `, slot ${slot}` : ""}: ${disk}`;
-  const ways = box("p", "cluster", accession ? askStaff("it", of) : null);
+  const [, deed] = /^R(\d+)/.exec(fault.said?.rule) ?? [];
+  const ways = box("p", "cluster", deed ? deedWords(deed) : "", accession ? askStaff("it", of) : null);
   ways.append(slot ? link("The other files of this disk", accession) : link("All disks", ""));
-  const heading = slot ? `${disk}, slot ${slot}` : (disk ?? "There is no such place here");
-  return { heading, parts: [refusal(fault), ways] };
+  const heading = fault.heading ?? (slot ? `${disk}, slot ${slot}` : (disk ?? "There is no such place here"));
+  return { heading, isName: heading === fault.heading, parts: [refusal(fault), ways] };
 }
 
 // A title for the window; that of the home says what was looked for.

@@ -10,9 +10,10 @@ const PACE = 500;
 const KEPT = 300000;
 // What the types of files mean, in plain words.
 const TYPES = {
-  PRG: "program", SEQ: "text or data", USR: "user file", REL: "records", DEL: "dividing line", OTHER: "unknown",
-  ASM: "assembler source", BAS: "BASIC", COM: "command", DAT: "data", DOC: "text", FOR: "Fortran", HEX: "hex file",
-  LIB: "library", MAC: "assembler source", OVR: "overlay", PAS: "Pascal", PRN: "printout", SUB: "batch", TXT: "text",
+  PRG: "program, often BASIC", SEQ: "text or data", USR: "user file", REL: "records", DEL: "dividing line",
+  OTHER: "unknown", ASM: "assembler source", BAS: "BASIC", COM: "command", DAT: "data", DOC: "text", FOR: "Fortran",
+  HEX: "hex file", LIB: "library", MAC: "assembler source", OVR: "overlay", PAS: "Pascal", PRN: "printout",
+  SUB: "batch", TXT: "text",
 };
 
 let lists = {};
@@ -88,12 +89,14 @@ async function readFiles(progress) {
 
 export const allFiles = (progress) => kept("files", () => readFiles(progress));
 
-// Words to look for, each in its spellings, and these as their pieces between stars. Little words count only alone.
+// Words to look for, each in its spellings, and these as their pieces between stars. Little words count only alone, and
+// the s of a plural not at all.
+const PLURAL = /(?<=[a-z]{2}[a-hj-rtv-z])s$/i;
 const LITTLE = /^(an?|and|at|by|for|from|in|of|on|or|the|to|with)$/i;
 export function wordsOf(text = "") {
   const [all, few] = [text.match(/\S*[^\s*]\S*/g) ?? [], (word) => !LITTLE.test(word)];
   const words = all.some(few) ? all.filter(few) : all;
-  return words.map((word) => spellings(word).map((way) => way.split("*").filter(Boolean)));
+  return words.map((word) => spellings(word.replace(PLURAL, "")).map((way) => way.split("*").filter(Boolean)));
 }
 
 // Whether a text has the pieces of a word one after the other, in one of its spellings.
@@ -136,7 +139,6 @@ const ORDERS = {
   number: (one, other) => one.accession - other.accession,
   files: (one, other) => other.files - one.files,
 };
-const NONE = [];
 
 export const familyOf = (kind) => (kind === "cpm8" ? "cpm8" : "d64");
 
@@ -152,7 +154,7 @@ export async function found(disks, files, { q, type, kind, sort }) {
     const missing = words.filter((word) => !inDisk(diskText(disk), word));
     const isIn = (file) => (word) => has(file.text, word);
     const isNamed = (file) => (missing.length ? missing.every(isIn(file)) : words.some(isIn(file)));
-    const all = files?.get(disk.accession) ?? NONE;
+    const all = files?.get(disk.accession) ?? [];
     const named = words.length ? all.filter(isNamed) : all;
     const isOfKind = !kind || familyOf(disk.kind) === kind;
     if (isOfKind) counts.all += named.length;

@@ -50,6 +50,9 @@ export function rulesOf(files) {
   return [...labels].map(([label, count]) => `${meaning(label)} (${label})${about(count)}`).join(", ");
 }
 
+// What the deed is whose number stands in a rule.
+export const deedWords = (deed) => `Deed ${deed} is the paper by which the disk came to the museum. `;
+
 // What lies between two requests of many.
 export const pause = (time = 100) => new Promise((go) => setTimeout(go, time));
 
@@ -104,5 +107,5 @@ export function neighbours(what, all, at, wayTo) {
   const back = before ? link(`\u2190\u00a0${before.words}`, before.place, { rel: "prev" }) : element("span", "");
   const on = after ? link(`${after.words}\u00a0\u2192`, after.place, { rel: "next" }) : element("span", "");
   const where = element("span", `${at + 1} of ${counted(all.length, what)}`, { className: "quiet" });
-  return ways(`Other ${what}s`, "neighbours", back, where, on);
+  return all.length > 1 ? ways(`Other ${what}s`, "neighbours", back, where, on) : "";
 }

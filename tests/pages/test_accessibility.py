@@ -59,7 +59,6 @@ document.addEventListener("focusin", ({ target }) => {
 });
 return due.length;
 """
-# How often the Tab key is pressed at most.
 MOST_TABS = 400
 # What has to have a name, by the roles that the browser tells a screen reader.
 NAMED = {*"link button textbox searchbox spinbutton combobox checkbox Date DisclosureTriangle".split(),
@@ -94,7 +93,6 @@ def view(request, driver, tmp_path_factory):
         yield page
 
 def test_each_control_has_a_name_of_its_own(view):
-    """A name as the browser gives it to a screen reader."""
     nodes = [node for node in view.cdp("Accessibility.getFullAXTree")["nodes"] if not node["ignored"]]
     due = [node for node in nodes if node["role"]["value"] in NAMED]
     assert [node for node in due if not node["name"]["value"].strip()] == []

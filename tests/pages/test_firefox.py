@@ -53,7 +53,6 @@ class Marionette:
 
 @pytest.fixture(scope="module")
 def driver(tmp_path_factory):
-    """Firefox, with a profile and a home of its own."""
     folder, port = tmp_path_factory.mktemp("firefox"), free_port()
     settings = {**SETTINGS, "marionette.port": port, "browser.download.dir": str(folder), **dict.fromkeys(OFF, False)}
     (folder / "user.js").write_text("\n".join(f"user_pref({json.dumps(one)[1:-1]});" for one in settings.items()))

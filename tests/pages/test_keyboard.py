@@ -26,7 +26,6 @@ def test_reader_finds_reads_and_downloads_a_file(reader):
     wait_for("the link by which the reader left with the focus", lambda: reader.focused() == "GUIDE")
 
 def agree(page):
-    """Agrees to what the page asks, once it asks."""
     page.wait(lambda state: state["sure"], "a question")
     reach(page, page.text("#sure [value=go]"), Keys.ENTER)
     return page.wait(lambda state: not state["busy"] and not state["sure"], "the outcome")

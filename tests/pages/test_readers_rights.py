@@ -42,6 +42,7 @@ def test_caller_sees_the_disks_of_their_audience(reader, key, asks, disks):
     for place, rule in rules.items():
         refusal = [NOT_READ, "Refusal: denied", f"Rule: {rule}"]
         assert reader.go(place)["refusal"] == ([] if is_staff and place != "1007/0" else refusal)
+        assert ("Deed 7 is the paper by which" in reader.text("#view")) == (rule[0] == "R" and not is_staff)
     assert reader.find("welcome")["disks"] == (["Disk 1001", "Disk 1004"] if is_staff else ["Disk 1001"])
 
 def test_only_a_file_that_may_be_read_has_a_link_and_others_say_why(museum, reader):
@@ -62,7 +63,7 @@ def test_only_a_file_that_may_be_read_has_a_link_and_others_say_why(museum, read
     assert shown["rows"][1] == ["-" * 16, "DEL dividing line", "", why]
     assert shown["links"] == ["#/1002/0"] * 2 + ["#/1002/2"] * 2
     found = [reader.load() and reader.find(name) and reader.texts(".matches li") for name in ("welcome", "logbook")]
-    assert found == [["WELCOME.TXT TXT Listed only"], ["LOGBOOK SEQ Damaged"]]
+    assert found == [["WELCOME.TXT text Listed only"], ["LOGBOOK text or data Damaged"]]
     closed = ["1 more file is closed to you, name and all: takedown 1 of disk 1003 (T1003.1)."]
     reader.wait(lambda state: reader.texts(".closed > a[href='#/1003']") == closed, f"{closed} of what was found")
 
@@ -77,6 +78,7 @@ def test_refusal_says_why_whom_to_ask_and_where_to_go_on(reader):
         assert (staff in reader.text("#view")) == (refusal != ["Refusal: no-route"]), place
         reader.named("link", way).click()
         assert reader.read(lambda state: state["here"] != f"#/{place}")["refusal"] == [], place
+    assert [reader.go(place)["heading"] for place in ("1003/0", "1001/9")] == ["LOGBOOK", "Disk 1001, slot 9"]
 
 def test_desk_that_has_nothing_or_does_not_answer_is_said(museum, reader):
     wanted = {429: "You ask too often. Wait a little, and try again.", 503: "The desk cannot answer now. Try again.",
@@ -91,7 +93,6 @@ def test_desk_that_has_nothing_or_does_not_answer_is_said(museum, reader):
     assert reader.load() and reader.text("#view") == "There is no disk of which you may see a file."
 
 def test_file_that_was_opened_in_between_is_not_shown(museum, reader):
-    """The file comes though the listing before it has none."""
     museum.rules["T1001"] = {1: museums.rule(1, "deny", ["public"], {"slot": 0})}
     reader.door.before = lambda method, path: museum.rules["T1001"].clear() if "/files/" in path else None
     assert reader.go("1001/0")["refusal"] == ["What you may see has just changed. Try again."]

@@ -80,7 +80,6 @@ WELCOME = model_disks.read("cpm8", bytes_of("images", "welcome.img")).files[0].d
 FILES = [("HELLO", "PRG", BASIC), ("%CC%C5%D4%D4%C5%D2", "SEQ", GRAPHIC), ("TOUR", "REL", None),
          *((name, "USR", b"<IMG SRC=X ONERROR=1>\r") for name in HARMFUL), ("DATA", "PRG", DATA)]
 GIVEN = [(name, data) for name, _, data in FILES if data is not None]
-# What a file is called where it is saved.
 SAVED_AS = ["HELLO.prg", "LETTER.seq", "____X.usr", "_CON.usr", "_IMG SRC_X ONERROR_WINDOW.HARMED_1_.usr", "_1_1.usr",
             "a _QUOTED__ NAME.usr", "DATA.prg"]
 
@@ -213,7 +212,7 @@ def test_file_says_what_is_known_of_it_and_how_to_cite_it(reader):
     reader.go("2001/0")
     assert dict(zip(reader.texts("dt"), reader.texts("dd"))) == {
         "Disk": "Disk 2001", "Place": "file 1 of 9 on its list, at slot 0 of the directory",
-        "Type": "PRG, program, of Commodore 1541", "Size": f"{len(BASIC)} bytes, 1 block",
+        "Type": "PRG, a BASIC program, of Commodore 1541", "Size": f"{len(BASIC)} bytes, 1 block",
         "Load address": "$0801 (2049)", "SHA-256": digest(BASIC), "Open by": "rule 20 of deed 9 (R9.20)"}
     of = f", file “HELLO” (slot 0, PRG, {len(BASIC)} bytes, SHA-256 {digest(BASIC)})"
     cite = lambda more: f"The reading room: “Disk 2001”{more}. %s (read on 15 June 2026)."
@@ -230,13 +229,15 @@ def test_disk_with_most_files_and_a_picture_is_found_and_short_on_a_phone_beside
     reader.load()
     assert reader.go("2002")["rows"] == [["LETTER.TXT", "TXT text", str(len(STAR)), "user 3", "Read it"]]
     assert reader.go("?type=picture")["matches"] == ["FILE 0"]
+    assert {"HELLO", "FILE 0"} & {*reader.find("BASIC programs")["matches"]} == {"HELLO"}
     assert reader.go("?sort=files")["disks"][:2] == ["Disk 2003", "Disk 2001"]
     reader.go("2003")
     shown = "const at = document.querySelector('figure canvas'); return [at.role, at.ariaDetailsElements[0].tagName]"
     assert reader.script(shown) == ["img", "TABLE"]
     assert reader.texts(".neighbours > *") == ["", "1 of 6 disks", "Disk 2001\u00a0→"]
-    with reader.phone():
-        assert reader.script("return document.querySelector('table').offsetHeight") <= 1100
+    for width in (360, 640):
+        with reader.phone(width):
+            assert reader.script("return document.querySelector('table').offsetHeight") <= 1100
 
 def zip_says(reader, words):
     wait_for(f"{words!r} beside the button of the zip", lambda: words in "".join(reader.texts("[role=status]")))

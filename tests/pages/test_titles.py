@@ -34,11 +34,13 @@ def test_titles_and_notes_for_readers_are_shown_and_found(reader):
     assert reader.texts("#view > p") == [facts, "Written on the river, 1983 to 1986"]
     assert reader.load() and reader.texts(".neighbours > *")[1] == "2 of 3 disks", "disks in the order of the list"
     wanted = {"FERRY": ferry, "letters river 1984": [], "1986 letters river": ferry, "hush": [], "welcome": ferry,
-              "1001": ferry, "ferryman welcome": ferry, "damaged": [], **dict.fromkeys(UMLAUTS, [HARMFUL[2]])}
+              "1001": ferry, "ferryman welcomes": ferry, "damaged": [], **dict.fromkeys(UMLAUTS, [HARMFUL[2]])}
     for words, disks in wanted.items():
         assert reader.find(words)["disks"] == disks, words
     found = reader.find("a welcome on the river")["matches"]
     assert (found, reader.texts("mark")) == (["WELCOME.TXT"], ["river", "WELCOME"])
+    assert reader.texts(".disk .quiet") == [facts.removesuffix(" for you to see")], "no count of files only listed"
+    assert reader.go("1001") and reader.texts(".neighbours") == [], "no way to others where one disk was found"
 
 def test_titles_for_the_staff_go_before_those_for_all(staff):
     mine = "1001Letters (the ferry company asks for care)"
