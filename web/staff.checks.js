@@ -26,10 +26,9 @@ export function surveyed(survey, more = {}) {
     Directory: own(DIRECTORIES, directory),
   };
   if (map !== null) {
-    const { claimed_free: free, unclaimed_used: used, wrong_counts: wrong } = map;
-    const [inUse, unused] = [counted(free, "block"), counted(used, "block")];
-    pairs.Map = `in use but marked as free: ${inUse}; not in use but marked so: ${unused}; `;
-    pairs.Map += `with a wrong count: ${counted(wrong, "track")}`;
+    const [free, used] = [map.claimed_free, map.unclaimed_used].map((count) => counted(count, "block"));
+    pairs.Map = `in use but marked as free: ${free}; not in use but marked so: ${used}; `;
+    pairs.Map += `with a wrong count: ${counted(map.wrong_counts, "track")}`;
     pairs.Sizes = `${counted(survey.size_differs, "file")} with another size than the directory says`;
   }
   const lines = Object.entries({ ...more, ...pairs });

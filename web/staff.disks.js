@@ -30,10 +30,12 @@ function dumpOf(file) {
   return dump;
 }
 
-// The dumps that can be sent.
-const sendable = () => dumps.filter((dump) => dump.kind && !dump.problem);
+// The dumps that can be sent; and what is left out, with the rows of the sheet that have no dump.
+const sendable = () => dumps.filter((dump) => !dump.problem);
+const missing = () => (sheet ?? []).filter((one) => one.dump === null);
+const leftOut = () => [...dumps.filter((dump) => dump.problem), ...missing()];
 
-const isOpen = (dump) => dump.kind && !dump.problem && !isDone(dump);
+const isOpen = (dump) => !dump.problem && !isDone(dump);
 
 function dumpRow(dump) {
   const { file, kind, digest, accession, deed, says } = dump;
@@ -60,17 +62,15 @@ function mapButton({ file, kind }) {
   return box("div", "", `${file.name} `, made);
 }
 
-function missingRow({ name, kind, sha256, accession, deed }) {
-  const cells = { File: name, Bytes: "", Kind: kindWords(kind), "SHA-256": sha256, Accession: accession, Deed: deed };
-  const says = { Result: "No file of this name is chosen." };
-  const classes = { File: "name", "SHA-256": "digest" };
-  return row(Object.entries({ ...cells, ...says }).map(([label, text]) => cell(label, text, classes[label] ?? "")));
+function missingRow({ name, kind, sha256, accession, deed, problem }) {
+  const [file, digest] = [cell("File", name, "name"), cell("SHA-256", sha256, "digest")];
+  const others = [cell("Accession", accession), cell("Deed", deed), cell("Result", problem)];
+  return row([file, cell("Bytes", ""), cell("Kind", kindWords(kind)), digest, ...others]);
 }
 
 function showDumps() {
   const columns = ["File", "Bytes", "Kind", "SHA-256", "Accession", "Deed", "Result"];
-  const missing = (sheet ?? []).filter((one) => one.dump === null);
-  const rows = [...dumps.map(dumpRow), ...missing.map(missingRow)];
+  const rows = [...dumps.map(dumpRow), ...missing().map(missingRow)];
   part("disks").querySelector(".list").replaceChildren(...(rows.length ? [table("Dumps", columns, rows)] : []));
   part("disks").querySelector(".choices").hidden = rows.length === 0;
 }
@@ -135,10 +135,8 @@ function useSheet() {
 
 function sheetWords() {
   if (sheet === null) return [];
-  const found = sheet.filter((one) => one.dump !== null);
-  const ready = found.filter((one) => one.dump.problem === "").length;
-  const [others, missing] = [found.length - ready, sheet.length - found.length];
-  const words = `${ready} ready, ${others} with another disk than it says, ${missing} without a file`;
+  const [ready, none] = [sheet.filter((one) => one.dump?.problem === "").length, missing().length];
+  const words = `${ready} ready, ${sheet.length - ready - none} with another disk than it says, ${none} without a file`;
   return [`The sheet has ${counted(sheet.length, "row")}: ${words}.`];
 }
 
@@ -146,7 +144,7 @@ function sheetWords() {
 
 // Says of each deed what its disks come under, and asks. Gives the words where nothing is to be sent, else null.
 async function unagreed() {
-  const open = sendable().filter((dump) => !isDone(dump));
+  const [open, out] = [sendable().filter(isOpen), leftOut().length];
   if (open.length === 0) return "There is no disk to put.";
   const deeds = new Map((await readHeld("deeds")).map((one) => [String(one.deed), one]));
   const wanted = [...new Set(open.map(({ deed }) => deed.value))];
@@ -157,7 +155,8 @@ async function unagreed() {
   const count = open.filter(({ accession }) => there.has(accession.value)).length;
   const words = `In use already: ${counted(count, "accession")}. The same disk stays as it is; another one is refused.`;
   const parts = wanted.flatMap((deed) => deedParts(deeds.get(deed), open.filter((dump) => dump.deed.value === deed)));
-  const more = [...(count ? [element("p", words)] : []), ...parts];
+  const others = `Left out: ${out}. The list says why.`;
+  const more = [...(count ? [element("p", words)] : []), ...(out ? [element("p", others)] : []), ...parts];
   const asked = { words: `Put ${counted(open.length, "disk")}?`, more, go: "Put them", keep: "Do not put them" };
   return (await sure(asked)) ? null : "Nothing is sent.";
 }
@@ -180,7 +179,7 @@ async function putDumps(tools) {
   if (words !== null) return words;
   const run = {
     section: "disks",
-    items: sendable(),
+    items: [...sendable(), ...leftOut()],
     word: "disk",
     verb: "put",
     one: putDump,
@@ -188,7 +187,8 @@ async function putDumps(tools) {
       dump.says.textContent = dump.outcome;
     },
     heads: ["Accession", "Kind", "Deed", "SHA-256", "File"],
-    cells: ({ accession, kind, deed, digest, file }) => [accession.value, kind, deed.value, digest, file.name],
+    cells: ({ accession, kind, deed, digest, file, sha256 }) =>
+      sha256 ? [accession, kind, deed, sha256, file] : [accession.value, kind, deed.value, digest, file.name],
   };
   return sendMany(run, tools);
 }
@@ -216,8 +216,7 @@ export function listenForDisks() {
   files.addEventListener("change", () => work("disks", (tools) => chooseFiles(form.elements, tools)));
   count.addEventListener("click", countOn);
   empty.addEventListener("click", () => {
-    dumps = [];
-    sheet = null;
+    [dumps, sheet] = [[], null];
     part("disks").querySelector(".stands").replaceChildren();
     showDumps();
   });

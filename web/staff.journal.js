@@ -120,8 +120,7 @@ async function goOn({ currentTarget: button }) {
 }
 
 function readAnew(tools) {
-  lines = new Lines();
-  read = new AllChanges();
+  [lines, read] = [new Lines(), new AllChanges()];
   return readOlder(tools);
 }
 

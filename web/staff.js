@@ -60,10 +60,7 @@ function showView(focuses) {
   });
 }
 
-// Whether the desk knows a key as the staff's: its keys are for the staff alone.
-const isStaffs = () => ask("/staff/keys");
-
-// Without a key the page loads again, so that nothing is left on it.
+// Without a key the page loads again, so that nothing is left on it. The desk's keys are for the staff alone.
 async function useKey(given) {
   if (given === "") {
     location.reload();
@@ -71,7 +68,7 @@ async function useKey(given) {
   }
   useNow(given);
   part("main").setAttribute("aria-busy", "true");
-  const said = await isStaffs().then(() => element("p", "The desk takes this key."), refusal);
+  const said = await ask("/staff/keys").then(() => element("p", "The desk takes this key."), refusal);
   taken = !said.classList.contains("refused");
   if (!taken) useNow("");
   part("work").hidden = part("places").hidden = part("forget").hidden = !taken;
@@ -88,9 +85,8 @@ function listen() {
     view.append(element("div", null, { className: "stands" }));
   }
   ["rules", "takedowns"].forEach(listenForRules);
-  const looks = [listenForEyes, listenForTimeline, listenForJournal];
-  const starts = [listenForDeeds, listenForDisks, listenForDisk, listenForKeys, listenForChecks, ...looks];
-  starts.forEach((start) => start());
+  const others = [listenForChecks, listenForEyes, listenForTimeline, listenForJournal];
+  for (const start of [listenForDeeds, listenForDisks, listenForDisk, listenForKeys, ...others]) start();
   for (const button of part("sure").querySelectorAll("button")) {
     button.addEventListener("click", () => part("sure").close(button.value));
   }

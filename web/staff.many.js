@@ -19,22 +19,24 @@ function outcomeWords(fault) {
 const isLost = (fault) => fault instanceof Refused && [0, 401, 403, 429, 502, 503, 504].includes(fault.status);
 
 export const isDone = (item) => item.outcome === DONE;
+// An item with a problem is left out: it is never sent.
+const isOver = (item) => isDone(item) || Boolean(item.problem);
 
 // Sends what is left of some items by `one`, and gives a report. `run` has the section, the items, a word for them,
 // what sends one, and the columns of the report with an item's texts in them; `after` comes when it ends, in any case,
 // and may have words: `said` in the place of how many are done, `more` where not all are.
 export async function sendMany(run, { progress, signal }) {
-  const left = run.items.filter((item) => !isDone(item));
+  const left = run.items.filter((item) => !isOver(item));
   for (const [at, item] of left.entries()) {
     if (signal.aborted) break;
     progress("Sending", at, left.length);
-    item.who = whoNow();
+    item.who = { ...whoNow(), at: new Date().toISOString() };
     const fault = await run.one(item).then(() => null, (came) => came);
     item.outcome = fault === null ? DONE : outcomeWords(fault);
     run.shown?.(item);
     if (fault !== null && isLost(fault)) break;
   }
-  if (!run.items.every(isDone)) keepReason();
+  if (!run.items.every(isOver)) keepReason();
   const isOlder = await Promise.resolve(run.after?.({ progress })).then(() => false, () => true);
   return report(run, isOlder);
 }
@@ -42,8 +44,10 @@ export async function sendMany(run, { progress, signal }) {
 // How many are done, and, behind that or behind what the run says of them, how many are not.
 function summary({ items, word, verb, said }) {
   const done = items.filter(isDone).length;
-  const open = items.filter((item) => !item.outcome).length;
-  const rest = `${items.length - done - open} failed${open ? `, ${open} not sent yet` : ""}.`;
+  const open = items.filter((item) => !item.outcome && !isOver(item)).length;
+  const out = items.filter(isOver).length - done;
+  const more = `${open ? `, ${open} not sent yet` : ""}${out ? `, ${out} left out` : ""}`;
+  const rest = `${items.length - done - open - out} failed${more}.`;
   if (said) return said(items, done < items.length ? ` ${rest}` : "");
   return element("p", `${counted(done, word)} ${verb}, ${rest}`, { className: "callout" });
 }
@@ -52,7 +56,7 @@ function summary({ items, word, verb, said }) {
 function report(run, isOlder) {
   const made = box("div", "", summary(run));
   const failed = run.items.filter((item) => item.outcome && !isDone(item));
-  const isWhole = run.items.every(isDone);
+  const isWhole = run.items.every(isOver);
   const columns = [...run.heads, "Outcome"];
   const cellOf = (column, text) => (/^(Accession|Disk)$/.test(column) ? diskCell(text, column) : cell(column, text));
   const rowOf = (item) => row([...run.cells(item), item.outcome].map((text, at) => cellOf(columns[at], text)));
@@ -66,8 +70,8 @@ function report(run, isOlder) {
 }
 
 function saveReport({ section, items, heads, cells }) {
-  const whoOf = ({ who }) => (who ? [who.name, who.reason] : ["", ""]);
-  const rows = items.map((item) => [...cells(item), item.outcome || "not sent", ...whoOf(item)]);
-  const records = [[...heads.map((head) => head.toLowerCase()), "outcome", "name", "reason"], ...rows];
+  const whoOf = ({ who }) => (who ? [who.name, who.reason, who.at] : ["", "", ""]);
+  const rows = items.map((item) => [...cells(item), item.problem || item.outcome || "not sent", ...whoOf(item)]);
+  const records = [[...heads.map((head) => head.toLowerCase()), "outcome", "by", "reason", "sent at"], ...rows];
   save(`${section}-${today()}.csv`, [csvText(records)], "text/csv");
 }

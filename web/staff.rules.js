@@ -33,9 +33,8 @@ async function put(name, scopes, typedRank, rule, tools) {
   const places = scopes.map((scope) => placeOf(name, scope, typedRank, rulesOf(name, scope)));
   const full = places.find(({ rank }) => rank === null);
   if (full) return full.says;
-  const body = JSON.stringify(rule);
-  const command = ({ scope, rank }) => ({ scope, rank, method: "PUT", path: RULES[name].path(scope, rank), body });
-  const commands = places.map(command);
+  const sent = { rule, method: "PUT", body: JSON.stringify(rule) };
+  const commands = places.map(({ scope, rank }) => ({ ...sent, scope, rank, path: RULES[name].path(scope, rank) }));
   const words = placesWords(name, places);
   const replaced = places.flatMap((place) => place.replaced ?? []);
   const notes = [`${capital(ruleWords(rule))}.`, ...placeNotes(places)];
@@ -46,15 +45,17 @@ async function put(name, scopes, typedRank, rule, tools) {
   const cells = (one) => [String(one.scope), String(one.rank)];
   const more = { after: () => showRules(name), heads: ["Accession", "Rank"], cells };
   if (places.length > 1) return putMany(name, agreed, more, tools);
-  await send("PUT", agreed[0].path, body);
+  await send("PUT", agreed[0].path, sent.body);
   return shownAnew(name, `Done: ${words}.`);
 }
 
 // Puts takedowns one after the other, in a section; `more` has what else its report needs.
-export function putMany(section, commands, more, tools) {
+export function putMany(section, commands, { heads, cells, ...more }, tools) {
   const run = {
     ...{ section, items: commands, word: "takedown", verb: "put" },
     one: ({ method, path, body }) => send(method, path, body),
+    heads: [...heads, "Takedown"],
+    cells: (one) => [...cells(one), ruleWords(one.rule)],
     ...more,
   };
   return sendMany(run, tools);

@@ -33,7 +33,8 @@ function rowFault(record) {
 }
 
 function rowOf([accession, kind, deed, sha256, file]) {
-  return { accession, kind, deed, sha256: sha256.toLowerCase(), file, name: file.split(/[/\\]/).at(-1), dump: null };
+  const [name, problem] = [file.split(/[/\\]/).at(-1), "No file of this name is chosen."];
+  return { accession, kind, deed, sha256: sha256.toLowerCase(), file, name, dump: null, problem };
 }
 
 // Gives each row its dump: by the name of the file, and of several with one name the one with the row's SHA-256. Gives

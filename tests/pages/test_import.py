@@ -65,15 +65,16 @@ def test_dumps_of_a_sheet_are_found_compared_and_put(museum, staff, choose):
     shown = choose({**DUMPS, "shelf.CSV": ("\ufeff" + "\r\n".join([HEADS, *map(",".join, ROWS), ""])).encode()})
     words = "8 files chosen. The sheet has 8 rows: 4 ready, 3 with another disk than it says, 1 without a file."
     assert (shown["result"], results(shown)) == ([words], FOUND)
-    assert "there is no deed 99" in staff.push("Put the disks")["result"][0], "a disk of an unknown deed goes out"
+    assert "there is no deed 99" in str(staff.push("Put the disks")["result"]), "a disk of an unknown deed goes out"
     museum.deeds[99] = "Late Donor", "2020-01-01"
     museums.put(museum, 2001, "cpm8", 9, RECORD)
-    assert staff.push("Put the disks")["sure"][1].startswith("In use already: 1 accession. The same disk stays")
+    asked = staff.push("Put the disks")["sure"]
+    assert (asked[1][:28], asked[2]) == ("In use already: 1 accession.", "Left out: 5. The list says why.")
     del museum.deeds[99]
     staff.door.before = lost_at(3)
-    assert staff.answer(True)["result"][0] == "2 disks put, 1 failed, 1 not sent yet."
+    assert staff.answer(True)["result"][0] == "2 disks put, 1 failed, 1 not sent yet, 5 left out."
     shown = staff.push("Go on with the rest")
-    assert shown["result"][0] == "3 disks put, 1 failed."
+    assert shown["result"][0] == "3 disks put, 1 failed, 5 left out."
     done = {name: (disk, deed, "done") for name, (disk, deed, says) in FOUND.items() if says == ""}
     assert results(shown) == {**FOUND, **done, "=1+1": ("2007", "99", NO_DEED)}
     put = {disk: image.bytes for disk, image in museum.images.items() if disk > 2000}
@@ -81,32 +82,35 @@ def test_dumps_of_a_sheet_are_found_compared_and_put(museum, staff, choose):
     assert {name for _, _, name, _ in staff.door.sent()} == {"Ada%20Archivist"}
     staff.push("Save the report")
     rows = saved_table(staff, f"disks-{TODAY}.csv")
-    assert [row[0] for row in rows] == ["accession", "2001", "2002", "2006", "2007"]
-    assert rows[-1] == ["2007", "cpm8", "99", digest(RECORD), "'=1+1", NO_DEED, "Ada Archivist", "a letter of today"]
+    wanted = {disk: says or "done" for disk, _, says in FOUND.values()} | {"2007": NO_DEED}
+    assert {row[0]: row[5] for row in rows[1:]} == wanted, "a report says nothing of what was left out"
+    assert rows[4][3:8] == [digest(RECORD), "'=1+1", NO_DEED, "Ada Archivist", "a letter of today"]
+    assert (rows[4][8][:14], rows[-1][8]) == (f"{TODAY}T12:", "")
     museum.deeds[99] = "Late Donor", "2020-01-01"
-    assert staff.push("Go on with the rest")["result"][0] == "4 disks put, 0 failed."
+    assert staff.push("Go on with the rest")["result"][0] == "4 disks put, 0 failed, 5 left out."
     assert staff.push("Put the disks")["result"] == ["There is no disk to put."]
 
 def test_dumps_are_described_and_numbered_by_hand(staff, choose):
     shown = choose({"one.d64": HELLO, "two <b>.d64": MARKED, "short.d64": bytes(100)})
-    assert shown["list"] == [
-        ["one.d64 Map", "174,848", "Commodore 1541", digest(HELLO), "", "", ""],
-        ["two <b>.d64 Map", "175,531", "Commodore 1541 with error bytes", digest(MARKED), "", "", ""],
-        ["short.d64", "100", "", "", "", "", NO_KIND]]
     staff.type("Accession of one.d64", "3001")
     staff.type("Deed of one.d64", "9")
     staff.push("Number the others from the first")
     asked = staff.push("Put the disks")["sure"]
     assert asked, "a disk goes out without a question"
+    assert shown["list"] == [
+        ["one.d64 Map", "174,848", "Commodore 1541", digest(HELLO), "", "", ""],
+        ["two <b>.d64 Map", "175,531", "Commodore 1541 with error bytes", digest(MARKED), "", "", ""],
+        ["short.d64", "100", "", "", "", "", NO_KIND]]
     assert asked == [
-        "Put 2 disks?", f"2 disks under deed 9, of {samples.DONOR_OF_9}, signed on 0001-01-01",
+        *("Put 2 disks?", "Left out: 1. The list says why."),
+        f"2 disks under deed 9, of {samples.DONOR_OF_9}, signed on 0001-01-01",
         "20: all files readable for the public, the reading room and the staff, on all days",
         f"What they get from today, {TODAY}, as this page reckons it from the dumps and these rules:",
         *(f"The {who}: 1 to read, 1 only in the list, 0 hidden." for who in ("public", "reading room", "staff"))]
     assert (staff.answer(False)["result"], staff.door.sent()) == (["Nothing is sent."], [])
     staff.push("Put the disks")
     shown = staff.answer(True)
-    assert shown["result"][0] == "2 disks put, 0 failed."
+    assert shown["result"][0] == "2 disks put, 0 failed, 1 left out."
     assert [row[4:] for row in shown["list"]] == [["3001", "9", "done"], ["3002", "9", "done"], ["", "", NO_KIND]]
 
 def test_map_shows_each_sector_the_chosen_file_and_faults(staff, choose):
