@@ -7,12 +7,12 @@ import { checkWords, checked, surveyed } from "./staff.checks.js";
 import { button, change, dated, formOf, readHeld, rulesOf, showsAnew } from "./staff.desk.js";
 import { COLUMNS as CHANGES, changeRow } from "./staff.journal.js";
 import { audienceCounts } from "./staff.forecast.js";
-import { UNREAD, originsOf, standingDisk, standingRule } from "./staff.origins.js";
+import { PUT, UNREAD, originsOf, standingDisk, standingRule } from "./staff.origins.js";
 import { freeRank } from "./staff.ranks.js";
 import { rehearsalDays, rehearsed } from "./staff.rehearsal.js";
 import { makeRuleForm, ruleIn } from "./staff.ruleform.js";
 import { putMany } from "./staff.rules.js";
-import { COLUMNS, EFFECT_AT, SAVED_HEADS, effectOf, mayWords, readVerdictsOf } from "./staff.verdicts.js";
+import { COLUMNS, EFFECT_AT, SAVED_HEADS, effectOf, mayWords, readVerdicts } from "./staff.verdicts.js";
 import { ruleAbbr, savedVerdict } from "./staff.verdicts.js";
 import { AUDIENCES, RULES, listed, ruleTexts, ruleWords, today } from "./staff.words.js";
 import { save } from "./stream.js";
@@ -32,7 +32,8 @@ async function readDisk(accession, tools) {
   for (const what of ["deeds", "takedowns", "checks"]) await readHeld(what);
   const asked = { day: today(), moment: new Date().toISOString() };
   const files = [];
-  await readVerdictsOf(accession, asked.day, (record) => files.push(record), tools);
+  const take = (record) => record[COLUMNS.accession] === String(accession) && files.push(record);
+  await readVerdicts(asked.day, take, tools);
   const things = [{ ...standingDisk(survey), origin: UNREAD }, ...decidingRules(survey)];
   shown = { survey, things, files, asked, changes: [] };
   draw();
@@ -65,9 +66,9 @@ function fileRow(record) {
 }
 
 function rulesTable(rules) {
-  const columns = ["Rule", "For whom", "Which files", "They may", "Days", "Put"];
+  const columns = ["Rule", "For whom", "Which files", "They may", "Days", PUT];
   const rowOf = ({ rule, label, name, scope, origin }) => {
-    const texts = { ...ruleTexts(rule), Put: origin };
+    const texts = { ...ruleTexts(rule), [PUT]: origin };
     const cells = columns.slice(1).map((column) => cell(column, dated("span", texts[column])));
     return row([cell("Rule", element("a", label, { href: `#/${name}/${scope}` })), ...cells]);
   };
@@ -141,8 +142,8 @@ async function takeDown(records, tools) {
   const those = (some) => listed(some.map(({ name, rank }) => `${name} (takedown ${rank})`)) || "none";
   const not = (one) => !stands(one);
   const said = () => `These stand: ${those(commands.filter(stands))}. These do not: ${those(commands.filter(not))}.`;
-  const cells = ({ slot, name, rank }) => [String(slot), name, String(rank)];
-  const more = { after: (how) => readDisk(accession, how), more: said, heads: ["Slot", "Name", "Rank"], cells };
+  const cells = ({ slot, name, rank }) => [accession, slot, name, rank].map(String);
+  const more = { after: (how) => readDisk(accession, how), more: said, heads: ["Disk", "Slot", "File", "Rank"], cells };
   return putMany("disk", commands, more, tools);
 }
 

@@ -19,22 +19,26 @@ function isOf({ path, isSaid }, change) {
   }
 }
 
-// The latest change that put what stands; null where a later one did something else there. One of which nobody knows
-// what became counts if it says what stands.
+// The first change that put what stands, of those since which nothing else was put there; null where there is none. One
+// of which nobody knows what became counts if it says what stands, and there is no other.
 function originOf(thing, changes) {
   const isHere = ({ target }) => (thing.path.endsWith("/") ? target.startsWith(thing.path) : target === thing.path);
   const counts = (change) => change.status === "200" || (isUnknown(change) && isOf(thing, change));
-  const found = changes.find((change) => isHere(change) && counts(change));
-  return found && isOf(thing, found) ? found : null;
+  const found = changes.filter((change) => isHere(change) && counts(change));
+  const other = found.findIndex((change) => !isOf(thing, change));
+  const same = other < 0 ? found : found.slice(0, other);
+  return same.findLast(({ status }) => status === "200") ?? same[0] ?? null;
 }
 
 function originWords(change, since) {
   if (change === null) return since ? `not in the journal, which is read back to ${since}` : "not in the journal";
-  const { name, reason } = change;
-  return `${timeOf(change)} by ${name || "nobody who is named"}${reason && `: ${reason}`}`;
+  const { moment, name, reason } = change;
+  return `${moment.replace("T", " ")} by ${name || "nobody who is named"}${reason && `: ${reason}`}`;
 }
 
 export const UNREAD = "not looked for in the journal";
+// The head of a column of these words.
+export const PUT = "Put when, by whom, and why";
 
 // For each of some things that stand, the words that say who put it, when and why; and the changes that were read.
 export async function originsOf(things, tools) {

@@ -14,10 +14,6 @@ export function readVerdicts(day, take, { progress, signal }) {
   return readTable(`/staff/verdicts/${day}`, { take, signal, progress: (count) => progress(`Reading ${day}`, count) });
 }
 
-export function readVerdictsOf(accession, day, take, tools) {
-  return readVerdicts(day, (record) => record[COLUMNS.accession] === String(accession) && take(record), tools);
-}
-
 // The desk gives out a file only where it has a size: without one, `read` is no more than `list`.
 export const given = (effect, isServed) => (effect === "read" && !isServed ? "list" : effect);
 export const effectOf = (record, audience) => given(record[EFFECT_AT[audience]], record[COLUMNS.size] !== "");

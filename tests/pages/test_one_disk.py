@@ -3,7 +3,8 @@
 import csv
 
 import pytest
-from staff_helpers import journal_lines, lost_at, moment, takedown
+from staff_helpers import journal_lines, lost_at, moment, saved_table, takedown
+from support import museums
 from support.browser import TODAY
 from support.samples import DONOR_OF_9
 
@@ -11,7 +12,7 @@ START, NOT, ALL = 1_800_000_000, "not in the journal", "the public, the reading 
 READ = '{"audiences":["room","public","staff"],"select":{"all":true},"effect":"read"}'
 READS, LISTS = "read it R9.20", "see that it is there (the desk gives out no file of type DEL) R9.20"
 CLOSED, HIDDEN = "see nothing of it T1002.{}", "hidden from the public and the reading room, on all days"
-BY = f"{moment(START + 0.5)[:19].replace('T', ' ')} by Ada: a letter"
+BY = f"{moment(START + 0.5).replace('T', ' ')} by Ada: a letter"
 
 @pytest.fixture
 def disk(staff):
@@ -26,8 +27,7 @@ def test_disk_says_what_it_is_and_who_gets_what_by_which_rule(museum, disk):
     shown = disk.go("disk/1002")
     rows, left = shown["rows"], shown["result"]
     assert left == [], "the page goes on saying that it reads the journal"
-    deed = f"9, of {DONOR_OF_9}, signed on 0001-01-01"
-    assert disk.texts("#disk dd")[1:5:2] == [NOT, deed]
+    assert disk.texts("#disk dd")[1:5:2] == [NOT, f"9, of {DONOR_OF_9}, signed on 0001-01-01"]
     blocks = "in use but marked as free: 0 blocks; not in use but marked so: 0 blocks; with a wrong count: 0 tracks"
     assert disk.texts("#disk dd")[4:7] == ["3 files: 2 can be given out, 0 damaged", "it ends well", blocks]
     assert disk.texts("#disk .stands > ul li")[0] == "The public: 1 to read, 1 only in the list, 1 hidden."
@@ -43,18 +43,24 @@ def test_disk_says_what_it_is_and_who_gets_what_by_which_rule(museum, disk):
         [TODAY, "the public", "see nothing of it", "T1002.1000", f"the file at slot 2 {HIDDEN}", NOT, "GUIDE", "532"],
         [TODAY, "the staff", "read it", "R9.20", f"all files readable for {ALL}, on all days", BY, "GUIDE", "532"]]
 
-def test_ticked_files_are_taken_down_and_what_stands_after_a_failure_is_said(disk):
-    notes = [f"{name}, at rank {rank}: the file at slot {slot} {HIDDEN}."
-             for name, rank, slot in (("TOUR", 1000, 0), ("GUIDE", 990, 2))]
+def test_files_ticked_by_their_shown_names_are_taken_down_and_what_stands_after_a_failure_is_said(museum, disk):
+    museums.put_files(museum, 1002, "d64", 9, [("%CCETTER", "SEQ", b"A"), ("-", "DEL", None), ("GUIDE", "SEQ", b"A")])
+    disk.go("disk/1002")
+    rules = [("Letter", "1000", "0"), ("GUIDE", "990", "2")]
+    notes = [f"{name}, at rank {rank}: the file at slot {slot} {HIDDEN}." for name, rank, slot in rules]
     for slot in (0, 2):
         disk.set(f"#disk [name=slots][value='{slot}']", True)
-    assert disk.push("Take down what is ticked")["sure"][:3] == ["Take down 2 files of disk 1002?", *notes]
+    asked = disk.push("Take down what is ticked")["sure"][:3]
+    assert asked == ["Take down 2 files of disk 1002?", *notes], "files are not named as they are shown"
     disk.door.before = lost_at(2)
-    stand = "These stand: TOUR (takedown 1000). These do not: GUIDE (takedown 990)."
+    stand = "These stand: Letter (takedown 1000). These do not: GUIDE (takedown 990)."
     assert disk.answer(True)["result"][:2] == ["1 takedown put, 1 failed.", stand]
     shown = disk.push("Go on with the rest")
     assert shown["result"][0] == "2 takedowns put, 0 failed."
     assert [row[5] for row in shown["rows"][:3]] == [CLOSED.format(1000), LISTS, CLOSED.format(990)]
+    disk.push("Save the report")
+    due = [["1002", slot, name, rank, f"the file at slot {slot} {HIDDEN}", "done"] for name, rank, slot in rules]
+    assert [row[:6] for row in saved_table(disk, f"disk-{TODAY}.csv")[1:]] == due, "a report says not what was put"
 
 def test_each_number_of_a_disk_leads_to_its_page(museum, disk):
     museum.rules["T1002"] = takedown(1000, 2)

@@ -7,17 +7,8 @@ from support.samples import digest
 
 EVERYBODY = "the public, the reading room and the staff"
 RULE_20 = ["20", EVERYBODY, "all files", "read them", "on all days", "ChangeDrop"]
-STAFF, OTHER = digest(b"abc"), digest(b"another")
+STAFF, OTHER, RESTORE = digest(b"abc"), digest(b"another"), " Restore a backup of what is changed."
 START, NOT, NOBODY = 1_800_000_000, "not in the journal", "Nobody can use it any more."
-RESTORE = " Restore a backup of what is changed."
-
-def put_rule(staff):
-    staff.put_rule("rules", "8", "20", "all", None, "public", "room", "staff", effect="read")
-    return staff.answer(True)
-
-def put_key(staff):
-    staff.fill("keys", key="another", audience="room")
-    return staff.submit("keys")
 
 def test_deed_is_put_with_name_and_reason(staff):
     """They go as percent-encoded UTF-8, which may have 1,000 bytes. Without one of them nothing is sent."""
@@ -33,8 +24,7 @@ def test_deed_is_put_with_name_and_reason(staff):
     assert staff.door.sent() == [("PUT", "/deeds/31", "Ada", "%C3%BC" * 166)]
     assert (shown["result"], shown["stands"]) == (["Done: deed 31."], ["4 deeds."])
     assert shown["rows"][3] == ["31", "E. <b>Müller</b>", "1999-12-31", "0", "No rule: nobody sees its disks", "Change"]
-    left = staff.one("#who [name=reason]").get_property("value")
-    assert left == "", "the reason of one change goes along with the next"
+    assert staff.one("#who [name=reason]").get_property("value") == "", "a reason goes along with the next change"
     staff.door.before = lost_at(1)
     put_deed(staff)
     assert staff.one("#who [name=reason]").get_property("value") == "a letter of today"
@@ -52,7 +42,8 @@ def test_deed_is_replaced_only_when_that_is_agreed(staff):
 
 def test_rule_is_put_changed_and_dropped(staff):
     staff.go("rules/8")
-    shown = put_rule(staff)
+    staff.put_rule("rules", "8", "20", "all", None, "public", "room", "staff", effect="read")
+    shown = staff.answer(True)
     assert (shown["result"], shown["rows"]) == (["Done: rule 20 of deed 8."], [["8", *RULE_20]])
     assert shown["hint"].startswith("In use: rule 20 of deed 8 stands, all files readable for")
     staff.of_row("rule 20 of deed 8", "Change")
@@ -98,7 +89,8 @@ def test_long_list_stays_sorted_and_filtered_when_it_is_read_anew(museum, staff)
 def test_key_is_put_given_away_and_dropped(museum, staff):
     rows = staff.go("keys")["rows"]
     assert [row[3] for row in rows] == ["Give it to the staffDrop", "Give it to the reading roomDrop"]
-    shown = put_key(staff)
+    staff.fill("keys", key="another", audience="room")
+    shown = staff.submit("keys")
     assert (shown["result"], shown["stands"]) == ([f"Done: key of the reading room, SHA-256 {OTHER}."], ["3 keys."])
     assert staff.of_row(f"key {OTHER}", "Drop")["sure"] == [f"Drop key with SHA-256 {OTHER}?", NOBODY]
     assert staff.answer(True)["rows"] == rows
@@ -112,25 +104,26 @@ def test_key_is_put_given_away_and_dropped(museum, staff):
     assert staff.of_row(f"key {STAFF}", "Give it to the reading room")["result"] == words
 
 def test_key_says_who_put_it_when_and_why_as_the_journal_has_it(staff):
-    key, by = f"/badges/{digest(b'hello')}", f"{moment(START + 0.5)[:19].replace('T', ' ')} by Ada: a letter"
+    key, by = f"/badges/{digest(b'hello')}", f"{moment(START + 0.5).replace('T', ' ')} by Ada: a letter"
     for later, words in [((), by), (("200", "PUT", '{"audience":"staff"}'), NOT), (("200", "DELETE", ""), NOT),
-                         (("404", "DELETE", ""), by), (("502", "DELETE", ""), by), (("502", "PUT", "["), by)]:
+                         (("404", "DELETE", ""), by), (("502", "DELETE", ""), by), (("502", "PUT", "["), by),
+                         (("200", "PUT", '{"audience":"room"}'), by)]:
         changes = [("200", "PUT", '{"audience":"room"}'), *([later] if later else [])]
         lines = [journal_lines(at, START + at, status, method, key, "Ada", "a%20letter", body)
                  for at, (status, method, body) in enumerate(changes)]
         staff.door.journals = {"/journal": b"".join(lines)}
-        assert [row[2] for row in staff.go("keys")["rows"]] == [words, NOT], later
+        assert [row[2] for row in staff.go("keys")["rows"]] == [words, NOT], ("whose key is it, after", later)
 
 def test_check_says_which_disk_has_changed_in_a_warning_that_stays(museum, staff):
-    assert staff.go("checks")["stands"] == ["6 disks: 0 sound; 6 never checked."]
-    shown = staff.of_row("disk 1002", "Check")
-    assert shown["result"] == ["Disk 1002 is sound: it still has the SHA-256 that came with it."]
-    assert [row[1:] for row in shown["rows"][:2]] == [["never", "", "Check"], [TODAY, "sound", "Check"]]
+    before, one = staff.go("checks"), staff.of_row("disk 1002", "Check")
     museum.images[1003] = museum.images[1003]._replace(digest="0" * 64)
     museum.latest[1002] = "2020-01-01", "sound"
     staff.door.before = lost_at(5)
     shown, words = staff.push("Check all of these"), "4 disks checked: 3 sound, 1 CHANGED: 1003."
     assert shown["result"][0].startswith(words), "a changed disk is told as one that is checked"
+    assert before["stands"] == ["6 disks: 0 sound; 6 never checked."]
+    assert one["result"] == ["Disk 1002 is sound: it still has the SHA-256 that came with it."]
+    assert [row[1:] for row in one["rows"][:2]] == [["never", "", "Check"], [TODAY, "sound", "Check"]]
     assert shown["result"][0] == f"{words} 1 failed, 1 not sent yet.{RESTORE}"
     shown = staff.push("Go on with the rest")
     assert shown["result"][0] == f"6 disks checked: 5 sound, 1 CHANGED: 1003.{RESTORE}"
