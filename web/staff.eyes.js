@@ -99,7 +99,7 @@ async function saveShown() {
   const texts = [csvText([SAVED_HEADS])];
   const recordOf = (file) => savedVerdict(file, asked.audience, { day, moment });
   await inParts(files, (some) => texts.push(csvText(some.map(recordOf))));
-  save(`${asked.audience}-${day}.csv`, texts, "text/csv");
+  save(`${asked.audience}-${day}-${files.length}-of-${seen.files.length}-files.csv`, texts, "text/csv");
 }
 
 async function look(tools) {

@@ -27,7 +27,7 @@ export const SELECTORS = {
   },
   prefix: {
     choice: "files whose names begin alike",
-    field: "They begin with",
+    field: "They begin, as the desk prints them, with",
     limits: printed(1, 64),
     shown: (words) => `files whose names begin with \u201c${words}\u201d`,
     sent: String,
