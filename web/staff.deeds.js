@@ -12,8 +12,7 @@ const signedWords = ({ donor, signed }) => `${donor}, signed on ${signed}`;
 async function put(deed, body) {
   const stands = (await readHeld("deeds")).find((one) => String(one.deed) === deed);
   if (stands && signedWords(stands) !== signedWords(body)) {
-    const texts = [`It stands: ${signedWords(stands)}.`, `Then: ${signedWords(body)}.`];
-    const more = texts.map((text) => dated("p", text));
+    const more = [`It stands: ${signedWords(stands)}.`, `Then: ${signedWords(body)}.`].map((text) => dated("p", text));
     const asked = { words: `Replace deed ${deed}?`, more, go: "Replace it", keep: "Keep it" };
     if (!(await sure(asked))) return `Kept: deed ${deed}.`;
   }

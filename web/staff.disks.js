@@ -149,13 +149,14 @@ async function unagreed() {
   const deeds = new Map((await readHeld("deeds")).map((one) => [String(one.deed), one]));
   const wanted = [...new Set(open.map(({ deed }) => deed.value))];
   const unknown = wanted.filter((deed) => !deeds.has(deed));
-  if (unknown.length) return `Nothing is sent: there is no deed ${listed(unknown)}. Put it first.`;
+  const of = (deed) => `${deed} (of accession ${open.find((dump) => dump.deed.value === deed).accession.value})`;
+  if (unknown.length) return `Nothing is sent: there is no deed ${listed(unknown.map(of))}. Put it first.`;
   await readHeld("takedowns");
   const there = new Set((await readHeld("checks")).map(({ accession }) => String(accession)));
   const count = open.filter(({ accession }) => there.has(accession.value)).length;
   const words = `In use already: ${counted(count, "accession")}. The same disk stays as it is; another one is refused.`;
   const parts = wanted.flatMap((deed) => deedParts(deeds.get(deed), open.filter((dump) => dump.deed.value === deed)));
-  const others = `Left out: ${out}. The list says why.`;
+  const others = `Left out: ${out}, each for what the list says.`;
   const more = [...(count ? [element("p", words)] : []), ...(out ? [element("p", others)] : []), ...parts];
   const asked = { words: `Put ${counted(open.length, "disk")}?`, more, go: "Put them", keep: "Do not put them" };
   return (await sure(asked)) ? null : "Nothing is sent.";
@@ -183,9 +184,7 @@ async function putDumps(tools) {
     word: "disk",
     verb: "put",
     one: putDump,
-    shown: (dump) => {
-      dump.says.textContent = dump.outcome;
-    },
+    shown: (dump) => Object.assign(dump.says, { textContent: dump.outcome }),
     heads: ["Accession", "Kind", "Deed", "SHA-256", "File"],
     cells: ({ accession, kind, deed, digest, file, sha256 }) =>
       sha256 ? [accession, kind, deed, sha256, file] : [accession.value, kind, deed.value, digest, file.name],

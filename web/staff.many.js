@@ -21,6 +21,7 @@ const isLost = (fault) => fault instanceof Refused && [0, 401, 403, 429, 502, 50
 export const isDone = (item) => item.outcome === DONE;
 // An item with a problem is left out: it is never sent.
 const isOver = (item) => isDone(item) || Boolean(item.problem);
+const outcomeOf = ({ problem, outcome }) => problem || outcome;
 
 // Sends what is left of some items by `one`, and gives a report. `run` has the section, the items, a word for them,
 // what sends one, and the columns of the report with an item's texts in them; `after` comes when it ends, in any case,
@@ -44,7 +45,7 @@ export async function sendMany(run, { progress, signal }) {
 // How many are done, and, behind that or behind what the run says of them, how many are not.
 function summary({ items, word, verb, said }) {
   const done = items.filter(isDone).length;
-  const open = items.filter((item) => !item.outcome && !isOver(item)).length;
+  const open = items.filter((item) => !outcomeOf(item)).length;
   const out = items.filter(isOver).length - done;
   const more = `${open ? `, ${open} not sent yet` : ""}${out ? `, ${out} left out` : ""}`;
   const rest = `${items.length - done - open - out} failed${more}.`;
@@ -52,15 +53,16 @@ function summary({ items, word, verb, said }) {
   return element("p", `${counted(done, word)} ${verb}, ${rest}`, { className: "callout" });
 }
 
-// What became of the items: in short, those that failed, buttons to go on or save it; and whether the list is older.
+// What became of the items: in short, those not done, buttons to go on or save it; and whether the list is older.
 function report(run, isOlder) {
   const made = box("div", "", summary(run));
-  const failed = run.items.filter((item) => item.outcome && !isDone(item));
+  const others = run.items.filter((item) => outcomeOf(item) && !isDone(item));
   const isWhole = run.items.every(isOver);
   const columns = [...run.heads, "Outcome"];
-  const cellOf = (column, text) => (/^(Accession|Disk)$/.test(column) ? diskCell(text, column) : cell(column, text));
-  const rowOf = (item) => row([...run.cells(item), item.outcome].map((text, at) => cellOf(columns[at], text)));
-  if (failed.length && !run.shown) made.append(table("Failed", columns, failed.map(rowOf)));
+  const isDisk = (column, text) => text && /^(Accession|Disk)$/.test(column);
+  const cellOf = (column, text) => (isDisk(column, text) ? diskCell(text, column) : cell(column, text ?? "", "words"));
+  const rowOf = (item) => row([...run.cells(item), outcomeOf(item)].map((text, at) => cellOf(columns[at], text)));
+  if (others.length) made.append(table("Not done", columns, others.map(rowOf)));
   if (run.more && !isWhole && !isOlder) made.append(element("p", run.more()));
   const goOn = () => change(run.section, (tools) => sendMany(run, tools));
   const buttons = isWhole ? [] : [button("Go on with the rest", goOn)];
@@ -70,8 +72,8 @@ function report(run, isOlder) {
 }
 
 function saveReport({ section, items, heads, cells }) {
-  const whoOf = ({ who }) => (who ? [who.name, who.reason, who.at] : ["", "", ""]);
-  const rows = items.map((item) => [...cells(item), item.problem || item.outcome || "not sent", ...whoOf(item)]);
+  const whoOf = ({ who = {} }) => [who.name, who.reason, who.at];
+  const rows = items.map((item) => [...cells(item), outcomeOf(item) || "not sent", ...whoOf(item)]);
   const records = [[...heads.map((head) => head.toLowerCase()), "outcome", "by", "reason", "sent at"], ...rows];
   save(`${section}-${today()}.csv`, [csvText(records)], "text/csv");
 }

@@ -65,11 +65,12 @@ def test_dumps_of_a_sheet_are_found_compared_and_put(museum, staff, choose):
     shown = choose({**DUMPS, "shelf.CSV": ("\ufeff" + "\r\n".join([HEADS, *map(",".join, ROWS), ""])).encode()})
     words = "8 files chosen. The sheet has 8 rows: 4 ready, 3 with another disk than it says, 1 without a file."
     assert (shown["result"], results(shown)) == ([words], FOUND)
-    assert "there is no deed 99" in str(staff.push("Put the disks")["result"]), "a disk of an unknown deed goes out"
+    words = "Nothing is sent: there is no deed 99 (of accession 2007). Put it first."
+    assert staff.push("Put the disks")["result"] == [words], "a disk of an unknown deed goes out"
     museum.deeds[99] = "Late Donor", "2020-01-01"
     museums.put(museum, 2001, "cpm8", 9, RECORD)
-    asked = staff.push("Put the disks")["sure"]
-    assert (asked[1][:28], asked[2]) == ("In use already: 1 accession.", "Left out: 5. The list says why.")
+    asked = staff.push("Put the disks")["sure"][1:3]
+    assert (asked[0][:28], asked[1]) == ("In use already: 1 accession.", "Left out: 5, each for what the list says.")
     del museum.deeds[99]
     staff.door.before = lost_at(3)
     assert staff.answer(True)["result"][0] == "2 disks put, 1 failed, 1 not sent yet, 5 left out."
@@ -79,13 +80,13 @@ def test_dumps_of_a_sheet_are_found_compared_and_put(museum, staff, choose):
     assert results(shown) == {**FOUND, **done, "=1+1": ("2007", "99", NO_DEED)}
     put = {disk: image.bytes for disk, image in museum.images.items() if disk > 2000}
     assert put == {2001: RECORD, 2002: HELLO, 2006: WELCOME}
-    assert {name for _, _, name, _ in staff.door.sent()} == {"Ada%20Archivist"}
+    wanted = {disk: says or "done" for disk, _, says in FOUND.values()} | {"2007": NO_DEED}
+    others = zip(*(staff.texts(f"#disks .result td:{at}-child") for at in ("first", "last")))
+    assert dict(others) == {disk: says for disk, says in wanted.items() if says != "done"}, "what is not done"
     staff.push("Save the report")
     rows = saved_table(staff, f"disks-{TODAY}.csv")
-    wanted = {disk: says or "done" for disk, _, says in FOUND.values()} | {"2007": NO_DEED}
     assert {row[0]: row[5] for row in rows[1:]} == wanted, "a report says nothing of what was left out"
-    assert rows[4][3:8] == [digest(RECORD), "'=1+1", NO_DEED, "Ada Archivist", "a letter of today"]
-    assert (rows[4][8][:14], rows[-1][8]) == (f"{TODAY}T12:", "")
+    assert [*rows[4][4:8], rows[4][8][:14]] == ["'=1+1", NO_DEED, "Ada Archivist", "a letter of today", f"{TODAY}T12:"]
     museum.deeds[99] = "Late Donor", "2020-01-01"
     assert staff.push("Go on with the rest")["result"][0] == "4 disks put, 0 failed, 5 left out."
     assert staff.push("Put the disks")["result"] == ["There is no disk to put."]
@@ -102,7 +103,7 @@ def test_dumps_are_described_and_numbered_by_hand(staff, choose):
         ["two <b>.d64 Map", "175,531", "Commodore 1541 with error bytes", digest(MARKED), "", "", ""],
         ["short.d64", "100", "", "", "", "", NO_KIND]]
     assert asked == [
-        *("Put 2 disks?", "Left out: 1. The list says why."),
+        *("Put 2 disks?", "Left out: 1, each for what the list says."),
         f"2 disks under deed 9, of {samples.DONOR_OF_9}, signed on 0001-01-01",
         "20: all files readable for the public, the reading room and the staff, on all days",
         f"What they get from today, {TODAY}, as this page reckons it from the dumps and these rules:",

@@ -127,7 +127,6 @@ def test_check_says_which_disk_has_changed_in_a_warning_that_stays(museum, staff
     assert shown["result"][0] == f"{words} 1 failed, 1 not sent yet.{RESTORE}"
     shown = staff.push("Go on with the rest")
     assert shown["result"][0] == f"6 disks checked: 5 sound, 1 CHANGED: 1003.{RESTORE}"
-    words = "There is no disk whose latest check is before 2025-06-15."
-    assert staff.push("Check all of these")["result"] == [words]
+    assert staff.push("Check all of these")["result"] == ["There is no disk whose latest check is before 2025-06-15."]
     stays = [f"6 disks: 5 sound, 1 CHANGED: 1003; 0 never checked.{RESTORE}"]
     assert staff.texts("#checks .stands > .refused") == stays, "the warning is gone with the next work"
