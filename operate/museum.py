@@ -1,6 +1,7 @@
 """What the tools of a museum's machine share: its places, its desk, its folders, its journal, and how they end."""
 
 import argparse
+import calendar
 import contextlib
 import errno
 import fcntl
@@ -13,11 +14,13 @@ import pathlib
 import pwd
 import re
 import secrets
+import shutil
 import socket
 import stat
 import subprocess
 import sys
 import threading
+import time
 import zlib
 
 PLACES = "/etc/desk/places"
@@ -38,17 +41,15 @@ PLACE = re.compile(r"([A-Z_]+)=(\S+)")
 # desk and its readers wait for that.
 BLOCK, AT_ONCE = 1 << 20, 1 << 21
 FOLDER = os.O_RDONLY | os.O_DIRECTORY | os.O_NOFOLLOW
-# Of a backup: the file that has the journal's last line of that moment, by its SHA-256.
-MARK = "journal-mark"
-
+# Of a backup: its name, by the moment in UTC at which it was begun, with what keeps it behind; and the file that has the
+# journal's last line of that moment, by its SHA-256.
+NAME, BACKUP, MARK = "%Y-%m-%dT%H%M%SZ", re.compile(r"(\d{4}-\d\d-\d\dT\d{6}Z)(-.*)?"), "journal-mark"
 
 class Failed(Exception):
     """Why a tool cannot do its work."""
 
-
 class NoReply(Failed):
     """Why a question has no reply. Nobody knows what became of it."""
-
 
 class Places(dict):
     """The values in a file of lines NAME=VALUE, by their names. Raises Failed where a line is none, or one is missing."""
@@ -66,11 +67,9 @@ class Places(dict):
     def __missing__(self, name):
         raise Failed(f"no place {name}")
 
-
 def unit(name):
     """How a unit of the first desk is called for the desk of these places."""
     return re.sub("[.]", f"{UNIT.removeprefix('desk').removesuffix('.service')}.", name)
-
 
 def key_in(path):
     """The key in a file with one line, `Desk-Key: ` and the key. Raises Failed where there is none."""
@@ -79,7 +78,6 @@ def key_in(path):
     if not colon or name.lower() != b"desk-key":
         raise Failed(f"{path}: not one line of the form Desk-Key: KEY")
     return key.strip(b" \t")
-
 
 class SocketConnection(http.client.HTTPConnection):
     """A connection to a Unix socket."""
@@ -93,17 +91,15 @@ class SocketConnection(http.client.HTTPConnection):
         self.sock.settimeout(self.timeout)
         self.sock.connect(self.path)
 
-
 class Desk:
-    """A desk, and the key by which it is asked: at the port of the staff's door, or at the path of its own socket."""
+    """A desk, and the key by which it is asked: at a host and its port, or at the path of its own socket."""
 
     def __init__(self, place, key, limit=LIMIT):
         self.place, self.key, self.limit = place, key, limit
 
     def connection(self):
-        if isinstance(self.place, int):
-            return http.client.HTTPConnection(HOST, self.place, timeout=self.limit)
-        return SocketConnection(self.place, self.limit)
+        kind = SocketConnection if self.place.startswith("/") else http.client.HTTPConnection
+        return kind(self.place, timeout=self.limit)
 
     def visit(self, method, path, body=None, fields=()):
         """The status and the body of a reply. Raises NoReply where there is none."""
@@ -128,7 +124,6 @@ class Desk:
     def answers(self):
         """The replies to what a backup and a restore compare, by the words of the questions."""
         return {word: self.ask(f"/staff/{word}") for word in QUESTIONS}
-
 
 class Served:
     """A desk that serves a store of a folder at a socket in it, as the user of the desk where there is one. nginx does
@@ -159,7 +154,6 @@ class Served:
         self.process.kill()
         return self.process.communicate()[1].decode(errors="replace")
 
-
 def do(program, folder, *words, given=""):
     """Has a process do something in a folder with what it is given to read, as the user of the desk where there is one.
     Gives what it writes; raises Failed where it refuses."""
@@ -168,31 +162,24 @@ def do(program, folder, *words, given=""):
         raise Failed(": ".join([f"{pathlib.Path(program).name} {words[0]}", *ran.stderr.splitlines()[-1:]]))
     return ran.stdout
 
-
 def systemctl(word):
     """Has systemd do something to the desk's unit."""
     ran = subprocess.run(["systemctl", word, UNIT], stdin=subprocess.DEVNULL, capture_output=True, text=True)
     if ran.returncode:
         raise Failed(f"systemctl {word} {UNIT}: {ran.stderr.strip()}")
 
-
 def is_open():
     """Whether the desk's unit runs."""
     return subprocess.run(["systemctl", "is-active", "--quiet", UNIT], stdin=subprocess.DEVNULL).returncode == 0
 
-
 # Folders
 
-
-class Folder:
+class Folder(contextlib.AbstractContextManager):
     """An open folder. What is in it is reached by its descriptor, and no link in it is followed: so whoever may write
     in it, as the desk's user in that of the store, leads nobody elsewhere."""
 
     def __init__(self, descriptor, path):
         self.descriptor, self.path = descriptor, pathlib.Path(path)
-
-    def __enter__(self):
-        return self
 
     def __exit__(self, *_):
         os.close(self.descriptor)
@@ -257,28 +244,35 @@ class Folder:
     def drop(self, name):
         """Takes away a file, a link or a folder with all in it, of a file a little at a time."""
         about = self.about(name)
-        if about is None:
-            return
-        if stat.S_ISDIR(about.st_mode):
+        if about and stat.S_ISDIR(about.st_mode):
             with self.folder(name) as inner:
                 for one in inner.names():
                     inner.drop(one)
             os.rmdir(name, dir_fd=self.descriptor)
-            return
-        # a file that has another name too stays under that
-        if stat.S_ISREG(about.st_mode) and about.st_nlink == 1:
+        elif about:
+            # a file that has another name too stays under that
             with contextlib.suppress(Failed), self.file(name, os.O_RDWR) as file:
-                shorten(file)
-        os.unlink(name, dir_fd=self.descriptor)
+                if about.st_nlink == 1:
+                    shorten(file)
+            os.unlink(name, dir_fd=self.descriptor)
 
     def sync(self):
         """Has the names in it written to the disk."""
         os.fsync(self.descriptor)
 
-    def free(self):
-        """How many bytes its disk has free."""
-        about = os.fstatvfs(self.descriptor)
-        return about.f_bavail * about.f_frsize
+    def copy_store(self, name, target):
+        """Copies a store, the database and its log, as far as they are there."""
+        for one in filter(self.about, (name, f"{name}-wal")):
+            self.copy(one, target)
+
+    def size(self, name):
+        """How many bytes a store has."""
+        return sum(about.st_size for about in map(self.about, (name, f"{name}-wal")) if about)
+
+    def need(self, count):
+        """Raises Failed where its disk has not so many bytes free."""
+        if shutil.disk_usage(self.descriptor).free < count:
+            raise Failed(f"{self.path}: it needs {count} bytes, and has not as many free")
 
     def inside(self, name):
         """A path by which this process reaches a name in it."""
@@ -287,19 +281,15 @@ class Folder:
     def as_desk(self):
         """How a process becomes one of the desk's user in this folder, whose the folder and all in it become. It is
         given once: later its user may have put there what is another's."""
-        how = {"cwd": self.inside(".")}
-        try:
-            user = pwd.getpwnam(USER)
-        except KeyError:
-            return how
-        if os.geteuid():
-            return how
-        if os.fstat(self.descriptor).st_uid == 0:
-            for name in self.names():
-                os.chown(name, user.pw_uid, user.pw_gid, dir_fd=self.descriptor, follow_symlinks=False)
-            os.fchown(self.descriptor, user.pw_uid, user.pw_gid)
-        return {**how, "user": user.pw_uid, "group": user.pw_gid, "extra_groups": []}
-
+        how, is_root = {"cwd": self.inside(".")}, os.geteuid() == 0
+        with contextlib.suppress(KeyError):
+            owner = pwd.getpwnam(USER)[2:4]
+            if is_root and os.fstat(self.descriptor).st_uid == 0:
+                for name in self.names():
+                    os.chown(name, *owner, dir_fd=self.descriptor, follow_symlinks=False)
+                os.fchown(self.descriptor, *owner)
+            how |= {"user": owner[0], "group": owner[1], "extra_groups": []} if is_root else {}
+        return how
 
 def folder_at(path):
     """The folder at a path, by its parts without links, each opened in the one before."""
@@ -308,7 +298,6 @@ def folder_at(path):
         with at:
             at = at.folder(part)
     return at
-
 
 @contextlib.contextmanager
 def locked(path):
@@ -322,20 +311,17 @@ def locked(path):
             raise Failed("another backup or restore is at work") from fault
         yield folder
 
-
 def read_at(file, at, path):
     try:
         return os.pread(file.fileno(), BLOCK, at)
     except OSError as fault:
         raise Failed(f"{path}: {fault.strerror}") from fault
 
-
 def write_at(file, data, at):
     """Writes all of some bytes at a place of a file."""
     while data:
         count = os.pwrite(file, data, at)
         data, at = data[count:], at + count
-
 
 def shorten(file):
     """Makes a file empty, a little at a time."""
@@ -345,20 +331,15 @@ def shorten(file):
         file.truncate(size)
         os.fsync(file.fileno())
 
-
 def has_sums(folder, name):
     """Whether the pages of a store's file end in sums, by its header, which leaves room for them. Of one that cannot be
     read they are taken for granted, as the package makes them."""
-    try:
-        with folder.file(name) as file:
-            head = file.read(len(FORMAT) + 5)
-    except (Failed, OSError):
-        return True
-    return head.startswith(FORMAT) and head[-1] == SUM_BYTES
-
+    with contextlib.suppress(Failed, OSError), folder.file(name) as file:
+        head = file.read(len(FORMAT) + 5)
+        return head.startswith(FORMAT) and head[-1] == SUM_BYTES
+    return True
 
 # The journal
-
 
 def journal_parts(path):
     """The lines of a journal, and of what was rotated away of it: a list for each file, from the latest on."""
@@ -372,16 +353,18 @@ def journal_parts(path):
                 raise Failed(f"{file}: it cannot be unpacked") from fault
         yield lines
 
+def moment_of(name):
+    """The moment of a backup, by its name; None where that is none."""
+    with contextlib.suppress(TypeError, ValueError):
+        return calendar.timegm(time.strptime(BACKUP.fullmatch(name)[1], NAME))
 
 def mark_of(line):
     return hashlib.sha256(line).hexdigest()
-
 
 def last_mark(path):
     """The mark of the last whole line of a journal; None where it has none."""
     whole = ([line for line in lines if line.endswith(b"\n")] for lines in journal_parts(path))
     return next((mark_of(lines[-1]) for lines in whole if lines), None)
-
 
 def lines_after(path, mark):
     """The lines of a journal after the one of a mark; None where none is that one. Without a mark, all lines are after
@@ -395,16 +378,13 @@ def lines_after(path, mark):
         found = lines + found
     return found if is_there and mark is None else None
 
-
 # How tools end
-
 
 def refusal_in(body):
     """The name of a refusal, or the beginning of what came in its place."""
     with contextlib.suppress(ValueError, TypeError, KeyError):
         return json.loads(body)["error"]
     return repr(body[:60])
-
 
 def run(text, work, *arguments, has_places=True, failed=1):
     """Does the work of a tool, and ends with its status; or says why it cannot. The tool's text begins with its name and
@@ -423,7 +403,6 @@ def run(text, work, *arguments, has_places=True, failed=1):
         print(f"{pathlib.Path(usage.split()[0]).name}: {told(fault)}", file=sys.stderr)
         status = failed
     sys.exit(status)
-
 
 def told(fault):
     """A fault in words."""

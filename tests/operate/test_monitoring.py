@@ -73,7 +73,7 @@ def look(room, *words, before=(), **values):
     ("BACKUPS", "{}/old", r"the latest backup is that of [0-9TZ-]+\n"),
     ("BACKUPS", "{}/ahead", r"the clock is behind the backup of [0-9TZ-]+, or was ahead when that was made\n"),
     ("JOURNAL", "{}/none", r"there is no journal: .*/none\n"),
-    ("SPACE", "{}/none", r"desk-space gives no reply: .*\n"),
+    ("SPACE", "{}/none", r"desk-space gives no reply \(.*\)\n"),
     ("STORE", "{}/large.sqlite", r"(.* has [0-9]+ MiB free; it needs [0-9]+\n){2}"),
     ("STORE", "{}/plain.sqlite", r"the store has no sums, which BY-HAND gives it: .*\n"),
     ("STAFF_PORT", "1", r"nginx gives no reply \(.*Connection refused\)\n"),
