@@ -10,21 +10,17 @@ import pytest
 from support.room import CONFIGURE, NGINX, OPERATE
 
 EXAMPLES = "such as UTC0 or CET-1CEST,M3.5.0,M10.5.0/3"
-# What places of an older version have as OFFSET, and the rule that is the same.
-OFFSETS = {"E0000": "UTC0", "E0100": "<+01>-1", "W0500": "<-05>5", "E0530": "<+0530>-5:30", "W2359": "<-2359>23:59"}
-BECOMES = "OFFSET is now ZONE: OFFSET={} becomes ZONE={}, or better the rule of your own clock"
 # What is put in the place of a line of a good file of places, and what is told of it.
 BAD_PLACES = {
     "#": "no place ZONE", "ZONE=UTC0\nA=/a b": "not a place: A=/a b", "ZONE=UTC0\nA=/a;": "not a place: A=/a;",
     "ZONE=UTC0\nA=": "not a place: A=", "ZONE=UTC0\nA=/a\nA=/a": "given twice: A",
     "ZONE=CET": f"not the rule of a clock: CET; ZONE takes one, {EXAMPLES}",
-    "OFFSET=CET": f"OFFSET is now ZONE, which takes the rule of your own clock, {EXAMPLES}",
-    **{f"OFFSET={offset}": BECOMES.format(offset, rule) for offset, rule in OFFSETS.items()}}
+    "OFFSET=E0100": f"OFFSET is now ZONE, which takes the rule of your own clock, {EXAMPLES}"}
 # Texts that are the rule of a clock, and texts that are none.
 RULES = """
     CET-1CEST,M3.5.0,M10.5.0/3 NST3:30NDT,M3.2.0,M11.1.0 EST+5 <-02>2<-01>,M3.5.0/-1,M10.5.0/0 EST5EDT,0,365 <--->0
     <+1245>-12:45<+1345>,M9.5.0/2:45,M4.1.0/3:45 IST-2IDT,M3.4.4/26,M10.5.0 EST5EDT,J060,J300 EST5EDT4,M3.2.0/2,M11.1.0
-    EST5EDT,M03.2.0/167:59:59,M11.1.0/-167:59:59 ABC24:59:59 ABCDEFGHIJKLMNO0
+    EST5EDT,M03.2.0/167:59:59,M11.1.0/-167:59:59 ABC24:59:59 ABCDEFGHIJKLMNO0 UTC0 <+0530>-5:30 <-2359>23:59
 """.split()
 NO_RULES = """
     UTC ES5 EST5EDT <+3>-3 <+03-3 ABC25 ABC024 ABC24:60 ABC1:2:3 ABC1:00: EST5EDT,J0,J300 EST5EDT,J366,J1 EST5EDT,366,1
@@ -49,9 +45,9 @@ def test_bad_places_are_named_and_nothing_is_written(configured, line):
     status, errors, folder = configured(line)
     assert (status, errors, list(folder.iterdir())) == (1, f"configure: {BAD_PLACES[line]}\n", [])
 
-@pytest.mark.parametrize("rule", [*RULES, *OFFSETS.values(), *NO_RULES, "UTC 0", "UTC0 ", ""])
+@pytest.mark.parametrize("rule", [*RULES, *NO_RULES, "UTC 0", "UTC0 ", ""])
 def test_configure_takes_the_rules_of_clocks_that_the_desk_takes(configured, room, rule):
-    is_taken = rule in (*RULES, *OFFSETS.values())
+    is_taken = rule in RULES
     # a folder is no store, which the desk finds only after it has taken the rule
     assert room.run("export", "--store", str(room.folder), f"--zone={rule}")[0] == (3 if is_taken else 2)
     status, errors, folder = configured(f"ZONE={rule}")
