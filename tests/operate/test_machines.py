@@ -163,7 +163,7 @@ STANDS = [
     (f"{VISIT}/about.csv", "name,value"),
     (f"grep -c rate=25r /etc/nginx/conf.d/desk.conf; grep -c {SITE} /etc/desk/site-name", "1\n1")]
 
-def test_upgrade_keeps_the_store_and_what_is_the_museums_own(machine, packages):
+def test_upgrade_and_the_way_back_keep_the_store_and_what_is_the_museums_own(machine, packages):
     before, package = packages
     install(machine, before)
     see(machine, *BEFORE, *STANDS)
@@ -176,3 +176,6 @@ def test_upgrade_keeps_the_store_and_what_is_the_museums_own(machine, packages):
         *STANDS, (f"{STAFF} -X DELETE {DOOR}/images/13/rules/1", DONE),
         ("echo CLOCK=alone >>/etc/desk/places; desk-look; echo $?",
          f"the store has no sums, which BY-HAND gives it: {STORE}\n1"))
+    install(machine, before, f"{KEEP} --allow-downgrades")
+    back = f"desk-restore --without-journal $(ls -d {BACKUPS}/2* | head -n 1) >/dev/null; echo $?"
+    see(machine, (back, "0"), *STANDS[1:])
