@@ -12,8 +12,8 @@ import { freeRank } from "./staff.ranks.js";
 import { rehearsalDays, rehearsed } from "./staff.rehearsal.js";
 import { makeRuleForm, ruleIn } from "./staff.ruleform.js";
 import { putMany } from "./staff.rules.js";
-import { COLUMNS, EFFECT_AT, SAVED_HEADS, effectOf, mayWords, readVerdicts } from "./staff.verdicts.js";
-import { ruleAbbr, savedVerdict } from "./staff.verdicts.js";
+import { COLUMNS, EFFECT_AT, SAVED_HEADS, byWhichRules, effectOf, mayWords } from "./staff.verdicts.js";
+import { readVerdicts, ruleAbbr, savedVerdict } from "./staff.verdicts.js";
 import { AUDIENCES, RULES, listed, ruleTexts, ruleWords, today } from "./staff.words.js";
 import { save } from "./stream.js";
 import { noteOf, titleOf } from "./titles.js";
@@ -30,7 +30,7 @@ const nameOf = (record) => shownName(record[COLUMNS.kind], record[COLUMNS.name])
 async function readDisk(accession, tools) {
   const survey = await askObject(`/images/${accession}/survey`);
   for (const what of ["deeds", "takedowns", "checks"]) await readHeld(what);
-  const asked = { day: today(), moment: new Date().toISOString() };
+  const asked = { day: today(), rules: byWhichRules(today()), moment: new Date().toISOString() };
   const files = [];
   const take = (record) => record[COLUMNS.accession] === String(accession) && files.push(record);
   await readVerdicts(asked.day, take, tools);

@@ -5,14 +5,14 @@ import { searchText } from "./names.js";
 import { cell, counted, element, kindWords, part, row } from "./shared.js";
 import { dated, diskCell, formOf, work } from "./staff.desk.js";
 import { limitFields, options } from "./staff.ruleform.js";
-import { COLUMNS, EFFECT_AT, SAVED_HEADS, effectOf, mayWords, onDay, readVerdicts } from "./staff.verdicts.js";
-import { ruleAbbr, savedVerdict } from "./staff.verdicts.js";
+import { COLUMNS, EFFECT_AT, SAVED_HEADS, byWhichRules, effectOf, mayWords, onDay } from "./staff.verdicts.js";
+import { readVerdicts, ruleAbbr, savedVerdict } from "./staff.verdicts.js";
 import { AUDIENCES, today } from "./staff.words.js";
 import { inParts, keeper, save } from "./stream.js";
 import { hasTitles, isTitled } from "./titles.js";
 
 // The verdicts of the day that was read last, and when they were asked; behind each the text to look in.
-let seen = { day: "", moment: "", files: [] };
+let seen = { day: "", words: "", rules: "", moment: "", files: [] };
 const SEARCHED = 15;
 
 async function read(day, tools) {
@@ -20,7 +20,7 @@ async function read(day, tools) {
   const once = keeper();
   const take = (record) => files.push([...record.map(once), searchText(record[COLUMNS.kind], record[COLUMNS.name])]);
   await readVerdicts(day, take, tools);
-  seen = { day, moment, files };
+  seen = { day, words: onDay(day), rules: byWhichRules(day), moment, files };
 }
 
 // Says of a file whether it is looked for: by a part of its name or its disk's title, by the disk's number or its rule.
@@ -86,27 +86,26 @@ async function draw() {
   const count = element("p", asked.words !== "" || !asked.showsClosed ? `${number} shown here.` : `All ${number}.`);
   const columns = ["Disk", "Kind", "Slot", "Name", "Type", "They may", "Rule"];
   const made = files.length ? [longTable("verdicts", columns, files, (file) => fileRow(file, asked.audience))] : [];
-  const heading = dated("h2", `What ${AUDIENCES[asked.audience]} gets ${onDay(seen.day)}`);
+  const heading = dated("h2", `What ${AUDIENCES[asked.audience]} gets ${seen.words}`);
   stands.replaceChildren(heading, element("p", summary(counts)), count, ...made);
   stands.setAttribute("aria-busy", "false");
   part("eyes").querySelector(".found").hidden = false;
 }
 
 async function saveShown() {
-  const asked = wanted();
-  const { day, moment } = seen;
+  const [asked, mine] = [wanted(), seen];
   const { files } = await lookThrough(asked);
   const texts = [csvText([SAVED_HEADS])];
-  const recordOf = (file) => savedVerdict(file, asked.audience, { day, moment });
+  const recordOf = (file) => savedVerdict(file, asked.audience, mine);
   await inParts(files, (some) => texts.push(csvText(some.map(recordOf))));
-  save(`${asked.audience}-${day}-${files.length}-of-${seen.files.length}-files.csv`, texts, "text/csv");
+  save(`${asked.audience}-${mine.day}-${files.length}-of-${mine.files.length}-files.csv`, texts, "text/csv");
 }
 
 async function look(tools) {
   const { day, audience } = formOf("eyes").elements;
   await read(day.value, tools);
   await draw();
-  return `Read: what everybody gets ${onDay(day.value)}. Shown: ${AUDIENCES[audience.value]}.`;
+  return `Read: what everybody gets ${seen.words}. Shown: ${AUDIENCES[audience.value]}.`;
 }
 
 export function openEyes() {

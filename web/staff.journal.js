@@ -100,10 +100,9 @@ export function explained(fault) {
 
 // Reads what is older than what was read, and shows all.
 async function readOlder(tools) {
-  const take = (line) => read.take(line);
   const before = read.byId.size;
   try {
-    await lines.readOlder(take, () => read.oldest.slice(0, 7), tools);
+    await lines.readOlder((line) => read.take(line), () => read.oldest.slice(0, 7), tools);
   } catch (fault) {
     return explained(fault);
   } finally {
@@ -134,8 +133,10 @@ function savedRecord(change) {
 // Saves what is shown as a table for a spreadsheet.
 async function saveShown() {
   const texts = [csvText([HEADS])];
-  await inParts(found(formOf("journal").elements), (some) => texts.push(csvText(some.map(savedRecord))));
-  save(`journal-${today()}.csv`, texts, "text/csv");
+  const shown = found(formOf("journal").elements);
+  await inParts(shown, (some) => texts.push(csvText(some.map(savedRecord))));
+  const name = `journal-${today()}-${shown.length}-of-${changes.length}-changes-back-to-${read.oldest.slice(0, 10)}`;
+  save(`${name}.csv`, texts, "text/csv");
 }
 
 // Shows the journal, of one disk where its number is given.

@@ -45,20 +45,20 @@ export const onDay = (day) => `on ${day}${day < today() ? `, ${PAST}` : ""}`;
 
 const LATER = "by today's rules, which may change until then";
 const NOW = "by the rules that stood when it was asked";
-const byWhichRules = (day) => (day < today() ? PAST : (day > today() && LATER) || NOW);
+export const byWhichRules = (day) => (day < today() ? PAST : (day > today() && LATER) || NOW);
 
 export const SAVED_HEADS = [
   ...["day", "by which rules", "asked at", "audience", "they may", "because", "rule", "rule in words"],
   ...["disk", "title", "deed", "kind", "slot", "user", "name", "name as shown", "type", "size", "faults"],
 ];
 
-// A verdict as a record of a table that says by itself what it is.
-export function savedVerdict(record, audience, { day, moment }) {
+// A verdict as a record of a table that says by itself what it is, also where it is saved on a later day.
+export function savedVerdict(record, audience, { day, rules, moment }) {
   const [label, accession] = [record[EFFECT_AT[audience] + 1], record[COLUMNS.accession]];
   const words = [MAY[effectOf(record, audience)], whyListed(record, audience), label, ruleMeaning(label)];
   const name = shownName(record[COLUMNS.kind], record[COLUMNS.name]);
   return [
-    ...[day, byWhichRules(day), moment, AUDIENCES[audience], ...words, accession, titleOf(Number(accession))],
+    ...[day, rules, moment, AUDIENCES[audience], ...words, accession, titleOf(Number(accession))],
     ...[...record.slice(COLUMNS.deed, COLUMNS.type), name, ...record.slice(COLUMNS.type, COLUMNS.faults + 1)],
   ];
 }

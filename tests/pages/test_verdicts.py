@@ -6,7 +6,7 @@ import csv
 import pytest
 from staff_helpers import saved_table
 from support import museums, stand_in
-from support.browser import TODAY
+from support.browser import CLOCK, TODAY
 
 DAYS = ["2026-06-25", "2026-07-05", "2027-06-15", "2027-06-16"]
 AUDIENCES = {"public": "the public", "room": "the reading room", "staff": "the staff"}
@@ -48,16 +48,16 @@ def test_file_is_found_by_name_disk_or_rule_and_saved_without_formula(museum, st
     for words, count in {"guide": 2, "1002": 3, "r9.20": 7, "=1+1": 1, "no such": 0, "1066": 5}.items():
         shown = look(staff, TODAY, "staff", True, words)
         assert (len(shown["rows"]), int(shown["stands"][1].split()[0])) == (count, count), words
+    staff.script(CLOCK % 86_400_000)
     staff.push("Save what is shown as CSV")
     _, *rows = saved_table(staff, f"staff-{TODAY}-5-of-19-files.csv")
     assert [row[14] for row in rows] == [name if name[0] != "=" else f"'{name}" for name in museums.HARMFUL]
     words = ["the staff", "read it", "", "R7.20", "rule 20 of deed 7", "1066", "", "7", "d64", "0", "", "../../X"]
-    assert (rows[0][1], rows[0][3:]) == (STOOD, [*words, "../../X", "SEQ", "4", ""])
+    assert (rows[0][1], rows[0][3:]) == (STOOD, [*words, "../../X", "SEQ", "4", ""]), "saved a day after it was asked"
 
 def test_day_that_is_over_is_said_to_be_by_rules_of_today_in_the_view_and_in_the_saved_table(staff):
     look(staff, "1999-01-01", words="LOGBOOK")
-    headings = staff.texts("#eyes .stands h2")
-    assert headings == [f"What the public gets on 1999-01-01, {PAST}"], "a day that is over is told as if it were known"
+    assert staff.texts("#eyes .stands h2") == [f"What the public gets on 1999-01-01, {PAST}"], "a past day looks known"
     staff.push("Save what is shown as CSV")
     _, saved = saved_table(staff, "public-1999-01-01-1-of-14-files.csv")
     assert (saved[:2], saved[2][:14]) == (["1999-01-01", PAST], f"{TODAY}T12:")
