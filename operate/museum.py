@@ -41,8 +41,8 @@ PLACE = re.compile(r"([A-Z_]+)=(\S+)")
 # desk and its readers wait for that.
 BLOCK, AT_ONCE = 1 << 20, 1 << 21
 FOLDER = os.O_RDONLY | os.O_DIRECTORY | os.O_NOFOLLOW
-# Of a backup: its name, by the moment in UTC at which it was begun, with what keeps it behind; and the file that has the
-# journal's last line of that moment, by its SHA-256.
+# Of a backup: its name, which is the moment in UTC at which it was begun, and the word of --keep behind it; and the file
+# that has the journal's last line of that moment, by its SHA-256.
 NAME, BACKUP, MARK = "%Y-%m-%dT%H%M%SZ", re.compile(r"(\d{4}-\d\d-\d\dT\d{6}Z)(-.*)?"), "journal-mark"
 
 class Failed(Exception):
@@ -171,8 +171,6 @@ def systemctl(word):
 def is_open():
     """Whether the desk's unit runs."""
     return subprocess.run(["systemctl", "is-active", "--quiet", UNIT], stdin=subprocess.DEVNULL).returncode == 0
-
-# Folders
 
 class Folder(contextlib.AbstractContextManager):
     """An open folder. What is in it is reached by its descriptor, and no link in it is followed: so whoever may write
@@ -339,6 +337,11 @@ def has_sums(folder, name):
         return head.startswith(FORMAT) and head[-1] == SUM_BYTES
     return True
 
+def moment_of(name):
+    """The moment of a backup, by its name; None where that is none."""
+    with contextlib.suppress(TypeError, ValueError):
+        return calendar.timegm(time.strptime(BACKUP.fullmatch(name)[1], NAME))
+
 # The journal
 
 def journal_parts(path):
@@ -352,11 +355,6 @@ def journal_parts(path):
             except (EOFError, zlib.error, gzip.BadGzipFile) as fault:
                 raise Failed(f"{file}: it cannot be unpacked") from fault
         yield lines
-
-def moment_of(name):
-    """The moment of a backup, by its name; None where that is none."""
-    with contextlib.suppress(TypeError, ValueError):
-        return calendar.timegm(time.strptime(BACKUP.fullmatch(name)[1], NAME))
 
 def mark_of(line):
     return hashlib.sha256(line).hexdigest()
@@ -377,8 +375,6 @@ def lines_after(path, mark):
                 return lines[at + 1 :] + found
         found = lines + found
     return found if is_there and mark is None else None
-
-# How tools end
 
 def refusal_in(body):
     """The name of a refusal, or the beginning of what came in its place."""

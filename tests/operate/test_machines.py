@@ -173,9 +173,10 @@ def test_upgrade_and_the_way_back_keep_the_store_and_what_is_the_museums_own(mac
         ("nginx -t 2>&1 | tail -n 1 | grep -c successful; systemctl is-active desk-space", "1\nactive"),
         # (a version that kept no mark of the journal in its backups wants this word)
         (f"desk-restore --without-journal {NEWEST} >/root/restored; echo $?; grep -c '^only' /root/restored", "0\n0"),
-        *STANDS, (f"{STAFF} -X DELETE {DOOR}/images/13/rules/1", DONE),
+        *STANDS,
         ("echo CLOCK=alone >>/etc/desk/places; desk-look; echo $?",
          f"the store has no sums, which BY-HAND gives it: {STORE}\n1"))
     install(machine, before, f"{KEEP} --allow-downgrades")
-    back = f"desk-restore --without-journal $(ls -d {BACKUPS}/2* | head -n 1) >/dev/null; echo $?"
-    see(machine, (back, "0"), *STANDS[1:])
+    back = (f"desk-restore $(grep -om1 -e --without-journal /usr/sbin/desk-restore) $(ls -d {BACKUPS}/2* | head -n 1) "
+            ">/dev/null; echo $?; ls -d /var/lib/desk/set-aside-* | wc -l")
+    see(machine, (back, "0\n2"), *STANDS, (f"{STAFF} -X DELETE {DOOR}/images/13/rules/1", DONE))
