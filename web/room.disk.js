@@ -71,9 +71,8 @@ export async function showDisk(number) {
   Object.assign(list, { id: "files", className: "files" });
   const none = element("p", "There is no file on it that you may see.", { className: "callout" });
   const rules = files.length ? `What decides here: ${rulesOf(files)}. ` : "";
-  const words = `${rules}${deedWords(deed)}`;
   const staff = askStaff("this disk", `Disk ${accession}: ${title}`);
-  const why = box("p", "quiet", words, staff);
+  const why = box("p", "quiet", rules, deedWords(deed), staff);
   closedWords(accession, files).then((closed) => closed && why.before(box("p", "callout", `${closed} `, staff)));
   const quotes = quoting(() => citation(accession));
   const text = box("div", "", ...zipWay({ accession, kind, files, quotes }), files.length ? list : none, why);

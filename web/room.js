@@ -53,12 +53,13 @@ function refusedView({ accession, slot }, fault) {
     return { heading: "The desk does not know this key", parts: [refusal(fault), box("p", "cluster", without, again)] };
   }
   const disk = accession && nameOfDisk(Number(accession));
-  const of = `Disk ${accession}${slot ? `, slot ${slot}` : ""}: ${disk}`;
+  const of = `Disk ${accession}${slot ? `, slot ${slot}` : ""}: ${fault.heading ?? disk}`;
   const [, deed] = /^R(\d+)/.exec(fault.said?.rule) ?? [];
   const ways = box("p", "cluster", deed ? deedWords(deed) : "", accession ? askStaff("it", of) : null);
   ways.append(slot ? link("The other files of this disk", accession) : link("All disks", ""));
   const heading = fault.heading ?? (slot ? `${disk}, slot ${slot}` : (disk ?? "There is no such place here"));
-  return { heading, isName: heading === fault.heading, parts: [refusal(fault), ways] };
+  const isName = heading === fault.heading;
+  return { heading, title: isName ? `${heading}, ${disk}` : heading, isName, parts: [refusal(fault), ways] };
 }
 
 // A title for the window; that of the home says what was looked for.

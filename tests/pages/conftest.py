@@ -28,6 +28,5 @@ def staff(driver, museum, tmp_path):
 
 @pytest.fixture
 def reader(driver, museum, tmp_path):
-    """The page for readers."""
     with stand_in.Door(museum, outside=True, folder=tmp_path) as door:
         yield ReadersPage(driver, door)

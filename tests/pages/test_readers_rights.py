@@ -78,7 +78,8 @@ def test_refusal_says_why_whom_to_ask_and_where_to_go_on(reader):
         assert (staff in reader.text("#view")) == (refusal != ["Refusal: no-route"]), place
         reader.named("link", way).click()
         assert reader.read(lambda state: state["here"] != f"#/{place}")["refusal"] == [], place
-    assert [reader.go(place)["heading"] for place in ("1003/0", "1001/9")] == ["LOGBOOK", "Disk 1001, slot 9"]
+    shown = [(at["heading"], at["title"].partition(" – ")[0]) for at in map(reader.go, ("1003/0", "1001/9"))]
+    assert shown == [("LOGBOOK", "LOGBOOK, Disk 1003"), ("Disk 1001, slot 9",) * 2]
 
 def test_desk_that_has_nothing_or_does_not_answer_is_said(museum, reader):
     wanted = {429: "You ask too often. Wait a little, and try again.", 503: "The desk cannot answer now. Try again.",

@@ -237,6 +237,7 @@ def test_disk_with_most_files_and_a_picture_is_found_and_short_on_a_phone_beside
     assert reader.texts(".neighbours > *") == ["", "1 of 6 disks", "Disk 2001\u00a0→"]
     for width in (360, 640):
         with reader.phone(width):
+            reader.wait(lambda state: reader.script("return window.innerWidth") == width)
             assert reader.script("return document.querySelector('table').offsetHeight") <= 1100
 
 def zip_says(reader, words):

@@ -69,9 +69,10 @@ def test_room_is_the_museums_in_head_foot_title_and_refusals(museum, tmp_path, r
     assert reader.script(links, "#foot a") == ["mailto:room@museum.example", f"{reader.door.address}imprint.html"]
     assert reader.texts("#foot p")[0] == "Museum of the River, Lower Valley" and "one" not in reader.text("#foot")
     museum.rules["T1001"] = {1: museums.rule(1, "deny", ["public"], {"slot": 0})}
-    for place, subject in (("1001", "Disk 1001"), ("1001/0", "Disk 1001, slot 0")):
+    of = ": Letters of a Férryman"
+    for place, subject in (("1001", f"1001{of}"), ("1003/0", "1003, slot 0: LOGBOOK"), ("1001/0", f"1001, slot 0{of}")):
         reader.go(place)
         [mail] = reader.script(links, "#view a[href^=mailto]")
-        assert mail.startswith(f"mailto:room@museum.example?subject={subject}: Letters of a Férryman&body=")
+        assert mail.startswith(f"mailto:room@museum.example?subject=Disk {subject}&body=")
         assert mail.endswith(f"#/{place}")
     assert "Write to room@museum.example about it, or call +49 89 555." in reader.text("#view")

@@ -189,8 +189,6 @@ class Page:
             self.cdp("Emulation.clearDeviceMetricsOverride")
 
 class ReadersPage(Page):
-    """The page for readers."""
-
     def find(self, words):
         return self.go(f"?q={urllib.parse.quote_plus(words)}")
 
