@@ -48,6 +48,7 @@ const STATUSES = {
   "no-space": ["The disk of the desk is nearly full, so it takes no changes.", "Call whoever runs it."],
   504: ["The desk took too long.", "Try again."],
   changed: ["What you may see has just changed.", "Try again."],
+  asked: ["What is typed there now is not what you agreed to.", "Press \u201cPut the disks\u201d."],
   rotated: ["The journal has begun a new file since you opened it.", "Read it anew."],
   digest: ["This browser cannot make a SHA-256 here.", "Open the page at 127.0.0.1, or in another browser."],
   file: ["Your browser cannot read the file: it is gone, or has changed since you chose it.", "Choose it again."],

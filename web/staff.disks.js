@@ -30,12 +30,17 @@ function dumpOf(file) {
   return dump;
 }
 
-// The dumps that can be sent; and what is left out, with the rows of the sheet that have no dump.
-const sendable = () => dumps.filter((dump) => !dump.problem);
+// The dumps that can be sent or are put; and what is left out, with the rows of the sheet that have no dump.
+const sendable = () => dumps.filter((dump) => !dump.problem || isDone(dump));
 const missing = () => (sheet ?? []).filter((one) => one.dump === null);
-const leftOut = () => [...dumps.filter((dump) => dump.problem), ...missing()];
+const leftOut = () => [...dumps.filter((dump) => dump.problem && !isDone(dump)), ...missing()];
 
 const isOpen = (dump) => !dump.problem && !isDone(dump);
+
+// A dump, or a row of the sheet without one, as it stands in a report; and where a dump goes by what is typed now.
+const cellsOf = ({ accession, kind, deed, digest, file, sha256 }) =>
+  sha256 ? [accession, kind, deed, sha256, file] : [accession.value, kind, deed.value, digest, file.name];
+const pathOf = (dump) => `/accessions/${cellsOf(dump).slice(0, 4).join("/")}`;
 
 function dumpRow(dump) {
   const { file, kind, digest, accession, deed, says } = dump;
@@ -123,10 +128,12 @@ async function readSheet(files) {
 
 // Gives the dumps what the sheet says of them. A dump that it does not name is left out.
 function useSheet() {
-  const others = matchRows(sheet, dumps).filter((dump) => dump.kind);
+  const others = matchRows(sheet, dumps).filter((dump) => dump.kind && !isDone(dump));
   for (const dump of others) Object.assign(dump, { problem: "The sheet does not name it: left out.", isLeftOut: true });
   for (const one of sheet.filter((row_) => row_.dump)) {
     const { dump } = one;
+    const isElsewhere = dump.accession.value !== one.accession || dump.deed.value !== one.deed;
+    if (isElsewhere) Object.assign(dump, { outcome: "", who: null });
     Object.assign(dump, { problem: dump.kind ? rowProblem(one) : noKind(dump.file.size), isLeftOut: false });
     Object.assign(dump.accession, { value: one.accession, readOnly: true });
     Object.assign(dump.deed, { value: one.deed, readOnly: true });
@@ -149,14 +156,14 @@ async function unagreed() {
   const deeds = new Map((await readHeld("deeds")).map((one) => [String(one.deed), one]));
   const wanted = [...new Set(open.map(({ deed }) => deed.value))];
   const unknown = wanted.filter((deed) => !deeds.has(deed));
-  const of = (deed) => `${deed} (of accession ${open.find((dump) => dump.deed.value === deed).accession.value})`;
+  const of = (deed) => `${deed} (as of accession ${open.find((dump) => dump.deed.value === deed).accession.value})`;
   if (unknown.length) return `Nothing is sent: there is no deed ${listed(unknown.map(of))}. Put it first.`;
   await readHeld("takedowns");
   const there = new Set((await readHeld("checks")).map(({ accession }) => String(accession)));
   const count = open.filter(({ accession }) => there.has(accession.value)).length;
   const words = `In use already: ${counted(count, "accession")}. The same disk stays as it is; another one is refused.`;
   const parts = wanted.flatMap((deed) => deedParts(deeds.get(deed), open.filter((dump) => dump.deed.value === deed)));
-  const others = `Left out: ${out}, each for what the list says.`;
+  const others = `Left out: ${out}. The last column of the list says why.`;
   const more = [...(count ? [element("p", words)] : []), ...(out ? [element("p", others)] : []), ...parts];
   const asked = { words: `Put ${counted(open.length, "disk")}?`, more, go: "Put them", keep: "Do not put them" };
   return (await sure(asked)) ? null : "Nothing is sent.";
@@ -178,23 +185,20 @@ function deedParts({ deed, donor, signed, rules }, dumps_) {
 async function putDumps(tools) {
   const words = await unagreed();
   if (words !== null) return words;
+  for (const dump of sendable()) dump.agreed = pathOf(dump);
   const run = {
-    section: "disks",
-    items: [...sendable(), ...leftOut()],
-    word: "disk",
-    verb: "put",
-    one: putDump,
+    ...{ section: "disks", word: "disk", verb: "put", one: putDump, items: [...sendable(), ...leftOut()] },
     shown: (dump) => Object.assign(dump.says, { textContent: dump.outcome }),
     heads: ["Accession", "Kind", "Deed", "SHA-256", "File"],
-    cells: ({ accession, kind, deed, digest, file, sha256 }) =>
-      sha256 ? [accession, kind, deed, sha256, file] : [accession.value, kind, deed.value, digest, file.name],
+    cells: (one) => (one.outcome ? one.tried : null) ?? cellsOf(one),
   };
   return sendMany(run, tools);
 }
 
 async function putDump(dump) {
-  const path = `/accessions/${dump.accession.value}/${dump.kind}/${dump.deed.value}/${dump.digest}`;
-  await send("PUT", path, await bytesOf(dump.file));
+  dump.tried = cellsOf(dump);
+  if (pathOf(dump) !== dump.agreed) throw new Refused("asked", {});
+  await send("PUT", dump.agreed, await bytesOf(dump.file));
   dump.accession.readOnly = dump.deed.readOnly = true;
 }
 

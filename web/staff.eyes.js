@@ -16,11 +16,11 @@ let seen = { day: "", words: "", rules: "", moment: "", files: [] };
 const SEARCHED = 15;
 
 async function read(day, tools) {
-  const [files, moment] = [[], new Date().toISOString()];
-  const once = keeper();
+  const asked = { day, words: onDay(day), rules: byWhichRules(day), moment: new Date().toISOString() };
+  const [files, once] = [[], keeper()];
   const take = (record) => files.push([...record.map(once), searchText(record[COLUMNS.kind], record[COLUMNS.name])]);
   await readVerdicts(day, take, tools);
-  seen = { day, words: onDay(day), rules: byWhichRules(day), moment, files };
+  seen = { ...asked, files };
 }
 
 // Says of a file whether it is looked for: by a part of its name or its disk's title, by the disk's number or its rule.
@@ -82,8 +82,7 @@ async function draw() {
   stands.setAttribute("aria-busy", "true");
   const { files, counts } = await lookThrough(asked);
   if (mine !== turn) return;
-  const number = counted(files.length, "file");
-  const count = element("p", asked.words !== "" || !asked.showsClosed ? `${number} shown here.` : `All ${number}.`);
+  const count = element("p", `${counted(files.length, "file")} shown here.`);
   const columns = ["Disk", "Kind", "Slot", "Name", "Type", "They may", "Rule"];
   const made = files.length ? [longTable("verdicts", columns, files, (file) => fileRow(file, asked.audience))] : [];
   const heading = dated("h2", `What ${AUDIENCES[asked.audience]} gets ${seen.words}`);

@@ -133,9 +133,9 @@ function savedRecord(change) {
 // Saves what is shown as a table for a spreadsheet.
 async function saveShown() {
   const texts = [csvText([HEADS])];
-  const shown = found(formOf("journal").elements);
+  const [shown, all, since] = [found(formOf("journal").elements), changes.length, changes.at(-1)?.moment.slice(0, 10)];
   await inParts(shown, (some) => texts.push(csvText(some.map(savedRecord))));
-  const name = `journal-${today()}-${shown.length}-of-${changes.length}-changes-back-to-${read.oldest.slice(0, 10)}`;
+  const name = `journal-${today()}-${shown.length}-of-${all}-changes${since ? `-back-to-${since}` : ""}`;
   save(`${name}.csv`, texts, "text/csv");
 }
 

@@ -1,6 +1,7 @@
 // Many changes, one after the other: with progress, a report that can be saved, and a way to go on where they stopped.
 import { csvText } from "./csv.js";
-import { Refused, box, cell, counted, element, explainRefusal, refusalName, row, table } from "./shared.js";
+import { longTable } from "./lists.js";
+import { Refused, box, cell, counted, element, explainRefusal, refusalName, row } from "./shared.js";
 import { button, change, diskCell, isUnsure, keepReason, older, whoNow } from "./staff.desk.js";
 import { today } from "./staff.words.js";
 import { save } from "./stream.js";
@@ -21,7 +22,7 @@ const isLost = (fault) => fault instanceof Refused && [0, 401, 403, 429, 502, 50
 export const isDone = (item) => item.outcome === DONE;
 // An item with a problem is left out: it is never sent.
 const isOver = (item) => isDone(item) || Boolean(item.problem);
-const outcomeOf = ({ problem, outcome }) => problem || outcome;
+const outcomeOf = ({ problem, outcome }) => (outcome === DONE ? DONE : problem || outcome);
 
 // Sends what is left of some items by `one`, and gives a report. `run` has the section, the items, a word for them,
 // what sends one, and the columns of the report with an item's texts in them; `after` comes when it ends, in any case,
@@ -31,7 +32,7 @@ export async function sendMany(run, { progress, signal }) {
   for (const [at, item] of left.entries()) {
     if (signal.aborted) break;
     progress("Sending", at, left.length);
-    item.who = { ...whoNow(), at: new Date().toISOString() };
+    item.who = [...Object.values(whoNow()), new Date().toISOString()];
     const fault = await run.one(item).then(() => null, (came) => came);
     item.outcome = fault === null ? DONE : outcomeWords(fault);
     run.shown?.(item);
@@ -62,7 +63,7 @@ function report(run, isOlder) {
   const isDisk = (column, text) => text && /^(Accession|Disk)$/.test(column);
   const cellOf = (column, text) => (isDisk(column, text) ? diskCell(text, column) : cell(column, text ?? "", "words"));
   const rowOf = (item) => row([...run.cells(item), outcomeOf(item)].map((text, at) => cellOf(columns[at], text)));
-  if (others.length) made.append(table("Not done", columns, others.map(rowOf)));
+  if (others.length) made.append(longTable("Not done", columns, others, rowOf));
   if (run.more && !isWhole && !isOlder) made.append(element("p", run.more()));
   const goOn = () => change(run.section, (tools) => sendMany(run, tools));
   const buttons = isWhole ? [] : [button("Go on with the rest", goOn)];
@@ -72,8 +73,7 @@ function report(run, isOlder) {
 }
 
 function saveReport({ section, items, heads, cells }) {
-  const whoOf = ({ who = {} }) => [who.name, who.reason, who.at];
-  const rows = items.map((item) => [...cells(item), outcomeOf(item) || "not sent", ...whoOf(item)]);
-  const records = [[...heads.map((head) => head.toLowerCase()), "outcome", "by", "reason", "sent at"], ...rows];
+  const rows = items.map((item) => [...cells(item), outcomeOf(item) || "not sent", ...(item.who ?? ["", "", ""])]);
+  const records = [[...heads.map((head) => head.toLowerCase()), "outcome", "by", "reason", "tried at"], ...rows];
   save(`${section}-${today()}.csv`, [csvText(records)], "text/csv");
 }

@@ -33,11 +33,11 @@ function originOf(thing, changes) {
 function originWords(change, since) {
   if (change === null) return since ? `not in the journal, which is read back to ${since}` : "not in the journal";
   const { moment, name, reason } = change;
-  return `${moment.replace("T", " ")} by ${name || "nobody who is named"}${reason && `: ${reason}`}`;
+  const put = `${moment.replace("T", " ")} by ${name || "nobody who is named"}${reason && `: ${reason}`}`;
+  return since ? `${put} (or before ${since}, back to which the journal is read)` : put;
 }
 
 export const UNREAD = "not looked for in the journal";
-// The head of a column of these words.
 export const PUT = "Put when, by whom, and why";
 
 // For each of some things that stand, the words that say who put it, when and why; and the changes that were read.

@@ -69,8 +69,7 @@ function draw() {
     mark();
   });
   slider.addEventListener("change", look);
-  const none = element("p", "No rule begins or ends by itself.");
-  const made = lines.length ? listTable("rules", HEADS, lines, lineRow) : none;
+  const made = lines.length ? listTable("rules", HEADS, lines, lineRow) : element("p", "No rule begins or ends.");
   stands().replaceChildren(slider, made, box("div", "day"));
   mark();
 }

@@ -71,8 +71,7 @@ class Door:
         lines += [] if key is None else [f"Desk-Key: {key}"]
         lines += [f"Content-Length: {len(body)}"] if body and "Transfer-Encoding" not in dict(fields) else []
         lines += [f"{name}: {value}" for name, value in fields]
-        head = "".join(f"{line}\r\n" for line in [*lines, ""]).encode("latin-1")
-        return self.reply_to(head + body, method == "HEAD")
+        return self.reply_to("".join(f"{line}\r\n" for line in [*lines, ""]).encode("latin-1") + body, method == "HEAD")
 
     def get(self, path, *fields, key=None):
         return self.ask("GET", path, *fields, key=key)

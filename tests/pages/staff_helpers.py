@@ -41,8 +41,7 @@ def lost_at(number, stays=False, is_done=False):
     def before(method, path):
         came.append(method != "GET" and not path.startswith("/staff/"))
         is_now = came[-1] and sum(came) == number
-        is_later = sum(came) >= number and not is_now
-        return b"" if (is_now and not is_done) or (is_later and (stays or is_done)) else None
+        return b"" if (is_now and not is_done) or (sum(came) >= number and not is_now and (stays or is_done)) else None
 
     return before
 

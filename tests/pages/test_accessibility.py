@@ -146,8 +146,7 @@ fetch("https://localhost:1/").catch(() => {});
 """
 
 def test_browser_refuses_markup_scripts_and_other_hosts(view):
-    others = [line for line in view.logs() if "Failed to load resource: the server responded" not in line]
-    assert others == []
+    assert [line for line in view.logs() if "Failed to load resource: the server responded" not in line] == []
     assert view.driver.execute_async_script(REFUSED) == ["TypeError", "TypeError", "connect-src"]
     view.logs()
 

@@ -14,6 +14,7 @@ from support.samples import digest
 HELLO, RECORD, MARKED = samples.PROGRAM_DISK, samples.RECORD_DISK, samples.MARKED_DISK
 WELCOME, MUSEUM = (samples.bytes_of("images", name) for name in ("welcome.img", "museum.d64"))
 HEADS, LONG = "accession,kind,deed,sha256,file", "Müller box 1, disk 048.img"
+LEFT_OUT = "Left out: {}. The last column of the list says why."
 NO_DEED = "There is no such deed. Check its number, or put the deed first. (no-deed)"
 NOT_NAMED, NO_FILE = "The sheet does not name it: left out.", "No file of this name is chosen."
 NO_KIND = "The page does not send it: no kind of disk has 100 bytes. CP/M, 8 inches has 256,256 bytes, "
@@ -65,12 +66,12 @@ def test_dumps_of_a_sheet_are_found_compared_and_put(museum, staff, choose):
     shown = choose({**DUMPS, "shelf.CSV": ("\ufeff" + "\r\n".join([HEADS, *map(",".join, ROWS), ""])).encode()})
     words = "8 files chosen. The sheet has 8 rows: 4 ready, 3 with another disk than it says, 1 without a file."
     assert (shown["result"], results(shown)) == ([words], FOUND)
-    words = "Nothing is sent: there is no deed 99 (of accession 2007). Put it first."
+    words = "Nothing is sent: there is no deed 99 (as of accession 2007). Put it first."
     assert staff.push("Put the disks")["result"] == [words], "a disk of an unknown deed goes out"
     museum.deeds[99] = "Late Donor", "2020-01-01"
     museums.put(museum, 2001, "cpm8", 9, RECORD)
     asked = staff.push("Put the disks")["sure"][1:3]
-    assert (asked[0][:28], asked[1]) == ("In use already: 1 accession.", "Left out: 5, each for what the list says.")
+    assert (asked[0][:28], asked[1]) == ("In use already: 1 accession.", LEFT_OUT.format(5))
     del museum.deeds[99]
     staff.door.before = lost_at(3)
     assert staff.answer(True)["result"][0] == "2 disks put, 1 failed, 1 not sent yet, 5 left out."
@@ -86,10 +87,16 @@ def test_dumps_of_a_sheet_are_found_compared_and_put(museum, staff, choose):
     staff.push("Save the report")
     rows = saved_table(staff, f"disks-{TODAY}.csv")
     assert {row[0]: row[5] for row in rows[1:]} == wanted, "a report says nothing of what was left out"
-    assert [*rows[4][4:8], rows[4][8][:14]] == ["'=1+1", NO_DEED, "Ada Archivist", "a letter of today", f"{TODAY}T12:"]
+    assert rows[0] == [*"accession kind deed sha-256 file outcome by reason".split(), "tried at"]
+    assert rows[4][:8] == ["2007", "cpm8", "99", digest(RECORD), "'=1+1", NO_DEED, "Ada Archivist", "a letter of today"]
+    assert rows[4][8].startswith(f"{TODAY}T12:") and rows[-1][:6] == [*ROWS[4][:4], "gone.d64", NO_FILE]
+    assert {one[2:] for one in staff.door.sent()} == {("Ada%20Archivist", "a%20letter%20of%20today")}
     museum.deeds[99] = "Late Donor", "2020-01-01"
     assert staff.push("Go on with the rest")["result"][0] == "4 disks put, 0 failed, 5 left out."
     assert staff.push("Put the disks")["result"] == ["There is no disk to put."]
+    choose({"more.d64": MUSEUM, "next.csv": f"{HEADS}\n2009,d64,9,{digest(MUSEUM)},more.d64\n".encode()})
+    assert staff.push("Put the disks")["sure"][:2] == ["Put 1 disk?", LEFT_OUT.format(4)], "what is done is left out"
+    assert staff.answer(True)["result"][0] == "5 disks put, 0 failed, 4 left out."
 
 def test_dumps_are_described_and_numbered_by_hand(staff, choose):
     shown = choose({"one.d64": HELLO, "two <b>.d64": MARKED, "short.d64": bytes(100)})
@@ -103,15 +110,19 @@ def test_dumps_are_described_and_numbered_by_hand(staff, choose):
         ["two <b>.d64 Map", "175,531", "Commodore 1541 with error bytes", digest(MARKED), "", "", ""],
         ["short.d64", "100", "", "", "", "", NO_KIND]]
     assert asked == [
-        *("Put 2 disks?", "Left out: 1, each for what the list says."),
+        *("Put 2 disks?", LEFT_OUT.format(1)),
         f"2 disks under deed 9, of {samples.DONOR_OF_9}, signed on 0001-01-01",
         "20: all files readable for the public, the reading room and the staff, on all days",
         f"What they get from today, {TODAY}, as this page reckons it from the dumps and these rules:",
         *(f"The {who}: 1 to read, 1 only in the list, 0 hidden." for who in ("public", "reading room", "staff"))]
     assert (staff.answer(False)["result"], staff.door.sent()) == (["Nothing is sent."], [])
     staff.push("Put the disks")
-    shown = staff.answer(True)
-    assert shown["result"][0] == "2 disks put, 0 failed, 1 left out."
+    staff.door.before = lost_at(1)
+    staff.answer(True)
+    for deed, words in (("7", "1 disk put, 1 failed, 1 left out."), ("9", "2 disks put, 0 failed, 1 left out.")):
+        staff.type("Deed of one.d64", deed)
+        shown = staff.push("Go on with the rest")
+        assert shown["result"][0] == words, "a disk goes out under a deed of which nobody was asked"
     assert [row[4:] for row in shown["list"]] == [["3001", "9", "done"], ["3002", "9", "done"], ["", "", NO_KIND]]
 
 def test_map_shows_each_sector_the_chosen_file_and_faults(staff, choose):
@@ -128,11 +139,10 @@ def test_map_shows_each_sector_the_chosen_file_and_faults(staff, choose):
 # A script: what the page reads on the dump beside it, and what it foretells of its files.
 FORETOLD = """
 const [kind, rules, day, done] = arguments;
-const all = Promise.all([import("/dump.js"), import("/staff.forecast.js"), fetch("/drawn.dump")]);
-all.then(async ([dump, made, came]) => {
-  const { files } = dump.readDump(kind, new Uint8Array(await came.arrayBuffer()));
+Promise.all([import("/dump.js"), import("/staff.forecast.js"), fetch("/drawn.dump")]).then(async ([dump, all, raw]) => {
+  const { files } = dump.readDump(kind, new Uint8Array(await raw.arrayBuffer()));
   const texts = (one) => [one.slot, one.user ?? "", one.name, one.type, one.faults.join(" "), one.isServed].map(String);
-  done([files.map(texts), made.forecast(files, rules, day)]);
+  done([files.map(texts), all.forecast(files, rules, day)]);
 });
 """
 BASES = {"d64": [HELLO, MUSEUM, samples.LOOP_DISK], "d64e": [MARKED, samples.bytes_of("images", "damaged.d64")],

@@ -43,6 +43,11 @@ def test_disk_says_what_it_is_and_who_gets_what_by_which_rule(museum, disk):
         [TODAY, "the public", "see nothing of it", "T1002.1000", f"the file at slot 2 {HIDDEN}", NOT, "GUIDE", "532"],
         [TODAY, "the staff", "read it", "R9.20", f"all files readable for {ALL}, on all days", BY, "GUIDE", "532"]]
 
+def test_rule_may_have_been_put_before_what_is_read_of_the_journal(disk):
+    disk.door.journals["/journal"] += journal_lines(2, START, "200", "PUT", f"/accessions/1002/d64/9/{'0' * 64}")
+    before = f" (or before {moment(START)[:19].replace('T', ' ')}, back to which the journal is read)"
+    assert disk.go("disk/1002")["rows"][3][5] == BY + before, "the first that is read is told as the first of all"
+
 def test_files_ticked_by_their_shown_names_are_taken_down_and_what_stands_after_a_failure_is_said(museum, disk):
     museums.put_files(museum, 1002, "d64", 9, [("%CCETTER", "SEQ", b"A"), ("-", "DEL", None), ("GUIDE", "SEQ", b"A")])
     disk.go("disk/1002")
@@ -65,6 +70,5 @@ def test_files_ticked_by_their_shown_names_are_taken_down_and_what_stands_after_
 def test_each_number_of_a_disk_leads_to_its_page(museum, disk):
     museum.rules["T1002"] = takedown(1000, 2)
     disk.door.journals = {"/journal": journal_lines(1, START, "200", "PUT", "/images/1002/rules/1000", "Ada")}
-    for place, button in (("checks", "Check disk 1002"), ("takedowns", None), ("eyes", "Look"), ("journal", None)):
-        shown = disk.go(place)
-        assert "#/disk/1002" in (disk.push(button) if button else shown)["links"], place
+    for place, buttons in (("checks", ["Check disk 1002"]), ("takedowns", []), ("eyes", ["Look"]), ("journal", [])):
+        assert "#/disk/1002" in [disk.go(place), *map(disk.push, buttons)][-1]["links"], place

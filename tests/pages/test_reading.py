@@ -64,8 +64,7 @@ NAMES = {
 
 def test_bytes_are_converted(reader):
     for call, wanted in CONVERTED.items():
-        made = reader.script(CONVERT % call, [list(data) for data in wanted])
-        assert dict(zip(wanted, made)) == wanted, call
+        assert dict(zip(wanted, reader.script(CONVERT % call, [list(data) for data in wanted]))) == wanted, call
 
 def test_names_of_files_harm_no_machine_and_differ(reader):
     made = reader.script("return import('/safe.js').then(({ safeName }) => arguments[0].map(safeName))", list(NAMES))
@@ -145,8 +144,7 @@ def koala(data, x, y, colours=9000, ground=10000):
 def art(data, x, y, cells=8000, dots=0):
     """The same of a picture of two colours to a cell."""
     cell = y // 8 * 40 + x // 8
-    pair = 0x10 if cells is None else data[cells + cell]
-    return pair >> (data[dots + 8 * cell + y % 8] >> 7 - x % 8 & 1) * 4 & 15
+    return (0x10 if cells is None else data[cells + cell]) >> (data[dots + 8 * cell + y % 8] >> 7 - x % 8 & 1) * 4 & 15
 
 def letters(data, x, y):
     """The same of a set of signs: 32 in a row, each white on blue, with four black dots between them."""
@@ -172,8 +170,7 @@ def test_picture_has_the_dots_that_a_second_decoder_finds(reader, words):
     start, size, dot = DRAWN[words]
     data = bytes((n * n // 7 + n // 11) % 256 for n in range(size))
     said, width, inks = reader.script(DECODE, [*struct.pack("<H", start), *data])
-    due = "".join(f"{dot(data, n % width, n // width):x}" for n in range(len(inks)))
-    assert said == words and inks == due
+    assert said == words and inks == "".join(f"{dot(data, n % width, n // width):x}" for n in range(len(inks)))
 
 def test_screen_has_the_colours_and_places_of_its_text(reader):
     """Two red blocks in the second row of a screen with a border of sixteen dots, and a yellow one below the second."""

@@ -85,8 +85,7 @@ def test_file_that_the_desk_gives_out_to_nobody_is_not_said_to_be_read(takedowns
     is_honest = "Now they may see that they are there; then they see nothing of them." in shown["sure"][-2]
     assert is_honest, "a rehearsal closes a file as readable that nobody is given"
     takedowns.answer(False)
-    shown = takedowns.take_down("1005", "", "1", *BOTH, effect="list")
-    assert shown["sure"][-2:] == [NOW, NOTHING]
+    assert takedowns.take_down("1005", "", "1", *BOTH, effect="list")["sure"][-2:] == [NOW, NOTHING]
 
 def test_files_are_counted_and_the_first_ten_named_as_text(museum, takedowns):
     names = [*museums.HARMFUL, *(f"FILE {number}" for number in range(195))]

@@ -57,8 +57,7 @@ def test_fields_take_what_the_desk_takes(staff):
         if name == "what":
             staff.fill("rules", how=section)
             section = "rules"
-        field = staff.one(f"#{section} [name={name}]")
-        assert staff.script(TAKES, field, [*right, *wrong]) == right, (section, name)
+        assert staff.script(TAKES, staff.one(f"#{section} [name={name}]"), [*right, *wrong]) == right, (section, name)
     staff.fill("rules", how="all")
     assert not staff.one("#rules .what").is_displayed()
     assert not staff.script("return document.querySelector('#rules [name=audiences]').validity.valid")

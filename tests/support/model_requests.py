@@ -43,8 +43,7 @@ def parted(data):
     except (TypeError, UnicodeDecodeError):
         return None
     lines = [line.partition(b":") for line in found[3].splitlines()]
-    fields = [(name.lower(), value.strip(b" \t")) for name, _, value in lines]
-    return Parts(method, target, fields, data[found.end() :])
+    return Parts(method, target, [(name.lower(), value.strip(b" \t")) for name, _, value in lines], data[found.end() :])
 
 def values(parts, name):
     return [value for one, value in parts.fields if one == name]
@@ -52,8 +51,7 @@ def values(parts, name):
 def length_of(parts):
     """The length of the body that the fields tell, or None where they tell none."""
     found = re.fullmatch(b"0*([0-9]{1,6})", b" ".join(values(parts, b"content-length") or [b"0"]))
-    is_length = found and int(found[1]) <= BODY_LIMIT and not values(parts, b"transfer-encoding")
-    return int(found[1]) if is_length else None
+    return int(found[1]) if found and int(found[1]) <= BODY_LIMIT and not values(parts, b"transfer-encoding") else None
 
 def is_waited_for(data):
     """Whether a desk that has these bytes waits for more."""

@@ -70,8 +70,7 @@ WORD = re.compile(rb'"(?:[^"\\]|\\.)*"|[\w.+-]+|\r\n|.', re.S)
 def reworded(one, text, words):
     """A text of which one word is another, is missing, comes twice or in other letters, or has a word before it."""
     found, word = WORD.findall(text), one(*words)
-    some = [at for at, word in enumerate(found) if word[:1].isalnum() or word[:1] == b'"']
-    at = one(*some * 3, *range(len(found)))
+    at = one(*[at for at, word in enumerate(found) if word[:1].isalnum() or word[:1] == b'"'] * 3, *range(len(found)))
     changed = [[word], [word], [], [found[at]] * 2, [found[at].swapcase()], [found[at] + b"0"], [word, found[at]]]
     return b"".join([*found[:at], *one(*changed), *found[at + 1 :]])
 

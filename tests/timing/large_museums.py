@@ -42,8 +42,7 @@ def has(count, key=None):
 
 def medians(turns, count):
     """How long each of several things takes, done in turn: the medians of so many times."""
-    taken = [[turn() for turn in turns] for _ in range(count)]
-    return [statistics.median(times) for times in zip(*taken)]
+    return [statistics.median(times) for times in zip(*[[turn() for turn in turns] for _ in range(count)])]
 
 def megabytes(server, name):
     """The memory of a desk by a field of its status."""
