@@ -109,16 +109,17 @@ OUT = [
     (f"systemctl stop desk; mkdir /root/out; mv {STORE}* /root/out; sha256sum /etc/desk/staff-key >/root/key; "
      f"dpkg -i $(ls -v /root/desk_*.deb | tail -n 1) 2>&1 | grep -c 'there is no store: put it back'; ls {STORE}* "
      "2>/dev/null; sha256sum -c --quiet /root/key; echo $?", "1\n0"),
-    ("mv /root/out/* /var/lib/desk; systemctl start desk; echo $?", "0"), TAKEDOWN]
+    # a store that is large takes a while to open
+    ("mv /root/out/* /var/lib/desk; cd /etc/systemd/system; sed "
+     "\"s|^ExecStart=|&sh -c 'sleep 3; exec \\\"\\$\\$@\\\"' sh |\" /lib/systemd/system/desk.service >desk.service; "
+     "systemctl daemon-reload; systemctl start desk; echo $?; rm desk.service; systemctl daemon-reload", "0"), TAKEDOWN]
 # A disk was checked on a later day, so that the clock is behind; after many starts it is right.
-BEHIND = [
-    (f"""cd /var/lib/desk; systemctl stop desk; mkdir right; cp -p museum.sqlite* right
+BEHIND = [(f"""cd /var/lib/desk; systemctl stop desk; mkdir right; cp -p museum.sqlite* right
      runuser -u desk -- desk check --store {STORE} --acc 13 --at $(date -d '3 days' +%s) --key \\
          $(sed 's/^Desk-Key: //' /etc/desk/staff-key); systemctl start desk 2>/dev/null; echo $?
      for _ in $(seq 180); do [ $(systemctl show -P NRestarts desk) -lt 11 ] || break; sleep 1; done
      until [ $(systemctl show -P SubState desk) != start-post ]; do sleep 0.1; done
-     mv right/* .; rmdir right; {HEALTHY}""", f"13 sound\n1\n{DONE}"),
-]
+     mv right/* .; rmdir right; {HEALTHY}""", f"13 sound\n1\n{DONE}")]
 ALARM = [
     ("printf '#!/bin/sh\\n{ echo $*; cat; } >/srv/mail\\n' >/usr/sbin/sendmail; chmod +x /usr/sbin/sendmail; "
      "echo ALARM=anna@museum.example >>/etc/desk/places; systemctl stop desk; systemctl start desk-look 2>/dev/null; "
@@ -173,8 +174,7 @@ def test_upgrade_and_the_way_back_keep_the_store_and_what_is_the_museums_own(mac
         ("nginx -t 2>&1 | tail -n 1 | grep -c successful; systemctl is-active desk-space", "1\nactive"),
         # (a version that kept no mark of the journal in its backups wants this word)
         (f"desk-restore --without-journal {NEWEST} >/root/restored; echo $?; grep -c '^only' /root/restored", "0\n0"),
-        *STANDS,
-        ("echo CLOCK=alone >>/etc/desk/places; desk-look; echo $?",
+        *STANDS, ("echo CLOCK=alone >>/etc/desk/places; desk-look; echo $?",
          f"the store has no sums, which BY-HAND gives it: {STORE}\n1"))
     install(machine, before, f"{KEEP} --allow-downgrades")
     back = (f"desk-restore $(grep -om1 -e --without-journal /usr/sbin/desk-restore) $(ls -d {BACKUPS}/2* | head -n 1) "

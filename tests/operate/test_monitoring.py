@@ -155,7 +155,7 @@ def test_systemd_is_told_that_the_desk_replies_and_not_while_it_stalls(room):
             assert told.recv(99) == b"WATCHDOG=1"
         finally:
             os.killpg(watch.pid, signal.SIGKILL)
-    assert subprocess.run([words[0], "/none", "1"], env=where | {"MAINPID": "none"}, timeout=LIMIT).returncode == 1
+    assert subprocess.run([words[0], "/none", "1"], env=where | {"MAINPID": "4194305"}, timeout=LIMIT).returncode == 1
 
 def test_words_that_are_none_are_refused():
     for tool, words in {"desk-look": "[--new FILE] [PLACES]", "desk-space": "[PLACES]",
