@@ -7,12 +7,14 @@ import stat
 import subprocess
 
 import pytest
-from support import model_disks
+from support import cbm_image, model_disks
 from support.server import ROOT, connected
 
 WELCOME, MUSEUM = (pathlib.Path(ROOT, "images", name) for name in ("welcome.img", "museum.d64"))
 KEY, SERVE, DONE = ["--key", "abc"], ["serve", "--count", "0"], (0, "done\n", "")
 EXISTS, USAGE = (1, "", "desk: exists\n"), (2, "", "desk: usage\n")
+SAVE = "  Save it as a file, and give its path: then more can be said of it."
+LOOK = "First look that no other desk or sqlite3 uses it; else give the file of a store, or bring back a backup of it."
 STORE, DEVICE, NO_DESK = ((3, "", f"desk: {name}\n") for name in ("store", "device", "not-a-desk"))
 
 @pytest.fixture
@@ -89,22 +91,37 @@ def test_no_command_but_init_makes_a_store(ends, tmp_path, words):
     assert ends(*words, "--store", "none") == NO_DESK
     assert list(tmp_path.iterdir()) == []
 
-def test_explanation_has_what_the_system_said(ends, serving, plain):
-    """What to do next the trials show. The store that is in use stays locked for each command."""
+def test_explanation_has_what_the_system_said_and_what_to_do(ends, serving, plain):
+    """The store that is in use stays locked for each command."""
     with serving(plain) as served:
-        in_use = f"port {served.port}: another program uses it", "plain: another program uses it"
-        for name, why, *words in [
-            ("device", "folder: it is a folder", "list", "cpm8", "folder"),
-            ("store", "none/new: the folder for it is not there", "init", "--store", "none/new", *KEY),
-            ("device", "text: there is one already", *SERVE, "--store", "other", "--socket", "text"),
-            ("device", in_use[0], *SERVE, "--store", "other", "--port", served.port),
-            ("not-a-desk", "none: there is no such file", "export", "--store", "none"),
-            ("store", "text: it is no store of a desk", "export", "--store", "text"),
-            ("store", in_use[1], "copy", "--store", "plain", "--to", "new"),
-            ("store", in_use[1], *SERVE, "--store", "plain", "--socket", "new")]:
+        at_port, in_use = f"port {served.port}: another program uses it", "plain: another program uses it"
+        for name, why, advice, *words in [
+            ("device", "folder: it is a folder", "Give the path of a file in it.", "list", "cpm8", "folder"),
+            ("store", "none/new: the folder for it is not there", "Make the folder first, or give one that is there.",
+             "init", "--store", "none/new", *KEY),
+            ("device", "text: there is one already", "Give the path of a file that is not there yet.",
+             *SERVE, "--store", "other", "--socket", "text"),
+            ("device", at_port, "Give another port, or stop what uses this one.",
+             *SERVE, "--store", "other", "--port", served.port),
+            ("not-a-desk", "none: there is no such file", "For a new desk, make it there with desk init.",
+             "export", "--store", "none"),
+            ("store", "text: it is no store of a desk",
+             "Check which file you name; if it was a store, bring back a backup of it.", "export", "--store", "text"),
+            ("store", in_use, LOOK, "copy", "--store", "plain", "--to", "new"),
+            ("store", in_use, LOOK, *SERVE, "--store", "plain", "--socket", "new")]:
             status, output, errors = ends(*words, "--explain")
-            assert (status, output, errors.splitlines()[:2]) == (3, "", [f"desk: {name}", f"  {why}"])
+            lines = [line.strip() for line in errors.splitlines()]
+            assert (status, output, lines[:2], lines[-1]) == (3, "", [f"desk: {name}", why], advice)
     assert not plain.with_name("new").exists()
+
+@pytest.mark.parametrize("advice, words", [
+    (SAVE, ["list", "cpm8"]), (SAVE, ["import", "--store", "plain", *KEY, "--sheet"]),
+    (SAVE, ["show", "keys", "--store", "plain", *KEY, "--zone-file"]),
+    ("  Put nothing but the key into a file, and give that.", ["show", "keys", "--store", "plain", "--key-file"]),
+], ids=["image", "sheet", "zone", "key"])
+def test_explanation_reads_no_pipe_again(ends, plain, advice, words):
+    _, output, errors = ends(*words, "/dev/stdin", "--explain", input=b"k" * 5000)
+    assert (output, errors.splitlines()[-1]) == ("", advice)
 
 @pytest.mark.parametrize("words, bytes_of_sums", [(["--sums"], 8), ([], 0)], ids=["sums", "no-sums"])
 def test_sums_are_where_they_are_asked_for(ends, plain, words, bytes_of_sums):
@@ -132,6 +149,12 @@ def test_files_of_an_image_are_its_bytes_and_follow_no_link(ends, tmp_path):
     assert ends(*words)[0] == 0
     wanted = {f"{int(file.fields['slot']):05}-{file.fields['name']}": file.data for file in files}
     assert {path.name: path.read_bytes() for path in tmp_path.iterdir()} == wanted
+
+def test_large_file_of_an_image_is_made(ends, tmp_path):
+    data = bytes(range(250)) * 600
+    (tmp_path / "disk").write_bytes(cbm_image.filled(b"LARGE", [(0x82, b"LONG", data)]))
+    assert ends("files", "d64", "disk", "--to", ".") == (0, "0\t00000-LONG\t150000\n", "")
+    assert (tmp_path / "00000-LONG").read_bytes() == data
 
 def test_socket_is_of_one_desk_and_that_of_a_killed_one_gives_way(ends, serving, plain):
     path, words = plain.with_name("socket"), [*SERVE, "--store", "other", "--socket", "socket"]
