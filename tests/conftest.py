@@ -12,6 +12,7 @@ def pytest_addoption(parser):
     parser.addoption("--desk", help="the program under test; the one that ./desk or .ci/run built by default")
     parser.addoption("--seed", type=int, default=1, help="what drawn cases begin with")
     parser.addoption("--headed", action="store_true", help="show the browser")
+    parser.addoption("--release", action="store_true", help="wants each wrong body tried on the text as it is")
 
 def pytest_report_header(config):
     return f"desk: {program_path(config)}, seed: {config.getoption('--seed')}"
