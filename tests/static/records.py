@@ -7,13 +7,10 @@ from static.rattle import ROOT, Clause
 
 # What a record may be of, and the words of its other lines.
 WORDS = {
-    "rule": "says defined coded proved tested refused note",
+    "rule": "page says defined coded proved tested refused note",
     "promise": "says clause rests needs tested refused note",
     "unproved": "says coded tested refused note",
-    "premise": "says",
-    "definitions": "file",
-    "way": "step coded note",
-    "change": "look note"}
+    "definitions": "file"}
 
 class Record:
     """A record: what it is of, its title, and its other lines, each a word and a text."""

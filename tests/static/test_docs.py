@@ -1,4 +1,4 @@
-"""The pages say what is there: links, paths, crates, ways and promises; and files are short."""
+"""The pages say what is there: links, paths, crates, functions and promises; and files are short."""
 
 import functools
 import os
@@ -6,7 +6,7 @@ import re
 
 import pytest
 import unchanged
-from static import records
+from static import rattle, records
 from static.rattle import ROOT, text_of
 
 LINK = re.compile(r"(?<!!)\[[^\]]*\]\(([^)\s]+)\)")
@@ -72,19 +72,15 @@ def test_promises_are_those_of_the_records():
         assert not [name for name in names if not set(name.split("::")) <= known], item
         assert names or "the prover checks this" in item, item
     assert f"All {len(promises)} promises are records" in text
-    assert {record.title for record in records.of_kind("premise")} == set(re.findall(r"(?m)^- \*([^*]+)\*:", text))
+    needs = {text.rpartition(": ")[2] for record in promises for text in record.texts("needs")}
+    assert needs == set(re.findall(r"(?m)^- \*([^*]+)\*:", text))
 
 def test_crates_are_those_of_the_list():
     named = set(re.findall(r"\brd_\w+", sections(ARCHITECTURE)["The crates"]))
     assert named == set(re.findall(r"(?m)^(\w+):", text_of("crates.txt")))
 
-def test_ways_are_those_of_the_records():
-    """The steps of a way of ARCHITECTURE are as many as in its record, and name functions in their order there."""
-    ways, told = records.of_kind("way"), sections(ARCHITECTURE)
-    assert {name for name in told if name.startswith("The way of")} == {f"The way of {way.title}" for way in ways}
-    for way in ways:
-        steps, due = re.findall(STEP, told[f"The way of {way.title}"]), [name for _, name in way.named("coded")]
-        assert len(steps) == sum(step[:1].isdigit() for step in way.texts("step")), way
-        for name in re.findall(r"`(\w+(?:::\w+)?)`", "\n".join(steps)):
-            assert name in due or name in KIT, f"{way}: {name} is no function of its record, or is there before"
-            due = due[due.index(name) :] if name in due else due
+def test_ways_name_functions():
+    ways = "".join(part for name, part in sections(ARCHITECTURE).items() if name.startswith("The way of"))
+    named = set(re.findall(r"`(\w+)`", "".join(re.findall(STEP, ways)))) - {*KIT}
+    sources = [str(path.relative_to(ROOT)) for path in ROOT.glob("crates/*/src/**/*.rt")]
+    assert named and not named - {name for path in sources for name in rattle.items(path)}

@@ -1,4 +1,4 @@
-"""The records of rules, promises and ways name what is there: definitions, functions, proofs, tests and wrong bodies;
+"""The records of rules and promises name what is there: pages, definitions, functions, proofs, tests and wrong bodies;
 and each refusal, each fault and each limit has a rule."""
 
 import collections
@@ -10,7 +10,7 @@ from static.rattle import ROOT, parts_of, text_of
 
 # What a record has to have: of each item one of the words. A note says why there is none.
 DUE = {
-    "rule": ["defined", "coded", "tested", "refused note"],
+    "rule": ["page", "defined", "coded", "tested", "refused note"],
     "promise": ["clause note", "tested note"],
     "unproved": ["coded", "tested note"]}
 # The crates whose src/ is tests, and nothing else; and what makes a function a test.
@@ -23,13 +23,17 @@ def named(word, *kinds):
 def is_coded(path, name):
     return name.rpartition("::")[2] in rattle.items(path)
 
+def is_headed(path, name):
+    is_page = re.fullmatch(r"docs/[\w-]+\.md|crates/\w+/README\.md", path)
+    return is_page and name in re.findall(r"(?m)^#+ (.*)", text_of(path))
+
 # In which folders of crates what is named behind a word has to be, and whether it is; the unproved may be a whole file.
 THERE = {
+    "page": ("", is_headed),
     "defined": ("specs", lambda path, name: rattle.has_definition(path, name)),
     "coded": ("src", is_coded),
     "refused": ("must-fail more-edits tested-edits", lambda path, name: text_of(path) and not name),
-    "file": ("specs", lambda path, name: text_of(path) and path.endswith(".antt") and not name),
-    "look": ("", lambda path, name: (ROOT / path).exists() and not name)}
+    "file": ("specs", lambda path, name: text_of(path) and path.endswith(".antt") and not name)}
 
 def is_in_python(path, name):
     """Whether a file of tests/ is one that pytest runs, with a test of this name, or any where none is named."""
@@ -103,10 +107,6 @@ def test_promises_rest_on_sets_that_are_there_and_each_file_is_in_one():
     assert max(files.values()) == 1, files.most_common(1)
     rests = {name for record in records.of_kind("promise") for name in record.texts("rests")}
     assert rests == {record.title for record in records.of_kind("definitions")}
-
-def test_premises_are_needed_and_there():
-    needs = {text.rpartition(": ")[2] for record in records.of_kind("promise") for text in record.texts("needs")}
-    assert needs == {record.title for record in records.of_kind("premise")}
 
 def test_clause_on_an_open_connection_or_a_clean_disk_has_the_premise():
     meant = {"IsOpen": {"open", "open before"}, "IsClean": {"clean"}}
