@@ -2,6 +2,8 @@
 
 import collections
 import functools
+import importlib.machinery
+import importlib.util
 import pathlib
 import re
 
@@ -13,6 +15,13 @@ HEAD = rf"(?: *{PUBLIC}(?:const |unsafe |final )*(fn)|{PUBLIC}(?:const|static)) 
 EDIT = re.compile(r"(?:test: .*\n)?(?:file: .*\n(?:old: .*\nnew:.*\n)+)+")
 # A clause: what it belongs to (none where the name is that of a function), its name and its file.
 Clause = collections.namedtuple("Clause", "owner name path")
+
+def loaded(path):
+    """A program in Python as a module."""
+    loader = importlib.machinery.SourceFileLoader(path, str(ROOT / path))
+    module = importlib.util.module_from_spec(importlib.util.spec_from_loader(path, loader))
+    loader.exec_module(module)
+    return module
 
 @functools.cache
 def text_of(path):

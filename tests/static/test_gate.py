@@ -1,20 +1,14 @@
 """The gate itself: what it leaves out as unchanged, what it takes first, what it installs, and what it counts."""
 
-import importlib.machinery
-import importlib.util
 import os
-import pathlib
 import re
 import types
 
 import pytest
 import unchanged
-from support import server
+from static.rattle import ROOT, loaded
 
-ROOT = pathlib.Path(server.ROOT)
-LOADER = importlib.machinery.SourceFileLoader("gate", str(ROOT / "tests" / "run"))
-gate = importlib.util.module_from_spec(importlib.util.spec_from_loader("gate", LOADER))
-LOADER.exec_module(gate)
+gate = loaded("tests/run")
 PROGRAM = gate.PROGRAM.relative_to(ROOT)
 SUITES = [suite for suite in gate.SUITES if gate.files_of([suite])]
 INPUTS = [(suite, path) for suite in SUITES for path in unchanged.inputs_of(ROOT, suite)]

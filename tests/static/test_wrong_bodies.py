@@ -1,15 +1,14 @@
 """Each wrong body can be tried: its old texts stand once in src/ of its crate, and a test that refuses it is there. And
 each was tried, as far as a record says: a release has to have no crate whose trial is older than its text."""
 
-import os
 import re
-import shutil
-import subprocess
+import types
 import warnings
 
 import pytest
-from static import tried
-from static.rattle import ROOT, pairs_of, parts_of, text_of
+from static.rattle import ROOT, loaded, pairs_of, parts_of, text_of
+
+TOOL = loaded("tools/wrong-bodies")
 
 EDITS = sorted(str(edit.relative_to(ROOT)) for edit in ROOT.glob("crates/*/*/*.edit"))
 
@@ -36,74 +35,39 @@ def test_those_that_a_test_refuses_name_it():
 
 def test_each_crate_was_tried_as_it_is(request):
     """Names those that were not; only a release fails for them."""
-    due = tried.due()
-    told = f"older than their text, or with an edit that is not refused, in {tried.TRIED.name}: {' '.join(due)}"
+    due = TOOL.due()
+    told = f"older than their text, or with an edit that is not refused, in {TOOL.TRIED.name}: {' '.join(due)}"
     assert not (due and request.config.getoption("--release")), told
     if due:
         warnings.warn(told, stacklevel=1)
 
 def test_each_crate_without_wrong_bodies_says_why():
-    without = set(re.findall(r"(?m)^(\w+) none: .", tried.TRIED.read_text()))
-    assert {*tried.below()} - {parts_of(path)[0] for path in EDITS} == without
+    without = set(re.findall(r"(?m)^(\w+) none: .", TOOL.TRIED.read_text()))
+    crates = set(re.findall(r"(?m)^(\w+):", text_of("crates.txt")))
+    assert crates - {parts_of(path)[0] for path in EDITS} == without
 
-# A stand-in for the command of the kit, and one for its prover, which refuses a 7 in `one` and an 8 in `two`.
-RT = """#!/usr/bin/env python3
-import types
-class Crate:
-    def __init__(self, name):
-        self.name, self.folder = name, f"crates/{name}"
-        self.has_kept, self.below, self.words = lambda: True, lambda: [], lambda flags, keeps: []
-made = lambda top: [Crate("rd_one"), Crate("rd_two")]
-rtlib, linked = types.SimpleNamespace(PARTS=["src"], RATTLE=f"{__file__}tle", crates_below=made), lambda *_: None
-"""
-RATTLE = """#!/bin/sh
-echo "fn c::one: $(grep -q 7 src/lib.rt && echo 'did not prove `is_1`' || echo proved)"
-echo "fn c::two: $(grep -q 8 src/lib.rt && echo 'did not prove `is_2`' || echo proved)"
-"""
-SOURCE = "fn one() -> u32 {\n    1\n}\n\nfn two() -> u32 {\n    2\n}\n"
-TWO_CRATES = {
-    "bin/rt": RT, "bin/rttle": RATTLE, "crates.txt": "rd_one:\nrd_two: rd_one\n",
-    "records/wrong-bodies.tried": "# A note.\nrd_zero none: why\n",
-    "crates/rd_one/src/lib.rt": SOURCE, "crates/rd_two/src/lib.rt": SOURCE,
-    "crates/rd_one/must-fail/a.edit": "file: src/lib.rt\nold:     1\nnew:     7\n",
-    "crates/rd_one/more-edits/b.edit": "file: src/lib.rt\nold:     2\nnew:     8\n",
-    "crates/rd_two/more-edits/c.edit": "file: src/lib.rt\nold:     2\nnew:     8\n"}
+@pytest.mark.parametrize("came, left, line", [
+    ({"a": (True, ""), "b": (True, "")}, [], r"rd_cpm \w{16} 2 of 2 refused, 0 left to tests\n"),
+    ({"a": (True, ""), "b": (False, "")}, [], r"rd_cpm \w{16} 1 of 2 refused, 0 left to tests\n"),
+    ({"a": (True, "")}, ["b"], ""), ({}, [], "")], ids=["refused", "one not", "not all tried", "none"])
+def test_line_of_a_crate_is_written_once_all_is_tried(monkeypatch, tmp_path, came, left, line):
+    monkeypatch.setattr(TOOL, "TRIED", tmp_path / "tried")
+    monkeypatch.setattr(TOOL, "try_crate", lambda *given: (came, left))
+    TOOL.TRIED.write_text("# A note.\nrd_aaa none: why\nrd_zzz none: why\n")
+    assert TOOL.try_crates(None, [types.SimpleNamespace(name="rd_cpm")], 0) == ("1 of 2" in line)
+    assert re.fullmatch(rf"# A note\.\nrd_aaa none: why\n{line}rd_zzz none: why\n", TOOL.TRIED.read_text())
+    assert ("rd_cpm" in TOOL.due()) == ("2 of 2" not in line)
 
-@pytest.fixture
-def tree(tmp_path):
-    """Two crates, of which the second stands on the first, and what tries their wrong bodies."""
-    for path in ("tools/wrong-bodies", "tests/unchanged.py", "tests/static/rattle.py", "tests/static/tried.py"):
-        (tmp_path / path).parent.mkdir(parents=True, exist_ok=True)
-        shutil.copy(ROOT / path, tmp_path / path)
-    for path, text in TWO_CRATES.items():
-        (tmp_path / path).parent.mkdir(parents=True, exist_ok=True)
-        (tmp_path / path).write_text(text)
-        (tmp_path / path).chmod(0o755)
-    return tmp_path
+def test_no_check_begins_once_the_time_is_over():
+    came, left = TOOL.try_crate(None, types.SimpleNamespace(name="rd_cpm"), 0)
+    assert not came and len(left) == len(TOOL.edits_of("rd_cpm"))
 
-def said(tree, *words):
-    """The last line of tools/wrong-bodies, and the crates that it tried to the end or, without time, would have."""
-    environment = {**os.environ, "PATH": f"{tree}/bin:{os.environ['PATH']}", "DESK_KEPT": str(tree)}
-    ran = subprocess.run([tree / "tools/wrong-bodies", *words], env=environment, capture_output=True, text=True)
-    pattern = r"(\w+): \d of \d edits not tried" if words else r"written: (\w+)"
-    return ran.stdout.splitlines()[-1], re.findall(pattern, ran.stdout)
-
-def test_crate_is_tried_until_its_line_is_that_of_its_text(tree):
-    assert said(tree, "--minutes", "0") == ("0 refused, 0 not", ["rd_one", "rd_two"])
-    assert said(tree) == ("3 refused, 0 not", ["rd_one", "rd_two"])
-    text = (tree / "records/wrong-bodies.tried").read_text()
-    assert re.fullmatch(r"# A note\.\nrd_one \w{16} 2 of 2 .*\nrd_two \w{16} 1 of 1 .*\nrd_zero none: why\n", text)
-    changes = {"rd_one/tested-edits/d.edit": [], "rd_two/proofs/two/Two.antt": ["rd_two"],
-               "rd_one/src/lib.rt": ["rd_one", "rd_two"]}
-    for path, due in changes.items():
-        (tree / "crates" / path).parent.mkdir(parents=True, exist_ok=True)
-        (tree / "crates" / path).write_text(SOURCE + "\n")
-        assert said(tree, "--minutes", "0")[1] == due
-
-def test_change_of_definitions_below_or_an_edit_that_is_not_refused_leaves_a_crate_due(tree):
-    (tree / "crates/rd_one/more-edits/b.edit").write_text("file: src/lib.rt\nold:     2\nnew:     9\n")
-    assert said(tree)[0].startswith("rd_one/b: still proved")
-    assert said(tree, "--minutes", "0")[1] == ["rd_one"]
-    (tree / "crates/rd_one/specs").mkdir()
-    (tree / "crates/rd_one/specs/One.antt").touch()
-    assert said(tree, "--minutes", "0")[1] == ["rd_one", "rd_two"]
+def test_digest_is_of_what_a_trial_reads(monkeypatch, tmp_path):
+    monkeypatch.setattr(TOOL, "ROOT", tmp_path)
+    digests = [TOOL.digest_of("rd_cpm")]
+    for path in ("rd_cpm/proofs/a.antt", "rd_cpm/more-edits/a.edit", "rd_geometry/specs/A.antt",
+                 "rd_cpm/tested-edits/a.edit", "rd_geometry/proofs/a.antt", "rd_volume/specs/A.antt"):
+        (tmp_path / "crates" / path).parent.mkdir(parents=True, exist_ok=True)
+        (tmp_path / "crates" / path).touch()
+        digests.append(TOOL.digest_of("rd_cpm"))
+    assert len(set(digests[:4])) == 4 and set(digests[3:]) == {digests[3]}
