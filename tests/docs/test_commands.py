@@ -14,7 +14,6 @@ import tempfile
 
 import pytest
 from operate.test_package import made
-from support import doc_pages
 from support.server import ROOT
 
 # What is not run: what proves, builds or measures for long, and what wants a network.
@@ -55,6 +54,22 @@ done
 LEAST = {"README.md": 30, "docs/COMMANDS.md": 50, "docs/OPERATING.md": 45, "docs/BY-HAND.md": 90,
          "docs/DUMPS.md": 15, "docs/MACHINES.md": 15}  # commands of each
 
+# A heading or a block; and in a block a command, whose further lines begin with `> `, and the lines that it gives.
+PART = re.compile(r"^#+ (.*)$|^```.*\n((?s:.*?))^```$", re.M)
+COMMAND = re.compile(r"^([$#]) (.*(?:\n> .*)*)\n((?:(?![$#] ).*\n)*)", re.M)
+
+def commands(page):
+    """The commands of a page in their order: the line of each, its prompt, its words, and what it gives. In a section
+    that shows what the package does, "package" stands in the place of the prompt."""
+    text, found, heading = pathlib.Path(ROOT, page).read_text(), [], ""
+    for part in PART.finditer(text):
+        heading = part[1] or heading
+        for one in COMMAND.finditer(part[2] or ""):
+            number = text.count("\n", 0, part.start(2) + one.start()) + 1
+            prompt = "package" if heading.endswith(", by the package") else one[1]
+            found.append([number, prompt, one[2].replace("\n> ", "\n"), one[3]])
+    return found
+
 @pytest.fixture
 def folder(program):
     """A copy of what the commands need, not in /tmp, for they have one of their own. nginx's workers read it."""
@@ -88,7 +103,7 @@ def typed(folder, prepares, commands):
 def test_commands_give_what_the_page_shows(folder, page):
     prompt, prepares = ("#", LAYERS) if page == "docs/BY-HAND.md" else ("$", TMP)
     assert prompt == "$" or os.geteuid() == 0, "the commands of this page need the rights of root"
-    found = [one for one in doc_pages.commands(page) if one[1] == prompt and not LEFT_OUT.match(one[2])]
+    found = [one for one in commands(page) if one[1] == prompt and not LEFT_OUT.match(one[2])]
     wrong = ""
     for (number, _, words, wanted), gives in zip(found, typed(folder, prepares, [one[2:] for one in found])):
         # three dots at the end stand for more
@@ -106,7 +121,7 @@ CONTAINER = ("nginx -s stop 2>/dev/null; systemctl stop desk desk-staff; cp -r o
 @pytest.mark.timeout(900)
 def test_package_gives_what_the_page_on_machines_shows(folder, program):
     shutil.move(made(folder / "made", program), folder / "desk.deb")
-    found = [one[2:] for one in doc_pages.commands("docs/MACHINES.md") if one[1] == "package"]
+    found = [one[2:] for one in commands("docs/MACHINES.md") if one[1] == "package"]
     found = [one for one in found if not re.search("certbot|apt-get|changed=", one[0])] + [CONTAINER]
     begins = f"{LAYERS}\nexport LC_ALL=C.UTF-8 HOME=/srv; dpkg --no-triggers -i desk.deb >&2; nginx"
     came = typed(folder, f"{begins}; systemctl start desk desk-staff", found)
@@ -121,13 +136,13 @@ def test_each_block_of_a_page_begins_with_a_command(page):
 
 def test_no_command_has_a_key_among_its_words():
     """Others on a machine can read them."""
-    found = [one[2] for page in LEAST for one in doc_pages.commands(page)]
+    found = [one[2] for page in LEAST for one in commands(page)]
     found += [path.read_text() for path in pathlib.Path(ROOT, "operate").rglob("*") if path.is_file()]
     a_key = re.compile(r"--key[ =]|=['\"]?Desk-Key:|-H ['\"]?Desk-Key:|badges/\$\(")
     assert not [words for words in found if a_key.search(words)], "a key stands on a command line"
 
 def test_tools_and_units_that_commands_of_the_package_name_are_there():
     """These commands are typed on a museum's machine alone."""
-    words = "\n".join(one[2] for page in LEAST for one in doc_pages.commands(page) if one[1] == "package")
+    words = "\n".join(one[2] for page in LEAST for one in commands(page) if one[1] == "package")
     named = set(re.findall(r"(?<![\w/])desk-[a-z-]+", words))
     assert named and named <= {path.stem for path in pathlib.Path(ROOT, "operate").rglob("desk-*")}

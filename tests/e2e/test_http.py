@@ -11,8 +11,8 @@ import time
 import pytest
 from support.clients import OPEN_FILES, PAUSE, ask, by_socket, connected, curl, read_all, zone_of
 from support.samples import (
-    ALL, BAD_HEAD, DEED, DONE, EVERY, FOR_RECORD, FRAMING, LONG_FILE, LONG_QUESTION, NO_ACCESSION, NO_DEED, QUESTION,
-    RECORD, RECORD_DISK, compact, content, denied, drop, get, put, put_image, put_rule, raw, with_fields)
+    ALL, BAD_HEAD, DEED, DONE, EVERY, FOR_RECORD, FRAMING, LONG_QUESTION, NO_ACCESSION, NO_DEED, QUESTION, RECORD,
+    RECORD_DISK, compact, denied, drop, get, put, put_image, put_rule, raw, with_fields)
 
 DEED_10, DROP_10 = raw(put("/deeds/10", DEED)), drop("/deeds/10/rules/1")
 HEAD, BODY = DEED_10[: DEED_10.index(b"{")], compact(DEED)
@@ -25,9 +25,7 @@ PARTS = {
     "the longest body": ([with_fields("Content-Length: 262144") + bytes(262144)], False, RECORD),
     "a deed after a question": ([QUESTION + DEED_10], False, RECORD),
     "no byte": ([], True, BAD_HEAD),
-    "half a head": ([QUESTION[:30]], True, BAD_HEAD),
     "a head and half a body": ([HEAD + BODY[:20]], True, FRAMING),
-    "a head, a pause, all but the last byte": ([HEAD, BODY[:-1]], True, FRAMING),
     "a body in two parts": ([HEAD + BODY[:20], BODY[20:]], False, DONE),
     "a head, then its body, and an end": ([HEAD, BODY], True, DONE)}
 
@@ -36,11 +34,9 @@ def test_request_is_read_whole_and_no_further(server, parts, ends, due):
     assert by_socket(server.port, parts, ends) == (due, "an end")
     assert ask(server.port, DROP_10) == (DONE if due == DONE else NO_DEED)
 
-def leave(place, sent, resets, room=None):
-    """Sends bytes, begins to read where there is little room, and goes."""
-    with connected(place, room) as connection:
+def leave(place, sent, resets):
+    with connected(place) as connection:
         connection.sendall(sent)
-        assert not room or connection.recv(100)
         if resets:
             connection.setsockopt(socket.SOL_SOCKET, socket.SO_LINGER, struct.pack("ii", 1, 0))
 
@@ -50,16 +46,6 @@ def leave(place, sent, resets, room=None):
 def test_client_that_leaves_ends_its_visit_alone(long_server, sent, resets):
     leave(long_server.port, sent, resets)
     assert ask(long_server.port, DROP_10) == NO_DEED
-
-def test_client_that_resets_while_it_waits_or_reads_ends_its_visit_alone(long_server):
-    with connected(long_server.port) as slow:
-        slow.sendall(QUESTION[:30])
-        leave(long_server.port, b"", True)
-        leave(long_server.port, QUESTION, True)
-        slow.sendall(QUESTION[30:])
-        assert read_all(slow) == (RECORD, "an end")
-    leave(long_server.port, LONG_QUESTION, True, 4096)
-    assert by_socket(long_server.port, [LONG_QUESTION]) == (content(LONG_FILE), "an end")
 
 def test_clients_are_served_one_at_a_time(server):
     """While one has sent half of its question, three others have no answer. Then all four have."""

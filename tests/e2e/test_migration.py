@@ -1,5 +1,5 @@
 """A store of version 1, which the shell sqlite3 makes of the statements of first-version.trial: what opens it brings it
-to version 2, and changes nothing else; what is no desk of version 1 is refused and stays as it is."""
+to version 2, and changes nothing else."""
 
 import shutil
 
@@ -49,11 +49,3 @@ def test_command_migrates_a_store_to_the_tables_of_a_new_desk(ends, store, first
     assert (shell(store, DECLARED), rows(store)) == (shell(filled, DECLARED), rows(first))
     assert ends("export", "--key", STAFF, "--store", "copy" if words[0] == "copy" else store) == (0, TABLE, "")
     assert rows(store) == rows(first)
-
-@pytest.mark.parametrize("change, name", [
-    ("DELETE FROM found", "inconsistent"), ("DROP TABLE checked", "store"), ("UPDATE desk SET version = 3", "version")])
-def test_what_is_no_desk_of_version_1_stays_as_it_is(ends, store, change, name):
-    shell(store, change)
-    before = shell(store, ".dump")
-    assert ends("export", "--store", store) == (3, "", f"desk: {name}\n")
-    assert shell(store, ".dump") == before

@@ -17,7 +17,7 @@ from support.house import DONE, IMAGE, beside, takedown
 from support.room import OPERATE, wait_until
 from support.samples import STAFF, digest, get, put, put_image
 
-DEEDS, FIRST, DISKS, PAGE = 20, 70, 120, 4096
+DEEDS, FIRST, DISKS = 20, 70, 120
 UNIT = pathlib.Path(OPERATE, "package", "desk-backup.service")
 FILES = "checks.json deeds.json journal-mark keys.json museum.sqlite museum.sqlite-wal takedowns.json".split()
 COMMAND = put("/deeds/1", {"donor": "D", "signed": "2020-01-01"})
@@ -107,30 +107,9 @@ def test_backup_that_fails_says_why_and_leaves_nothing(house, key, script, words
     house.do(COMMAND)
 
 def flip(house, at):
-    """Flips a bit of the store."""
     with open(house.room.store, "r+b") as file:
         byte = os.pread(file.fileno(), 1, at)[0]
         os.pwrite(file.fileno(), bytes([byte ^ 1]), at)
-
-def copy_log(house):
-    """No page of the store has a later form in the log any more: another command has copied that into the file."""
-    house.room.stop_desk()
-    assert house.room.run("show", "keys", "--store", str(house.room.store), "--key", STAFF)[0] == 0
-    house.start()
-
-def test_flipped_bit_of_any_page_stops_the_backup(house):
-    """The desk goes on."""
-    house.do(COMMAND)
-    copy_log(house)
-    assert house.room.store.stat().st_size > 8 * PAGE
-    for at in range(PAGE // 2, house.room.store.stat().st_size, 4 * PAGE):
-        flip(house, at)
-        status, _, errors = house.back_up()
-        assert status == 1 and errors.endswith("museum.sqlite: desk: store\n"), (at, errors)
-        flip(house, at)
-    assert house.backups() == []
-    house.stop()
-    assert "the desk was down" in house.back_up()[1]
 
 def test_bit_that_flips_while_the_desk_serves_is_found_and_takedowns_can_be_read(house):
     """A check of all names the disk, and the desk goes on without it; it does not start again. sqlite3 copies the store
@@ -138,7 +117,10 @@ def test_bit_that_flips_while_the_desk_serves_is_found_and_takedowns_can_be_read
     room, key, plain = house.room, ["--key", STAFF], house.folder / "plain.sqlite"
     house.fill(*range(1, DISKS + 1))
     house.do(takedown(13, 1, 2))
-    copy_log(house)
+    # another command copies into the file what the log has
+    room.stop_desk()
+    assert room.run("show", "keys", "--store", str(room.store), *key)[0] == 0
+    house.start()
     flip(house, room.store.read_bytes().index(b"A GUIDE TO THE ROOM", room.store.stat().st_size // 2))
     words = [os.path.join(OPERATE, "check-all"), house.folder / "staff-key", f"http://127.0.0.1:{room.staff_port}"]
     ran = subprocess.run(words, capture_output=True, text=True, timeout=60)
@@ -146,6 +128,7 @@ def test_bit_that_flips_while_the_desk_serves_is_found_and_takedowns_can_be_read
     flipped = re.fullmatch("check-all: ([0-9]+): unavailable\n", ran.stderr)[1]
     refused = [number for number in range(1, DISKS + 1) if room.ask_desk(get(f"/images/{number}/files/0"))[0] == 503]
     assert refused == [int(flipped)]
+    assert house.back_up()[2].endswith("museum.sqlite: desk: store\n")
     house.stop()
     assert room.run("show", "keys", "--store", str(room.store), *key) == (3, "", "desk: store\n")
     dumped = subprocess.run(["sqlite3", room.store, ".dump"], check=True, capture_output=True).stdout
@@ -169,6 +152,8 @@ def test_killed_backup_lets_commands_go_on_and_the_next_one_clears_up(house):
     assert came == [DONE] and len(house.backups()) == 1
     house.backed_up()
     assert len(house.backups()) == 1
+    house.stop()
+    assert "the desk was down" in house.back_up()[1]
 
 def test_latest_backups_of_days_weeks_and_months_are_kept_and_all_of_a_day_or_with_a_name(house):
     """There is one of each night of two years, with some nights left out, and two of the last one."""

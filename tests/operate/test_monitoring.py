@@ -10,7 +10,7 @@ import subprocess
 import time
 
 import pytest
-from support.room import OPERATE, Room, wait_until
+from support.room import OPERATE, Room, make_script, wait_until
 from support.samples import STAFF
 from support.server import LIMIT
 
@@ -26,10 +26,6 @@ def run(tool, *words, before=(), **settings):
     where = {**os.environ, **{name: str(value) for name, value in settings.items()}}
     ran = subprocess.run(words, capture_output=True, text=True, stdin=subprocess.DEVNULL, timeout=LIMIT, env=where)
     return ran.returncode, ran.stdout, ran.stderr
-
-def make_script(path, words):
-    path.write_text(f"#!/bin/sh\n{words}\n")
-    path.chmod(0o755)
 
 @pytest.fixture(scope="module")
 def room(program):
@@ -156,11 +152,6 @@ def test_systemd_is_told_that_the_desk_replies_and_not_while_it_stalls(room):
         finally:
             os.killpg(watch.pid, signal.SIGKILL)
     assert subprocess.run([words[0], "/none", "1"], env=where | {"MAINPID": "4194305"}, timeout=LIMIT).returncode == 1
-
-def test_words_that_are_none_are_refused():
-    for tool, words in {"desk-look": "[--new FILE] [PLACES]", "desk-space": "[PLACES]",
-                        "desk-alarm": "UNIT, or desk-alarm --test"}.items():
-        assert run(tool, "a", "b") == (2, "", f"usage: {tool} {words}\n")
 
 NOBODY, MAIL = "names nobody to report it to", "anna@museum.example"
 

@@ -8,6 +8,7 @@ import shutil
 import subprocess
 
 import pytest
+from support.room import make_script
 from support.server import ROOT
 
 MAKE = pathlib.Path(ROOT, "operate", "make-deb")
@@ -91,8 +92,7 @@ def clone(program, tmp_path):
     (clone / f"{BUILT}.stamp").write_text(f"of a program\n{digest}")
     os.utime(clone / BUILT, ((clone / "crates.txt").stat().st_mtime + 60,) * 2)
     kit.parent.mkdir()
-    kit.write_text("#!/bin/sh\necho a kit\n")
-    kit.chmod(0o755)
+    make_script(kit, "echo a kit")
     return clone
 
 def make(clone):

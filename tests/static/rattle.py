@@ -2,8 +2,6 @@
 
 import collections
 import functools
-import importlib.machinery
-import importlib.util
 import pathlib
 import re
 
@@ -15,13 +13,6 @@ HEAD = rf"(?: *{PUBLIC}(?:const |unsafe |final )*(fn)|{PUBLIC}(?:const|static)) 
 EDIT = re.compile(r"(?:test: .*\n)?(?:file: .*\n(?:old: .*\nnew:.*\n)+)+")
 # A clause: what it belongs to (none where the name is that of a function), its name and its file.
 Clause = collections.namedtuple("Clause", "owner name path")
-
-def loaded(path):
-    """A program in Python as a module."""
-    loader = importlib.machinery.SourceFileLoader(path, str(ROOT / path))
-    module = importlib.util.module_from_spec(importlib.util.spec_from_loader(path, loader))
-    loader.exec_module(module)
-    return module
 
 @functools.cache
 def text_of(path):
@@ -72,6 +63,16 @@ def pairs_of(path):
         file = f"{folder}/{part.splitlines()[0].strip()}"
         found += [(file, old, new) for old, new in re.findall(r"old: (.*)\nnew: ?(.*)\n", part)]
     return found
+
+def applied(pairs, texts=()):
+    """The texts of files with some changes, one after the other; None where an old text does not stand there once."""
+    made = dict(texts)
+    for file, old, new in pairs:
+        text = made.get(file, text_of(file))
+        if text.count(old) != 1:
+            return None
+        made[file] = text.replace(old, new)
+    return made
 
 def owner_text(clause):
     """The text of the function, trait, trait of a type or record that a clause belongs to."""

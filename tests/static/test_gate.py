@@ -2,16 +2,16 @@
 
 import os
 import re
+import runpy
 import types
 
 import pytest
 import unchanged
-from static.rattle import ROOT, loaded
+from static.rattle import ROOT
 
-gate = loaded("tests/run")
+gate = types.SimpleNamespace(**runpy.run_path(str(ROOT / "tests/run")))
 PROGRAM = gate.PROGRAM.relative_to(ROOT)
 SUITES = [suite for suite in gate.SUITES if gate.files_of([suite])]
-INPUTS = [(suite, path) for suite in SUITES for path in unchanged.inputs_of(ROOT, suite)]
 SHARED = "conftest.py pytest.ini unchanged.py run support/server.py".split()
 OF_SUITE = "test_one.py test_two.py conftest.py helpers.py refuse.c".split()
 of_each_suite = pytest.mark.parametrize("suite", SUITES)
@@ -34,19 +34,13 @@ def touch(path):
 def key(tree, suite, versions="one 1", seed=1):
     return unchanged.key_of(tree, f"tests/{suite}/test_one.py", tree / PROGRAM, versions, seed)
 
-@pytest.mark.parametrize("suite, path", INPUTS)
-def test_declared_input_exists_and_its_change_runs_the_file_again(tree, suite, path):
-    assert (ROOT / path).exists()
-    before = key(tree, suite)
-    touch(tree / path / "inside" if (ROOT / path).is_dir() else tree / path)
-    assert key(tree, suite) != before
-
 @of_each_suite
-def test_change_of_what_tests_share_runs_the_file_again(tree, suite):
-    for name in (*SHARED, *(f"{suite}/{name}" for name in OF_SUITE)):
+def test_change_of_a_declared_input_or_of_what_tests_share_runs_the_file_again(tree, suite):
+    shared = [f"tests/{name}" for name in (*SHARED, *(f"{suite}/{name}" for name in OF_SUITE))]
+    for path in (*unchanged.inputs_of(ROOT, suite), *shared):
         before = key(tree, suite)
-        touch(tree / "tests" / name)
-        assert key(tree, suite) != before, name
+        touch(tree / path / "inside" if (ROOT / path).is_dir() else tree / path)
+        assert key(tree, suite) != before and (path in shared or (ROOT / path).exists()), path
     assert key(tree, suite, "one 2") != key(tree, suite)
 
 @of_each_suite
@@ -106,6 +100,6 @@ def test_skipped_test_broken_file_and_run_without_a_whole_table_have_failed(tmp_
     assert found == {"tests/e2e/test_x.py": counts} and passed == counts[0] and failed >= 1
 
 def test_what_breaks_is_told_in_the_last_line(monkeypatch, capsys):
-    monkeypatch.setattr(gate, "main", lambda words: 1 / 0)
+    monkeypatch.setitem(gate.end.__globals__, "main", lambda words: 1 / 0)
     assert gate.end(["ci"]) == 1
     assert capsys.readouterr().out == "0 passed, 1 failed\n"

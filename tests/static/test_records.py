@@ -16,34 +16,22 @@ DUE = {
 # The crates whose src/ is tests, and nothing else; and what makes a function a test.
 TESTS = ("rd_disk_tests", "rd_policy_tests", "rd_tests", "rd_stop_runs")
 TEST = r"#\[test\](?:\s*(?:#\[.*\]|//.*))*\s*(?:pub(?:\([^)]*\))? )?fn {}\b"
-def named(word, *kinds):
-    """Each name behind a word of the records of some kinds: the record, the path and the name."""
-    return [(record, *pair) for record in records.of_kind(*kinds) for pair in record.named(word)]
 
-def is_coded(path, name):
-    return name.rpartition("::")[2] in rattle.items(path)
+def is_page(_, path, name):
+    return re.match(r"docs/|crates/\w+/README\.md$", path) and name in re.findall(r"(?m)^#+ (.*)", text_of(path))
 
-def is_headed(path, name):
-    is_page = re.fullmatch(r"docs/[\w-]+\.md|crates/\w+/README\.md", path)
-    return is_page and name in re.findall(r"(?m)^#+ (.*)", text_of(path))
+def is_coded(record, path, name):
+    """Whether src/ has this function or constant; what is unproved may be a whole file."""
+    is_there = name.rpartition("::")[2] in rattle.items(path) if name else record.kind == "unproved"
+    return parts_of(path)[1] == "src" and text_of(path) and is_there
 
-# In which folders of crates what is named behind a word has to be, and whether it is; the unproved may be a whole file.
-THERE = {
-    "page": ("", is_headed),
-    "defined": ("specs", lambda path, name: rattle.has_definition(path, name)),
-    "coded": ("src", is_coded),
-    "refused": ("must-fail more-edits tested-edits", lambda path, name: text_of(path) and not name),
-    "file": ("specs", lambda path, name: text_of(path) and path.endswith(".antt") and not name)}
-
-def is_in_python(path, name):
-    """Whether a file of tests/ is one that pytest runs, with a test of this name, or any where none is named."""
-    found = re.findall(r"(?m)^ *def (test_\w+)", text_of(path))
-    return re.fullmatch(r"tests/\w+/test_\w+\.py", path) and (name in found if name else found)
-
-def is_in_rattle(record, path, name):
-    """Whether a trial has this visit, run or note; a file of runs this run; or a test this text or function. What shows
-    a promise, or what no clause says, is a test itself, and no function that tests call."""
+def is_tested(record, path, name):
+    """Whether a trial has this visit, run or note; a file of runs this run; a test this text or function; or a file for
+    pytest this test, or any. What shows a promise, or what no clause says, is a test itself, and no function that tests
+    call."""
     (crate, folder, inside), word, text = parts_of(path), re.escape(name), text_of(path)
+    if re.fullmatch(r"tests/\w+/test_\w+\.py", path):
+        return re.search(rf"(?m)^ *def {word}\b" if name else r"(?m)^ *def test_", text)
     is_test = folder == "data" or folder == "src" and (inside.startswith("tests") or crate in TESTS)
     if not (is_test and text and name):
         return is_test and text and record.kind != "rule"
@@ -51,7 +39,16 @@ def is_in_rattle(record, path, name):
         return re.search(rf"(?m)^(?:visit |run |# ){word}$", text)
     if crate == "rd_stop_runs":
         return f'name: "{name}",' in text
-    return f'"{name}"' in text or is_coded(path, name) if record.kind == "rule" else re.search(TEST.format(word), text)
+    is_called = f'"{name}"' in text or is_coded(record, path, name)
+    return is_called if record.kind == "rule" else re.search(TEST.format(word), text)
+
+# What is behind a word: whether it is there, by the record, the path and the name.
+THERE = {
+    "page": is_page, "coded": is_coded, "tested": is_tested,
+    "defined": lambda _, path, name: parts_of(path)[1] == "specs" and rattle.has_definition(path, name),
+    "refused": lambda _, path, name: path.endswith(".edit") and text_of(path) and not name,
+    "file": lambda _, path, name: parts_of(path)[1] == "specs" and path.endswith(".antt") and text_of(path),
+    "clause": lambda _, path, name: rattle.clause_text(rattle.Clause(*name.rpartition(": ")[::2], path))}
 
 def test_lines_have_a_word_of_their_record():
     assert not records.read()[1]
@@ -66,16 +63,8 @@ def test_titles_stand_once():
 
 @pytest.mark.parametrize("word", THERE)
 def test_names_are_there(word):
-    folders, is_there = THERE[word]
-    for record, path, name in named(word, *records.WORDS):
-        is_whole = record.kind == "unproved" and word == "coded" and text_of(path) and not name
-        is_in_folder = not folders or parts_of(path)[1] in folders.split()
-        assert is_in_folder and (is_whole or is_there(path, name)), f"{record}: {path} {name}"
-
-def test_tests_are_there():
-    tested = named("tested", "rule", "promise", "unproved")
-    found = (one for one in tested if not (is_in_rattle(*one) if parts_of(one[1])[0] else is_in_python(*one[1:])))
-    assert not [f"{record}: {path} {name}" for record, path, name in found]
+    for record in records.read()[0]:
+        assert not [pair for pair in record.named(word) if not THERE[word](record, *pair)], record
 
 def test_proofs_that_are_not_automatic_are_named():
     for record in records.of_kind("rule"):
@@ -83,11 +72,11 @@ def test_proofs_that_are_not_automatic_are_named():
         assert own == set(record.texts("proved")), record
 
 def test_wrong_bodies_change_what_the_rule_names():
-    for record, path, _ in named("refused", "rule"):
-        for file, old, _ in rattle.pairs_of(path):
+    for record in records.of_kind("rule"):
+        for file, old, _ in (pair for path in record.texts("refused") for pair in rattle.pairs_of(path)):
             before, is_found, _ = text_of(file).partition(old)
             coded = {name.rpartition("::")[2] for coded, name in record.named("coded") if coded == file}
-            assert not is_found or rattle.item_at(file, before.count("\n"))[1] in coded, f"{record}: {path}"
+            assert not is_found or rattle.item_at(file, before.count("\n"))[1] in coded, f"{record}: {file}"
 
 def test_each_refusal_fault_and_limit_has_a_rule():
     """A rule begins with the name of a refusal or of a fault, or names the constant of a limit."""
@@ -96,14 +85,10 @@ def test_each_refusal_fault_and_limit_has_a_rule():
     assert not {*faults, *(name for found in formats.in_code() for name in found)} - titles
     paths = [str(file.relative_to(ROOT)) for file in rattle.CRATES.glob("*/src/limits.rt")]
     limits = {(path, name) for path in paths for name in re.findall(r"(?m)^pub const (\w+)", text_of(path))}
-    assert limits and not limits - {(path, name) for _, path, name in named("coded", "rule")}
-
-def test_clauses_are_there():
-    found = ((record, clause) for record in records.of_kind("promise") for clause in record.clauses())
-    assert not [f"{record}: {clause}" for record, clause in found if not rattle.clause_text(clause)]
+    assert limits and not limits - {pair for record in records.of_kind("rule") for pair in record.named("coded")}
 
 def test_promises_rest_on_sets_that_are_there_and_each_file_is_in_one():
-    files = collections.Counter(path for _, path, _ in named("file", "definitions"))
+    files = collections.Counter(path for record in records.of_kind("definitions") for path in record.texts("file"))
     assert max(files.values()) == 1, files.most_common(1)
     rests = {name for record in records.of_kind("promise") for name in record.texts("rests")}
     assert rests == {record.title for record in records.of_kind("definitions")}

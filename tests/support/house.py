@@ -10,7 +10,7 @@ import signal
 import subprocess
 import time
 
-from support.room import OPERATE, wait_until
+from support.room import OPERATE, make_script, wait_until
 from support.samples import STAFF, bytes_of, get, put, put_image, put_rule
 from support.server import ENDLESS, LIMIT, alongside
 
@@ -56,11 +56,7 @@ class House:
         room.start_nginx()
 
     def script(self, name, words):
-        """A program of the shell in the room's folder."""
-        path = self.folder / name
-        path.write_text(f"#!/bin/sh\n{words}\n")
-        path.chmod(0o755)
-        return path
+        return make_script(self.folder / name, words)
 
     def start(self, *words):
         """Starts the desk with these words too, as the room's systemctl does from then on."""

@@ -25,6 +25,12 @@ def give_to_nginx(path, mode):
         shutil.chown(path, group="www-data")
     path.chmod(mode)
 
+def make_script(path, words):
+    """A program of the shell."""
+    path.write_text(f"#!/bin/sh\n{words}\n")
+    path.chmod(0o755)
+    return path
+
 class Room(contextlib.AbstractContextManager):
     """A folder with a store, a certificate, the page and the places, and what it has started. The desk is at a Unix
     socket, which nginx's group may use."""
