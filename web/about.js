@@ -10,7 +10,8 @@ const MAIL = /^[^\s@?&]+@[^\s@?&]+$/;
 const about = {};
 
 export const room = () => about.room ?? "The reading room";
-export const house = () => about.museum ?? room();
+export const holder = () => about.museum ?? about.room ?? "";
+export const house = () => holder() || room();
 export const welcome = () => about.welcome ?? "Read what is on the old floppy disks of the museum.";
 
 // A page of the web or of this site; nothing else becomes a link.

@@ -1,8 +1,7 @@
 // One disk: its title, what may be read of it, and its directory as its own machine shows it.
-import { askStaff } from "./about.js";
+import { closedWords, deedWords, rulesOf } from "./room.closed.js";
 import { allDisks, familyOf, known, lastShown, mayRead, nameOfDisk, nameOfFile, typeWords } from "./room.lists.js";
-import { button, citation, closedWords, deedWords, filesOf, link, neighbours } from "./room.parts.js";
-import { numberOf, permission, quoting, rulesOf } from "./room.parts.js";
+import { askAbout, button, citation, filesOf, link, neighbours, numberOf, permission, quoting } from "./room.parts.js";
 import { directoryScreen } from "./screen.js";
 import { askObject, box, cell, counted, element, kindWords, loaded, refusal, row, table } from "./shared.js";
 import { noteOf } from "./titles.js";
@@ -10,9 +9,9 @@ import { noteOf } from "./titles.js";
 function fileRow(kind, accession, file, hasUsers) {
   const name = nameOfFile(kind, file);
   const { word, colour, why } = permission(file);
-  const way = (words, more) => (why ? element("span", words) : link(words, `${accession}/${file.slot}`, more));
-  const badge = way(word, { ariaLabel: `${word}: ${name}`, tabIndex: -1 });
-  const may = box("span", "", Object.assign(badge, { className: `badge ${colour}` }));
+  const way = (words, more) => link(words, `${accession}/${file.slot}`, more);
+  const badge = way(word, { ariaLabel: `${word}: ${name}`, tabIndex: -1, className: `badge ${colour}` });
+  const may = box("span", "", badge);
   if (why) may.append(" ", element("small", why));
   const type = box("span", "", file.type, " ", element("small", typeWords(kind, file)));
   return row([
@@ -71,10 +70,10 @@ export async function showDisk(number) {
   Object.assign(list, { id: "files", className: "files" });
   const none = element("p", "There is no file on it that you may see.", { className: "callout" });
   const rules = files.length ? `What decides here: ${rulesOf(files)}. ` : "";
-  const staff = askStaff("this disk", `Disk ${accession}: ${title}`);
+  const staff = askAbout(accession);
   const why = box("p", "quiet", rules, deedWords(deed), staff);
   closedWords(accession, files).then((closed) => closed && why.before(box("p", "callout", `${closed} `, staff)));
-  const quotes = quoting(() => citation(accession));
+  const quotes = quoting(() => citation(accession, kind));
   const text = box("div", "", ...zipWay({ accession, kind, files, quotes }), files.length ? list : none, why);
   const aside = files.length ? machine({ kind, accession, files }) : "";
   const head = [element("p", facts, { className: "quiet" })];

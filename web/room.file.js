@@ -1,12 +1,13 @@
 // One file: what is in it as a picture, a listing, a text, a screen or bytes, what is known of it, and how to cite it.
-import { askStaff } from "./about.js";
 import { BASIC_WORDS, basicListing } from "./basic.js";
 import { pictureIn } from "./pictures.js";
+import { whyClosed } from "./room.closed.js";
 import { kept, mayRead, nameOfDisk, nameOfFile, typeWords } from "./room.lists.js";
-import { button, citation, filesOf, link, neighbours, numberOf, quoting } from "./room.parts.js";
+import { askAbout, button, citation, facts, filesOf, link, neighbours, numberOf, quoting } from "./room.parts.js";
 import { fileName } from "./safe.js";
 import { blocksOf, canvasOf, textScreen } from "./screen.js";
-import { Refused, ask, askObject, box, counted, digestOf, element, kindWords, meaning, part } from "./shared.js";
+import { Refused, ask, askObject, box, counted, digestOf, element, kindWords, meaning } from "./shared.js";
+import { part, textOf } from "./shared.js";
 import { cbmText, cpmText, hexText, isInSmall, petsciiText, wordStarText } from "./texts.js";
 
 // A window in which a line of bytes is short.
@@ -82,7 +83,7 @@ function choices(views) {
     shown.letters.isSmall = !shown.letters.isSmall;
     showBytes(views, shown);
   };
-  if (views.some((view) => view.letters)) made.push(button("Small letters", swap, { id: "letters" }));
+  if (views.some((view) => view.letters)) made.push(button("Lower case", swap, { id: "letters" }));
   return box("div", "cluster", ...made);
 }
 
@@ -125,8 +126,7 @@ function factsOf({ kind, accession, file, bytes, digest, files }) {
   }
   pairs["SHA-256"] = digest && element("span", digest, { className: "digest" });
   pairs["Open by"] = `${meaning(file.rule)} (${file.rule})`;
-  const said = Object.entries(pairs).filter(([, text]) => text);
-  return box("dl", "facts", ...said.flatMap(([term, text]) => [element("dt", term), box("dd", "", text)]));
+  return facts(pairs);
 }
 
 // Links to the files with the same bytes that were read before, which are known until the key changes.
@@ -145,23 +145,24 @@ export async function showFile(number, slot) {
   const [{ kind }, files] = [listing, filesOf(listing)];
   const file = files.find((one) => one.slot === Number(slot));
   const heading = file && nameOfFile(kind, file);
-  const named = (fault) => Promise.reject(Object.assign(fault, { heading }));
+  const named = (fault) => {
+    const closed = { accession, kind, slot: Number(slot), files, rule: textOf(fault.said?.rule) };
+    const why = fault.said?.error === "denied" ? whyClosed(closed, heading) : null;
+    throw Object.assign(fault, { heading, why });
+  };
   const bytes = new Uint8Array(await (await ask(`/images/${accession}/files/${slot}`).catch(named)).arrayBuffer());
   if (file === undefined) throw new Refused("changed", {});
   const digest = await digestOf(bytes).catch(() => "");
   const views = viewsOf(kind, bytes);
   const name = fileName(kind, heading, file.type);
   const save = element("a", "Download", { id: "download", className: "button primary", download: name });
-  const quotes = quoting(() => {
-    const sum = digest && `, SHA-256 ${digest}`;
-    const size = counted(bytes.length, "byte");
-    return citation(accession, `, file \u201c${heading}\u201d (slot ${slot}, ${file.type}, ${size}${sum})`);
-  });
-  const question = askStaff("this file", `Disk ${accession}, slot ${slot}: ${heading}`);
-  const facts = factsOf({ kind, accession, file, bytes, digest, files });
+  const words = `\u201c${heading}\u201d, ${file.type} file, ${counted(bytes.length, "byte")}, slot ${slot}`;
+  const quotes = quoting(() => citation(accession, kind, words, digest));
+  const known = factsOf({ kind, accession, file, bytes, digest, files });
   const same = await copiesOf(`${accession}/${slot}`, digest, `${heading} (${nameOfDisk(accession)})`);
   const ways = box("div", "cluster", save, ...quotes.buttons);
-  const aside = box("aside", "card", facts, same, ways, quotes.says, box("p", "quiet", question));
+  const question = box("p", "quiet", askAbout(accession, slot, heading));
+  const aside = box("aside", "card", known, same, ways, quotes.says, question);
   aside.ariaLabel = "About the file";
   const image = element("div", null, { id: "picture", className: `monitor ${kind === "cpm8" ? "cpm8" : "d64"}` });
   const says = element("p", null, { id: "shown-as", className: "quiet" });

@@ -1,10 +1,10 @@
 // The home of the page for readers: a search, facets with counts, an order, a list or screens, all in the address.
 import { welcome } from "./about.js";
 import { allDisks, allFiles, familyOf, found, kept, known, letterOf, mayRead, nameOfDisk } from "./room.lists.js";
-import { nameOfFile, plain, showsNow, typeWords, wordsOf } from "./room.lists.js";
-import { closedWords, filesOf, link, permission, ways } from "./room.parts.js";
+import { namedBy, nameOfFile, plain, showsNow, typeWords, wordsOf } from "./room.lists.js";
+import { filesOf, link, permission, ways } from "./room.parts.js";
 import { askObject, box, counted, element, kindWords, loaded, part } from "./shared.js";
-import { noteOf } from "./titles.js";
+import { hasTitles, noteOf } from "./titles.js";
 
 const PAGE = 48;
 const MOST_MATCHES = 5;
@@ -20,8 +20,10 @@ HAS_ROOM.addEventListener("change", () => part("choices")?.toggleAttribute("open
 const SORTS = { title: "Title", number: "Number", files: "Most files" };
 const LOOKS = { list: "List", screens: "Directories" };
 const KINDS = { "": "All", d64: kindWords("d64"), cpm8: kindWords("cpm8") };
-const TYPES = { picture: "Pictures", PRG: "Programs", SEQ: "Texts and data", TXT: "Texts", COM: "Commands" };
+const TYPES = { picture: "Pictures, by size", PRG: "Programs (BASIC, machine code)", SEQ: "Texts, data", TXT: "Texts" };
 const USUAL = { sort: "title", as: "list", page: "1" };
+const wordsFor = (type) => [...new Set(["d64", "cpm8"].map((kind) => typeWords(kind, { type })))].filter(Boolean);
+const nameOf = (type) => TYPES[type] ?? `${type} ${wordsFor(type).join(" or ")}`.trim();
 
 // What draws screens, which the first list does without.
 const machines = () => loaded(import("./screen.js"));
@@ -35,6 +37,7 @@ function placeOf(choices) {
 
 // A text in which the words that were looked for are marked.
 function marked(text, words) {
+  if (words.length === 0) return text;
   const made = box("span", "");
   const low = plain(text);
   const pieces = words.flat(2).filter((piece) => low.length === text.length && low.includes(piece));
@@ -64,7 +67,7 @@ function choicesBelow({ kinds, types, all }, choices) {
   const sum = [...kinds.values()].reduce((before, one) => before + one, 0);
   const most = [...types].sort(([, one], [, other]) => other - one).slice(0, MOST_TYPES).map(([type]) => type);
   const shown = most.includes(choices.type) || !choices.type ? most : [...most, choices.type];
-  const names = Object.fromEntries(shown.map((type) => [type, TYPES[type] ?? type]));
+  const names = Object.fromEntries(shown.map((type) => [type, nameOf(type)]));
   const bar = box("div", "bar", chips("Disks", "kind", KINDS, choices, kinds.set("", sum)));
   bar.append(chips("Sort by", "sort", SORTS, choices), chips("Show as", "as", LOOKS, choices));
   if (shown.length) bar.append(chips("Files", "type", { "": "All", ...names }, choices, types.set("", all)));
@@ -85,15 +88,16 @@ function diskCard(disk, matches, files, machine, words) {
   const sight = inSight(disk.files, files?.get(accession)?.filter(mayRead).length);
   const facts = `Disk ${accession} \u00b7 ${kindWords(kind)} \u00b7 ${sight}`;
   const note = noteOf(accession) ? box("p", "", marked(noteOf(accession), words)) : null;
-  const named = matches.slice(0, MOST_MATCHES).map((file) => {
+  const shown = [...new Set([...namedBy(words, matches), ...matches])].slice(0, MOST_MATCHES);
+  const named = shown.map((file) => {
     const way = link("", `${accession}/${file.slot}`, { className: "name" });
     way.append(marked(nameOfFile(kind, file), words));
     const { word, colour } = permission(file);
     const badge = colour === "good" ? "" : element("span", word, { className: `badge ${colour}` });
     return box("li", badge && "closed", way, element("small", ` ${typeWords(kind, file)} `), badge);
   });
-  const more = matches.length - MOST_MATCHES;
-  if (more > 0) named.push(element("li", `and ${counted(more, "more file")}`));
+  const more = matches.length - shown.length;
+  if (more > 0) named.push(box("li", "", "and ", link(counted(more, "more file"), accession)));
   const body = box("div", "", title, element("p", facts, { className: "quiet" }), note);
   if (named.length) body.append(box("ul", "matches", ...named));
   const sleeve = box("span", "sleeve");
@@ -115,7 +119,7 @@ function pages(hits, choices) {
 
 // Where titles begin with each letter, in a list of many pages.
 function letters(hits, choices) {
-  if ((choices.sort ?? "title") !== "title" || hits.length <= 3 * PAGE) return null;
+  if ((choices.sort ?? "title") !== "title" || hits.length <= 3 * PAGE || !hasTitles()) return null;
   const first = new Map();
   hits.forEach((disk, at) => {
     const letter = letterOf(disk);
@@ -137,6 +141,7 @@ function summary(hits, counts, { q, type, kind }, isRead) {
 
 // Says of each disk that was found how many of its files are closed, and why; the disk says whom to ask.
 async function sayClosed(shown, cards, files, isOver) {
+  const { closedWords } = await loaded(import("./room.closed.js"));
   for (const [at, { accession }] of shown.entries()) {
     const words = isOver() ? "" : await closedWords(accession, files.get(accession) ?? []);
     if (words) cards[at].lastChild.append(box("p", "closed", link(words, accession)));
@@ -147,7 +152,8 @@ async function sayClosed(shown, cards, files, isOver) {
 function searchBox(q) {
   const field = element("input", null, { id: "q", type: "search", value: q ?? "", maxLength: 64, spellcheck: false });
   Object.assign(field, { autocapitalize: "none", autocomplete: "off", placeholder: "letter, *.PRG" });
-  const label = element("label", "Search titles, files and numbers", { htmlFor: "q" });
+  const label = element("label", "Search titles, names of files and numbers ", { htmlFor: "q" });
+  label.append(element("small", "(not what is in the files)"));
   const button = element("button", "Search", { type: "submit", className: "primary" });
   const form = box("form", "search", label, field, button);
   form.role = "search";

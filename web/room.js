@@ -1,8 +1,8 @@
 // The page for readers: one view at a time, by the address. It sends the desk GET and nothing else.
-import { askStaff, house, readAbout, room } from "./about.js";
+import { house, readAbout, room } from "./about.js";
 import { choicesIn, showHome } from "./room.home.js";
 import { allDisks, nameOfDisk } from "./room.lists.js";
-import { button, deedWords, link } from "./room.parts.js";
+import { askAbout, button, link } from "./room.parts.js";
 import { Refused, box, keyInUse, listenForKey, loaded, part, refusal, useNow } from "./shared.js";
 import { readTitles } from "./titles.js";
 
@@ -53,13 +53,12 @@ function refusedView({ accession, slot }, fault) {
     return { heading: "The desk does not know this key", parts: [refusal(fault), box("p", "cluster", without, again)] };
   }
   const disk = accession && nameOfDisk(Number(accession));
-  const of = `Disk ${accession}${slot ? `, slot ${slot}` : ""}: ${fault.heading ?? disk}`;
-  const [, deed] = /^R(\d+)/.exec(fault.said?.rule) ?? [];
-  const ways = box("p", "cluster", deed ? deedWords(deed) : "", accession ? askStaff("it", of) : null);
+  const ways = box("p", "cluster", accession ? askAbout(Number(accession), slot, fault.heading) : null);
   ways.append(slot ? link("The other files of this disk", accession) : link("All disks", ""));
+  const isName = fault.heading !== undefined;
   const heading = fault.heading ?? (slot ? `${disk}, slot ${slot}` : (disk ?? "There is no such place here"));
-  const isName = heading === fault.heading;
-  return { heading, title: isName ? `${heading}, ${disk}` : heading, isName, parts: [refusal(fault), ways] };
+  const title = isName ? `${heading}, ${disk}` : heading;
+  return { heading, title, isName, parts: [fault.why ?? refusal(fault), ways] };
 }
 
 // A title for the window; that of the home says what was looked for.

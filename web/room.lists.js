@@ -1,19 +1,23 @@
 // What the desk lists for the key in use, the disks and the files of each, and what is found in these lists.
 import { shownName } from "./names.js";
 import { SIZES } from "./pictures.js";
-import { askObject, counted, forgetWithKey, kindWords, listOf } from "./shared.js";
+import { askObject, counted, forgetWithKey, kindWords, listOf, own } from "./shared.js";
 import { inParts, keeper, readTable } from "./stream.js";
 import { noteOf, titleOf } from "./titles.js";
 
 // How often the page says how far it is, and for how long it keeps a list, in milliseconds.
 const PACE = 500;
 const KEPT = 300000;
-// What the types of files mean, in plain words.
-const TYPES = {
-  PRG: "program, often BASIC", SEQ: "text or data", USR: "user file", REL: "records", DEL: "dividing line",
-  OTHER: "unknown", ASM: "assembler source", BAS: "BASIC", COM: "command", DAT: "data", DOC: "text", FOR: "Fortran",
-  HEX: "hex file", LIB: "library", MAC: "assembler source", OVR: "overlay", PAS: "Pascal", PRN: "printout",
-  SUB: "batch", TXT: "text",
+// What the types of files mean, in plain words: those of the 1541, and those that are usual on CP/M.
+const OF_1541 = {
+  PRG: "program", SEQ: "text or data", USR: "data for one program", REL: "records",
+  DEL: "dividing line", OTHER: "unknown", picture: "picture, by its size",
+};
+const OF_CPM = {
+  ASM: "assembler source", BAK: "earlier copy", BAS: "BASIC program", COM: "command", DAT: "data", DBF: "database",
+  DOC: "text", FOR: "Fortran source", HEX: "code as digits", LIB: "library", LTR: "letter", MAC: "assembler source",
+  OVR: "part of a program", PAS: "Pascal source", PRN: "printout", REL: "compiled code", SUB: "list of commands",
+  TXT: "text",
 };
 
 let lists = {};
@@ -42,10 +46,14 @@ export const nameOfDisk = (accession) => titleOf(accession) || `Disk ${accession
 export const nameOfFile = (kind, file) => shownName(kind, file.name) || `File at slot ${file.slot}`;
 
 export const mayRead = (file) => file.effect === "read" && file.size !== null;
-export const isPicture = (kind, { type, size }) => kind !== "cpm8" && type === "PRG" && SIZES.has(size);
-export const typeWords = (kind, file) => (isPicture(kind, file) ? "likely a picture" : (TYPES[file.type] ?? ""));
 
-export const allDisks = () => kept("disks", async () => listOf((await askObject("/images")).images));
+// What a file is listed under: its type, or a picture where it is a program that has the size of one.
+const groupOf = (kind, { type, size }) => (kind !== "cpm8" && type === "PRG" && SIZES.has(size) ? "picture" : type);
+export const typeWords = (kind, file) => own(kind === "cpm8" ? OF_CPM : OF_1541, groupOf(kind, file));
+
+// The disks, each with what the lists of them need.
+const listed = ({ accession, kind, files }) => ({ accession, kind, files });
+export const allDisks = () => kept("disks", async () => listOf((await askObject("/images")).images).map(listed));
 
 // Small letters without accents, which are alike where somebody looks for something.
 export const plain = (text) =>
@@ -56,12 +64,13 @@ const UMLAUTS = { \u00e4: "ae", \u00f6: "oe", \u00fc: "ue", \u00df: "ss" };
 const withE = (text) => text.toLowerCase().normalize("NFC").replace(/[\xdf-\xfc]/g, (sign) => UMLAUTS[sign] ?? sign);
 const spellings = (text) => [...new Set([text, withE(text)].map(plain))];
 
-// What a file is found by: its name as it was shown and as it is printed, its type, and what it is.
+// What a file is found by: its name as it was shown and as it is printed, its type, and what it is or may be.
 function fileText(kind, file) {
   const shown = shownName(kind, file.name);
   const end = kind === "cpm8" ? "" : `.${file.type}`;
   const printed = shown === file.name ? "" : `\n${file.name}`;
-  return plain(`${shown}${end}${printed}\n${typeWords(kind, file)}`);
+  const words = typeWords(kind, file);
+  return plain(`${shown}${end}${printed}\n${words}${words === "program" ? " basic" : ""}`);
 }
 
 // All files, by their disks. Of a text only one copy is kept.
@@ -123,8 +132,9 @@ export const letterOf = ({ accession }) => orderOf(titleOf(accession))[0];
 export function known(disks) {
   const isTitled = (disk) => titleOf(disk.accession) !== "";
   const keys = new Map(disks.filter(isTitled).map((disk) => [disk, orderOf(titleOf(disk.accession))]));
+  if (keys.size === 0) return disks;
   const titled = [...keys].sort(([, one], [, other]) => (one < other ? -1 : Number(one > other)));
-  return [...titled.map(([disk]) => disk), ...(keys.size ? disks.filter((disk) => !keys.has(disk)) : disks)];
+  return [...titled.map(([disk]) => disk), ...disks.filter((disk) => !keys.has(disk))];
 }
 
 // What a disk is found by, which is kept from the first search on.
@@ -142,35 +152,34 @@ const ORDERS = {
 
 export const familyOf = (kind) => (kind === "cpm8" ? "cpm8" : "d64");
 
-const isOf = (kind, file, type) => file.type === type || (type === "picture" && isPicture(kind, file));
 const count = (counts, name) => counts.set(name, (counts.get(name) ?? 0) + 1);
 
-// The disks that have all words, by disks the files that have what their disk lacks, and counts of the other kinds.
+// Those of some files that have a word of their own, and not only by their disk.
+export const namedBy = (words, files) => files.filter(({ text }) => words.some((word) => has(text, word)));
+
+// The disks that were found, by disks the files that have all words by themselves or by their disk, and counts of the
+// other kinds. Where nothing is looked for, the list itself was found.
 export async function found(disks, files, { q, type, kind, sort }) {
   const words = wordsOf(q);
   const counts = { kinds: new Map(), types: new Map(), all: 0, files: 0, read: 0 };
-  const [hits, matches] = [[], new Map()];
+  const [isAll, matches] = [!words.length && !type && !kind, new Map()];
+  const hits = isAll ? disks : [];
   const look = (disk) => {
     const missing = words.filter((word) => !inDisk(diskText(disk), word));
-    const isIn = (file) => (word) => has(file.text, word);
-    const isNamed = (file) => (missing.length ? missing.every(isIn(file)) : words.some(isIn(file)));
     const all = files?.get(disk.accession) ?? [];
-    const named = words.length ? all.filter(isNamed) : all;
+    const named = missing.length ? all.filter(({ text }) => missing.every((word) => has(text, word))) : all;
     const isOfKind = !kind || familyOf(disk.kind) === kind;
     if (isOfKind) counts.all += named.length;
-    for (const file of isOfKind ? named : []) {
-      count(counts.types, file.type);
-      if (isPicture(disk.kind, file)) count(counts.types, "picture");
-    }
-    const wanted = type ? named.filter((file) => isOf(disk.kind, file, type)) : named;
+    for (const file of isOfKind ? named : []) count(counts.types, groupOf(disk.kind, file));
+    const wanted = type ? named.filter((file) => groupOf(disk.kind, file) === type) : named;
     if ((type || missing.length) && wanted.length === 0) return;
     count(counts.kinds, familyOf(disk.kind));
     if (!isOfKind) return;
     counts.files += words.length || type ? wanted.length : disk.files;
     counts.read += wanted.filter(mayRead).length;
-    hits.push(disk);
+    if (!isAll) hits.push(disk);
     if (words.length || type) matches.set(disk, wanted);
   };
   await inParts(disks, (some) => some.forEach(look));
-  return { hits: Object.hasOwn(ORDERS, sort ?? "") ? hits.sort(ORDERS[sort]) : hits, matches, counts };
+  return { hits: Object.hasOwn(ORDERS, sort ?? "") ? [...hits].sort(ORDERS[sort]) : hits, matches, counts };
 }

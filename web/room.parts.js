@@ -1,7 +1,7 @@
 // What the views of the page for readers share: what a reader may do with a file, and ways to quote, ask and go on.
-import { house } from "./about.js";
-import { kept, mayRead, nameOfDisk } from "./room.lists.js";
-import { ask, box, counted, element, faultWords, listOf, meaning, textOf } from "./shared.js";
+import { askStaff, holder } from "./about.js";
+import { mayRead, nameOfDisk } from "./room.lists.js";
+import { box, counted, element, faultWords, kindWords, listOf, meaning, textOf } from "./shared.js";
 import { titleOf } from "./titles.js";
 
 // A link within the page.
@@ -21,7 +21,6 @@ export function ways(label, className, ...inside) {
 
 // The files of a listing, whose names, types and rules are texts whatever comes.
 const fileOf = (said) => ({ ...said, name: textOf(said.name), type: textOf(said.type), rule: textOf(said.rule) });
-
 export const filesOf = (listing) => listOf(listing.files).map(fileOf);
 
 const UNSERVED = {
@@ -42,53 +41,29 @@ export function permission(file) {
   return { word: "Listed only", colour: "some", why };
 }
 
-// Which rules decide about some files, each in words with its label, and about how many where there are several.
-export function rulesOf(files) {
-  const labels = new Map();
-  for (const { rule } of files) labels.set(rule, (labels.get(rule) ?? 0) + 1);
-  const about = (count) => (labels.size > 1 ? ` about ${counted(count, "file")}` : "");
-  return [...labels].map(([label, count]) => `${meaning(label)} (${label})${about(count)}`).join(", ");
+// Whom to ask about a disk or a file of it: what a mail is about has all that names it.
+export function askAbout(accession, slot, name) {
+  const isFile = slot !== undefined;
+  const names = [name, titleOf(accession)].filter(Boolean).join(" on ");
+  const of = `Disk ${accession}${isFile ? `, slot ${slot}` : ""}${names && `: ${names}`}`;
+  return askStaff(isFile ? "this file" : "this disk", of);
 }
 
-// What the deed is whose number stands in a rule.
-export const deedWords = (deed) => `Deed ${deed} is the paper by which the disk came to the museum. `;
-
-// What lies between two requests of many.
-export const pause = (time = 100) => new Promise((go) => setTimeout(go, time));
-
-// At how many slots of a disk the page asks at most.
-const MOST = 40;
-
-// The refusals of files that a list lacks: at the slots that it leaves out, and behind it up to one without a file.
-async function closedOn(accession, listed) {
-  const [closed, slots] = [[], new Set(listed.map(({ slot }) => slot))];
-  for (let slot = 0, asked = 0; asked < MOST; slot += 1) {
-    if (slots.has(slot)) continue;
-    const { said } = await ask(`/images/${accession}/files/${slot}`).catch((fault) => fault);
-    if (said?.error === "denied") closed.push(said);
-    else if (said?.error !== "no-file" || slot > Math.max(...slots)) break;
-    asked += 1;
-    await pause();
-  }
-  return closed;
-}
-
-// How many files of a disk are closed besides those of a list, and why; an empty text if the desk tells of none.
-export async function closedWords(accession, listed) {
-  const closed = await kept(`closed ${accession}`, () => closedOn(accession, listed));
-  const are = closed.length === 1 ? "is" : "are";
-  const words = `${counted(closed.length, "more file")} ${are} closed to you, name and all: ${rulesOf(closed)}.`;
-  return closed.length ? words : "";
+// What is known of something, in pairs of a term and a text, where there is one.
+export function facts(pairs) {
+  const said = Object.entries(pairs).filter(([, text]) => text);
+  return box("dl", "facts", ...said.flatMap(([term, text]) => [element("dt", term), box("dd", "", text)]));
 }
 
 // The number of a disk behind its title, where it has one.
 export const numberOf = (accession) => (titleOf(accession) ? `, disk ${accession}` : "");
 
-// How to cite a disk, or with more words a file of it.
-export function citation(accession, more = "") {
-  const title = `\u201c${nameOfDisk(accession)}\u201d${numberOf(accession)}`;
+// How to cite a disk or a file of it: the museum, the title, where it is there, its digest, the address, and the day.
+export function citation(accession, kind, file = "", digest = "") {
+  const disk = `\u201c${nameOfDisk(accession)}\u201d, floppy disk (${kindWords(kind)}), accession number ${accession}`;
   const day = new Date().toLocaleDateString("en-GB", { day: "numeric", month: "long", year: "numeric" });
-  return `${house()}: ${title}${more}. ${location.href} (read on ${day}).`;
+  const parts = [holder(), file ? `${file}, on ${disk}` : disk, digest && `SHA-256 ${digest}`];
+  return `${parts.filter(Boolean).join(". ")}. ${location.href} (accessed ${day}).`;
 }
 
 // Buttons that copy the address of the view and how to cite it, and the place that says what was copied.

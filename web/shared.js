@@ -120,30 +120,18 @@ export function box(name, className, ...inside) {
 }
 
 export function cell(label, content, kind = "") {
-  const made = element("td", null, { className: content === "" ? "empty" : kind });
+  const made = box("td", content === "" ? "empty" : kind, content instanceof Node ? content : element("span", content));
   made.dataset.label = label;
-  made.append(content instanceof Node ? content : element("span", content));
   return made;
 }
 
 export function table(caption, columns, rows) {
   const heads = columns.map((column) => element("th", column, { scope: "col" }));
-  const head = element("thead", null);
-  const body = element("tbody", null);
-  const made = element("table", null);
-  made.setAttribute("aria-label", caption);
-  head.append(element("tr", null));
-  head.firstChild.append(...heads);
-  body.append(...rows);
-  made.append(head, body);
-  return made;
+  const made = box("table", "", box("thead", "", row(heads)), box("tbody", "", ...rows));
+  return Object.assign(made, { ariaLabel: caption });
 }
 
-export function row(cells) {
-  const made = element("tr", null);
-  made.append(...cells);
-  return made;
-}
+export const row = (cells) => box("tr", "", ...cells);
 
 export const numberOf = (value) => (Number.isInteger(value) ? String(value) : "");
 export const textOf = (value) => (typeof value === "string" ? value : "");
@@ -202,20 +190,12 @@ export const explainRefusal = (fault) => wordsFor(fault).join(" ");
 
 // What a refusal means and what to do, with more words where the page has them, and the desk's own words.
 export function refusal(fault, more = "") {
-  const made = element("div", null, { className: "refused" });
-  if (!(fault instanceof Refused)) {
-    made.append(element("p", "This page cannot read the desk's answer."));
-    return made;
-  }
-  const name = refusalName(fault);
-  made.append(element("p", `${explainRefusal(fault)}${more && " "}${more}`));
-  if (name !== "") made.append(element("p", `Refusal: ${name}`));
-  if (textOf(fault.said.rule) !== "") {
-    made.append(element("p", `Rule: ${fault.said.rule}, ${meaning(fault.said.rule)}`));
-  }
-  const words = listOf(fault.said.faults).map(textOf);
-  if (words.length) made.append(element("p", `Faults: ${words.map(explained).join("; ")}`));
-  return made;
+  const inLines = (...lines) => box("div", "refused", ...lines.map((line) => line && element("p", line)));
+  if (!(fault instanceof Refused)) return inLines("This page cannot read the desk's answer.");
+  const [name, rule] = [refusalName(fault), textOf(fault.said.rule)];
+  const faults = listOf(fault.said.faults).map(textOf).map(explained).join("; ");
+  const why = [name && `Refusal: ${name}`, rule && `Rule: ${rule}, ${meaning(rule)}`, faults && `Faults: ${faults}`];
+  return inLines(`${explainRefusal(fault)}${more && " "}${more}`, ...why);
 }
 
 // What a rule's label says.
@@ -228,10 +208,7 @@ export function meaning(label) {
 
 export const faultWords = (word) => own(FAULTS, word) || word;
 
-export function explained(word) {
-  const plain = own(FAULTS, word);
-  return plain === "" ? word : `${word} (${plain})`;
-}
+export const explained = (word) => (own(FAULTS, word) ? `${word} (${FAULTS[word]})` : word);
 
 export async function digestOf(bytes) {
   if (crypto.subtle === undefined) throw new Refused("digest", {});

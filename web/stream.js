@@ -5,14 +5,15 @@ import { Refused, ask, element } from "./shared.js";
 // For how many milliseconds the page works on before it lets the browser do something else.
 const LONGEST_WORK = 16;
 
-const pause = () => new Promise((go) => setTimeout(go));
+// Waits so many milliseconds; what lies between two requests of many.
+export const pause = (time = 100) => new Promise((go) => setTimeout(go, time));
 
 // Lets the browser breathe where the page has worked for long.
 export function breather() {
   let since = performance.now();
   return async () => {
     if (performance.now() - since < LONGEST_WORK) return;
-    await pause();
+    await pause(0);
     since = performance.now();
   };
 }

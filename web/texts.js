@@ -27,10 +27,7 @@ export function cpmText(bytes) {
 }
 
 // The codes with which WordStar marks print, such as bold and underlined, and its soft hyphen.
-const MARKS = [
-  0x01, 0x02, 0x04, 0x05, 0x06, 0x07, 0x08, 0x0e, 0x0f, 0x10, 0x11, 0x12, 0x13, 0x14, 0x16, 0x17, 0x18, 0x19, 0x1e,
-  0x1f,
-];
+const MARKS = [1, 2, 4, 5, 6, 7, 8, 14, 15, 16, 17, 18, 19, 20, 22, 23, 24, 25, 30, 31];
 
 // A text of WordStar: the last letter of many words and the ends of its soft lines have their highest bit set. Without
 // that bit and without the marks for print it is a text; null where it is none, or has no such bit.

@@ -26,9 +26,7 @@ export async function textOfOwn(path) {
 }
 
 export const hasTitles = () => titles.size > 0;
-
 export const titleOf = (accession) => titles.get(accession)?.title ?? "";
-
 export const noteOf = (accession) => titles.get(accession)?.note ?? "";
 
 // Whether the title or the note of a disk has some words, which are in small letters.

@@ -12,7 +12,7 @@ def reach(page, name, *keys):
     raise AssertionError(f"no Tab leads to {name}")
 
 def test_reader_finds_reads_and_downloads_a_file(reader):
-    reach(reader, "Search titles, files and numbers", "guide", Keys.ENTER)
+    reach(reader, "Search titles, names of files and numbers (not what is in the files)", "guide", Keys.ENTER)
     assert reader.read(lambda state: "q=guide" in state["here"] and state["matches"])["disks"] == ["Disk 1002"]
     reach(reader, "GUIDE", Keys.ENTER)
     reader.read(lambda state: state["heading"] == "GUIDE")

@@ -16,6 +16,12 @@ from support.samples import reply
 IN_SIGHT = """return Array.from(document.querySelectorAll(`#view ${arguments[0]}`))
   .find((one) => one.getBoundingClientRect().top > 100) ?? null"""
 KINDS = {"d64": "Commodore 1541", "cpm8": "CP/M, 8 inches"}
+# A script: whether what shows the list of disks keeps it once and no more of a disk than it needs; words for types.
+LEAN = """return import("/room.lists.js").then(async ({ allDisks, found, known, typeWords }) => {
+  const [disks, words] = [await allDisks(), (kind) => ["REL", "LTR", "DEL"].map((type) => typeWords(kind, { type }))];
+  const isSame = known(disks) === disks && (await found(disks, null, {})).hits === disks;
+  return [isSame, Object.keys(disks[0]), words("d64"), words("cpm8")];
+});"""
 
 @pytest.fixture(scope="module")
 def museum():
@@ -34,12 +40,10 @@ def lines(museum):
         row["disk"] = f"disk {row['accession']}\n{KINDS[row['kind']]}".lower()
     return rows
 
-def in_name(word, line):
-    return re.search(".*".join(map(re.escape, word.split("*"))), line["text"], re.DOTALL)
-
-def in_disk(word, line):
-    """A number counts only as a whole there."""
-    return re.search(rf"(?<!\d){re.escape(word)}(?!\d)" if word.isdigit() else re.escape(word), line["disk"])
+def has(line, word):
+    """Whether a file or its disk has a word; a number counts only as a whole there."""
+    whole = rf"(?<!\d){re.escape(word)}(?!\d)" if word.isdigit() else re.escape(word)
+    return re.search(re.escape(word).replace(r"\*", ".*"), line["text"], re.DOTALL) or re.search(whole, line["disk"])
 
 def said(disks, files):
     named = f" and {files:,} file{'s'[: files != 1]}" if files else ""
@@ -49,6 +53,8 @@ def test_home_counts_disks_and_files_and_shows_them_in_pages(reader, lines):
     disks = list(dict.fromkeys(f"Disk {line['accession']}" for line in lines))
     words = f"{len(disks)} disks with {len(lines):,} files."
     assert reader.wait(lambda state: state["status"] == words)["disks"] == disks[:48]
+    words = ["records", "", "dividing line"], ["compiled code", "letter", ""]
+    assert reader.script(LEAN) == [True, ["accession", "kind", "files"], *words]
     day = reader.script("return Math.floor(Date.now() / 86400000)")
     assert reader.text("figcaption") == f"On the screen today: {disks[day % len(disks)]}"
     reader.named("link", "Next page").click()
@@ -80,16 +86,13 @@ def test_back_leads_to_the_same_place(reader, place, links):
 def test_words_find_files_and_disks_in_any_order_in_a_list_that_is_fetched_once(reader, lines):
     reader.door.visits.clear()
     for words in ("LETTER 1", "1 letter", "notes10.txt", "*.SEQ 17", "%CC%C5", "note*.txt", "dia", "997"):
-        each = words.lower().split()
-        due = [line for line in lines if any(in_name(word, line) for word in each)
-               and all(in_name(word, line) or in_disk(word, line) for word in each)]
-        whole = [line for line in lines if all(in_disk(word, line) for word in each)]
-        disks = sorted({int(line["accession"]) for line in due + whole})
+        due = [line for line in lines if all(has(line, word) for word in words.lower().split())]
+        disks = sorted({int(line["accession"]) for line in due})
         shown = reader.find(words)
         assert shown["status"] == said(len(disks), len(due)), words
         assert shown["disks"] == [f"Disk {number}" for number in disks[:48]], words
     assert reader.find("seq*notes")["disks"] == []
-    reader.type("Search titles, files and numbers", "nowhere")
+    reader.type("not what is in the files", "nowhere")
     wanted = "Nothing was found. Try %s. The staff knows the files whose names are closed."
     reader.wait(lambda state: (state["here"], state["status"]) == ("#/?q=nowhere", wanted % "another word"))
     none = wanted % "fewer words, or all types of files, or all kinds of disks"

@@ -3,7 +3,6 @@
 import pytest
 from staff_helpers import LEFT
 from support import museums
-from support.museums import HARMFUL
 from support.samples import NOBODY, PROGRAM_DISK, PUBLIC, ROOM, STAFF, digest
 from support.stand_in import refused_by_nginx
 
@@ -11,7 +10,8 @@ from support.stand_in import refused_by_nginx
 UMLAUTS = "Schlüssel für den Raum\u00a0"
 AS_PUBLIC, BY_KEY = "I have a key", "You read with a key"
 OPEN, ALL = ([f"Disk {number}" for number in range(1001, end)] for end in (1004, 1007))
-NOT_READ = "You may not read this file. Ask the staff, who know why."
+CLOSED, TELLS = "This file is closed to you. You may %s.", "of this disk, as far as the desk tells"
+TAKEDOWN = "takedown 1 of disk %d (T%d.1). A takedown is how the staff closes files of a disk."
 WELCOME = ["WELCOME.TXT", "TXT text", "896"]
 UNREAD = "Damaged the drive could not read a block of it"
 DAMAGED = "read-error (the drive could not read a block of it)"
@@ -37,38 +37,39 @@ def test_caller_sees_the_disks_of_their_audience(reader, key, asks, disks):
     closed = "2 more files are closed to you, name and all: rule 10 of deed 7 (R7.10). Turn to the museum's staff about"
     due = [] if is_staff else ["There is no file on it that you may see.", f"{closed} this disk."]
     reader.wait(lambda state: reader.texts(".callout") == due, f"{due} on the disk")
-    rules = {"1004/0": "R7.10, rule 10 of deed 7", "1003/1": "T1003.1, takedown 1 of disk 1003",
-             "1007/0": "D0, no rule lets you see it"}
+    deed, none = "Deed 7 is the paper by which the disk came to the museum.", f"no other file {TELLS}"
+    rules = {"1004/0": [f"rule 10 of deed 7 (R7.10). {deed}", f"1 other file {TELLS}"],
+             "1003/1": [TAKEDOWN % (1003, 1003), none], "1007/0": ["no rule lets you see it (D0).", none]}
     for place, rule in rules.items():
-        refusal = [NOT_READ, "Refusal: denied", f"Rule: {rule}"]
-        assert reader.go(place)["refusal"] == ([] if is_staff and place != "1007/0" else refusal)
-        assert ("Deed 7 is the paper by which" in reader.text("#view")) == (rule[0] == "R" and not is_staff)
+        refusal = [CLOSED % "not even see its name", *rule]
+        reader.go(place)
+        reader.read(lambda state: state["refusal"] == ([] if is_staff and place != "1007/0" else refusal))
     assert reader.find("welcome")["disks"] == (["Disk 1001", "Disk 1004"] if is_staff else ["Disk 1001"])
 
-def test_only_a_file_that_may_be_read_has_a_link_and_others_say_why(museum, reader):
+def test_each_file_leads_to_its_page_and_one_that_is_closed_says_why_there_and_in_lists(museum, reader):
     museum.rules["T1001"] = {1: museums.rule(1, "list", ["public"], {"slot": 0})}
     shown = reader.go("1001")
     why = "Listed only takedown 1 of disk 1001 has closed it"
-    assert (shown["rows"][0], shown["links"]) == ([*WELCOME, why], ["#/1001/1"] * 2)
+    assert (shown["rows"][0], shown["links"]) == ([*WELCOME, why], [f"#/1001/{slot}" for slot in "0011"])
+    alone = [CLOSED % "see its name alone", TAKEDOWN % (1001, 1001), f"no other file {TELLS}"]
+    assert reader.go("1001/0")["refusal"] == alone and reader.go("1001")
     rules = "takedown 1 of disk 1001 (T1001.1) about 1 file, rule 20 of deed 9 (R9.20) about 1 file."
     assert f"What decides here: {rules}" in reader.text("#view")
-    museum.rules["R9"][10] = museums.rule(10, "list", ["public"], {"type": "SEQ"})
+    museum.rules["R9"][10] = museums.rule(10, "list", ["public"])
+    assert reader.go("1002/0")["refusal"][2:] == [f"2 other files {TELLS}: {'-' * 16}, GUIDE"]
     why = "Listed only rule 10 of deed 9 lets you see its name alone"
     assert reader.go("1003")["rows"][0] == ["LOGBOOK", "SEQ text or data", "", why]
     del museum.rules["R9"][10]
-    shown = reader.go("1003")
-    assert (shown["rows"][0], shown["links"]) == (["LOGBOOK", "SEQ text or data", "", UNREAD], [])
-    shown = reader.go("1002")
+    assert reader.go("1003")["rows"][0] == ["LOGBOOK", "SEQ text or data", "", UNREAD]
     why = "Listed only a dividing line of the directory, which has no bytes to read"
-    assert shown["rows"][1] == ["-" * 16, "DEL dividing line", "", why]
-    assert shown["links"] == ["#/1002/0"] * 2 + ["#/1002/2"] * 2
-    found = [reader.load() and reader.find(name) and reader.texts(".matches li") for name in ("welcome", "logbook")]
-    assert found == [["WELCOME.TXT text Listed only"], ["LOGBOOK text or data Damaged"]]
+    assert reader.go("1002")["rows"][1] == ["-" * 16, "DEL dividing line", "", why]
+    found = [reader.load() and reader.find(name)["matches"] + reader.texts(".matches li") for name in ("welc", "logb")]
+    assert found == [["WELCOME.TXT", "WELCOME.TXT text Listed only"], ["LOGBOOK", "LOGBOOK text or data Damaged"]]
     closed = ["1 more file is closed to you, name and all: takedown 1 of disk 1003 (T1003.1)."]
     reader.wait(lambda state: reader.texts(".closed > a[href='#/1003']") == closed, f"{closed} of what was found")
 
 def test_refusal_says_why_whom_to_ask_and_where_to_go_on(reader):
-    others, staff = "The other files of this disk", "Turn to the museum's staff about it."
+    others, staff = "The other files of this disk", "Turn to the museum's staff about this "
     wanted = {
         "1003/0": (["Refusal: faulty", f"Faults: {DAMAGED}"], others), "1002/1": (["Refusal: listed-only"], others),
         "1001/9": (["Refusal: no-file"], others), "99": (["Refusal: no-accession"], "All disks"),
@@ -99,9 +100,10 @@ def test_file_that_was_opened_in_between_is_not_shown(museum, reader):
     assert reader.go("1001/0")["refusal"] == ["What you may see has just changed. Try again."]
     assert reader.load()["heading"] == "WELCOME.TXT"
 
-def test_key_that_is_unknown_lets_go_on_without_one_and_each_key_has_its_own_list_of_files(reader):
+def test_key_has_a_list_of_files_of_its_own_and_is_left_nowhere_and_without_an_unknown_one_a_reader_goes_on(reader):
     assert reader.find("welcome")["disks"] == ["Disk 1001"]
-    assert reader.give(STAFF)["disks"] == ["Disk 1001", "Disk 1004"]
+    assert reader.give(STAFF)["disks"] == ["Disk 1001", "Disk 1004"] and STAFF not in reader.script(LEFT)
+    assert reader.script("return [document.cookie, localStorage.length, sessionStorage.length]") == ["", 0, 0]
     shown = reader.give(NOBODY)
     assert shown["refusal"][1:] == ["Refusal: unknown-key", "Rule: K0, the key is unknown"]
     assert (shown["heading"], shown["caller"]) == ("The desk does not know this key", "This key is unknown")
@@ -109,20 +111,4 @@ def test_key_that_is_unknown_lets_go_on_without_one_and_each_key_has_its_own_lis
     assert reader.focused() == "Your key, from the museum's staff"
     shown = reader.push("Go on without a key")
     assert (shown["disks"], shown["caller"]) == (["Disk 1001"], AS_PUBLIC)
-
-def test_key_is_left_nowhere(reader):
-    assert reader.give(STAFF)["disks"] == ALL
-    reader.find("welcome")
-    assert STAFF not in reader.script(LEFT)
-    assert reader.script("return [document.cookie, localStorage.length, sessionStorage.length]") == ["", 0, 0]
-    assert reader.load()["caller"] == AS_PUBLIC
-
-def test_name_that_is_markup_is_text(museum, reader):
-    museums.harmful_disk(museum, 1066, 9)
-    reader.load()
-    name = HARMFUL[2].upper()
-    assert name in [row[0] for row in reader.go("1066")["rows"]]
-    assert reader.go("1066/2")["heading"] == name
-    assert name in reader.find("<IMG")["matches"]
-    assert reader.find('"QUOTED",')["matches"] == ['a "QUOTED", NAME']
-    assert reader.harmed() == [None, 0]
+    assert reader.give(STAFF)["caller"] == BY_KEY and reader.load()["caller"] == AS_PUBLIC

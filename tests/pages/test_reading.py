@@ -119,12 +119,12 @@ def test_file_comes_in_the_way_that_suits_it_and_is_saved_by_a_safe_name(reader,
 def test_file_can_be_seen_in_the_other_ways(reader):
     small = '10 print "hello"\n20 goto 10\n'
     reader.go("2001/0")
-    for button, text in (("Small letters", small), ("Bytes", hexed(BASIC)), ("Listing", small)):
+    for button, text in (("Lower case", small), ("Bytes", hexed(BASIC)), ("Listing", small)):
         reader.push(button)
         assert reader.text("pre") == text
     assert reader.texts("pre .word") == ["print", "goto"]
     reader.go("2001/1")
-    for button, text in (("Text", "┌─┐\n│ │\nHello"), ("Small letters", "┌─┐\n│ │\n│ELLO")):
+    for button, text in (("Text", "┌─┐\n│ │\nHello"), ("Lower case", "┌─┐\n│ │\n│ELLO")):
         reader.push(button)
         assert reader.text("pre") == text
     assert "Shown as text, without its codes for colours and the cursor." in reader.texts("#view p")
@@ -211,12 +211,13 @@ def test_file_says_what_is_known_of_it_and_how_to_cite_it(reader):
         "Disk": "Disk 2001", "Place": "file 1 of 9 on its list, at slot 0 of the directory",
         "Type": "PRG, a BASIC program, of Commodore 1541", "Size": f"{len(BASIC)} bytes, 1 block",
         "Load address": "$0801 (2049)", "SHA-256": digest(BASIC), "Open by": "rule 20 of deed 9 (R9.20)"}
-    of = f", file “HELLO” (slot 0, PRG, {len(BASIC)} bytes, SHA-256 {digest(BASIC)})"
-    cite = lambda more: f"The reading room: “Disk 2001”{more}. %s (read on 15 June 2026)."
-    for place, name, words in (("2001", "Cite", cite("")), ("2001/0", "Copy link", "%s"), ("2001/0", "Cite", cite(of))):
+    disk = "“Disk 2001”, floppy disk (Commodore 1541), accession number 2001"
+    file = f"“HELLO”, PRG file, {len(BASIC)} bytes, slot 0, on {disk}. SHA-256 {digest(BASIC)}"
+    cite, link = "%s. {} (accessed 15 June 2026).", ("2001/0", "Copy link", "{}")
+    for place, name, words in (("2001", "Cite", cite % disk), link, ("2001/0", "Cite", cite % file)):
         reader.go(place)
         reader.push(name)
-        text = words % f"{reader.door.address}#/{place}"
+        text = words.format(f"{reader.door.address}#/{place}")
         wait_for(text, lambda: reader.text(".copied").partition(": ")[2] == text)
     reader.named("link", "LETTER\u00a0→").click()
     assert reader.read(lambda state: state["heading"] == "LETTER")["here"] == "#/2001/1"
@@ -226,7 +227,10 @@ def test_disk_with_most_files_and_a_picture_is_found_and_short_on_a_phone_beside
     reader.load()
     assert reader.go("2002")["rows"] == [["LETTER.TXT", "TXT text", str(len(STAR)), "user 3", "Read it"]]
     assert reader.go("?type=picture")["matches"] == ["FILE 0"]
+    chips = {"Programs (BASIC, machine code) 13", "Pictures, by size 1", "REL records or compiled code 1"}
+    assert {*reader.go("?type=PRG")["chips"]} >= chips and "FILE 0" not in reader.read()["matches"]
     assert {"HELLO", "FILE 0"} & {*reader.find("BASIC programs")["matches"]} == {"HELLO"}
+    assert reader.find("<IMG")["matches"] == [HARMFUL[2].upper()] and reader.harmed() == [None, 0]
     assert reader.go("?sort=files")["disks"][:2] == ["Disk 2003", "Disk 2001"]
     reader.go("2003")
     shown = "const at = document.querySelector('figure canvas'); return [at.role, at.ariaDetailsElements[0].tagName]"

@@ -2,6 +2,7 @@
 
 import pytest
 from support import museums
+from support.browser import wait_for
 from support.museums import HARMFUL
 
 PUBLIC = "\r\n".join(["\ufeffaccession,title,note", f"1002,{HARMFUL[2]},Müllerstraße", "1004,Not open,hush",
@@ -37,6 +38,7 @@ def test_titles_and_notes_for_readers_are_shown_and_found(reader):
               "1001": ferry, "ferryman welcomes": ferry, "damaged": [], **dict.fromkeys(UMLAUTS, [HARMFUL[2]])}
     for words, disks in wanted.items():
         assert reader.find(words)["disks"] == disks, words
+    assert reader.find("ferry")["matches"] == ["WELCOME.TXT", "SKEW.TXT"], "the files of a disk that was found"
     found = reader.find("a welcome on the river")["matches"]
     assert (found, reader.texts("mark")) == (["WELCOME.TXT"], ["river", "WELCOME"])
     assert reader.texts(".disk .quiet") == [facts.removesuffix(" for you to see")], "no count of files only listed"
@@ -69,10 +71,15 @@ def test_room_is_the_museums_in_head_foot_title_and_refusals(museum, tmp_path, r
     assert reader.script(links, "#foot a") == ["mailto:room@museum.example", f"{reader.door.address}imprint.html"]
     assert reader.texts("#foot p")[0] == "Museum of the River, Lower Valley" and "one" not in reader.text("#foot")
     museum.rules["T1001"] = {1: museums.rule(1, "deny", ["public"], {"slot": 0})}
-    of = ": Letters of a Férryman"
-    for place, subject in (("1001", f"1001{of}"), ("1003/0", "1003, slot 0: LOGBOOK"), ("1001/0", f"1001, slot 0{of}")):
-        reader.go(place)
+    of, there = "Letters of a Férryman", f"Of Letters of a Férryman: Written on the river, 1983 to 1986"
+    subjects = {"1001": f"1001: {of}", "1003/0": "1003, slot 0: LOGBOOK", "1001/0": f"1001, slot 0: {of}",
+                "1001/1": f"1001, slot 1: SKEW.TXT on {of}"}
+    for place, subject in subjects.items():
+        assert (reader.go(place)["refusal"][-1:] == [there]) == (place == "1001/0")
         [mail] = reader.script(links, "#view a[href^=mailto]")
         assert mail.startswith(f"mailto:room@museum.example?subject=Disk {subject}&body=")
         assert mail.endswith(f"#/{place}")
-    assert "Write to room@museum.example about it, or call +49 89 555." in reader.text("#view")
+    assert "Write to room@museum.example about this file, or call +49 89 555." in reader.text("#view")
+    reader.push("Cite")
+    words = f"d: Museum of the River, Lower Valley. “SKEW.TXT”, TXT file, 640 bytes, slot 1, on “{of}”, floppy"
+    wait_for("how to cite it", lambda: words in reader.text(".copied"))

@@ -33,8 +33,8 @@ const sure = document.getElementById("sure");
 return {
   busy: document.querySelector("[aria-busy=true]") !== null, focus: document.activeElement.className,
   heading: texts(document, "h1")[0], title: document.title, status: texts(document, "#status").join(""),
-  here: location.hash, caller: texts(document, ":not([open]) > #caller")[0], refusal: texts(document, ".refused p"),
-  result: texts(open, ".result p, .result dd, .result li"), hint: texts(open, ".hint")[0] ?? "",
+  here: location.hash, caller: texts(document, ":not([open]) > #caller")[0], hint: texts(open, ".hint")[0] ?? "",
+  refusal: texts(document, ".refused :is(p, dd)"), result: texts(open, ".result :is(p, dd, li)"),
   stands: texts(open, ".stands > p"), rows: rows(":is(.stands, #view) tbody tr:not(.space)"),
   disks: texts(open, ".disk-title"), matches: texts(open, ".matches a"), chips: texts(open, ".chip"),
   list: rows(".list tbody tr"), links: Array.from(open.querySelectorAll("tbody a"), (one) => one.getAttribute("href")),
