@@ -50,6 +50,7 @@ function foot() {
 export async function readAbout() {
   (recordsOf(await textOfOwn("about.csv")) ?? []).forEach(take);
   part("museum").textContent = about.museum ?? "";
-  part("room").textContent = room();
-  part("foot").prepend(...foot());
+  // the staff's page has its own name and its own foot
+  part("room")?.replaceChildren(room());
+  part("foot")?.prepend(...foot());
 }

@@ -5,74 +5,34 @@ import { box, cell, element, table } from "./shared.js";
 
 const BLOCK = 100;
 const NEAR = "1200px 0px";
-// The height of a row before one was measured, in pixels.
-const ROW_HEIGHT = 40;
-
-function space(height, columns) {
-  const made = element("tr", null, { className: "space", ariaHidden: "true" });
-  made.append(element("td", null, { colSpan: columns }));
-  made.firstChild.style.height = `${height}px`;
-  return made;
-}
 
 class Block {
-  constructor(list, items) {
-    this.list = list;
-    this.items = items;
-    this.body = element("tbody", null);
-    this.height = 0;
-    this.drawn = true;
+  constructor(items, rowOf, columns) {
+    // the first block that is drawn shows how high the rows of the others will be
+    const height = `calc(${items.length} * var(--row, 40px))`;
+    Object.assign(this, { items, rowOf, columns, height, body: element("tbody", null), isDrawn: true });
     this.clear();
   }
 
   draw() {
-    if (this.drawn) return;
-    this.drawn = true;
-    this.body.replaceChildren(...this.items.map(this.list.rowOf));
-    this.height = this.body.getBoundingClientRect().height;
-    if (this.height) this.list.measured(this.height / this.items.length);
+    if (this.isDrawn) return;
+    this.isDrawn = true;
+    this.body.replaceChildren(...this.items.map(this.rowOf));
+    const { height } = this.body.getBoundingClientRect();
+    if (height === 0) return;
+    this.height = `${height}px`;
+    const { style } = this.body.parentNode;
+    if (!style.getPropertyValue("--row")) style.setProperty("--row", `${height / this.items.length}px`);
   }
 
   // A block in which somebody is at work stays.
   clear() {
-    if (!this.drawn || this.body.contains(document.activeElement)) return;
-    this.drawn = false;
-    const height = this.height || this.items.length * this.list.rowHeight;
-    this.body.replaceChildren(space(height, this.list.columns));
-  }
-}
-
-class LongList {
-  constructor(columns, items, rowOf) {
-    this.columns = columns;
-    this.rowOf = rowOf;
-    this.rowHeight = ROW_HEIGHT;
-    this.isMeasured = false;
-    const count = Math.ceil(items.length / BLOCK);
-    this.blocks = Array.from({ length: count }, (_, at) => new Block(this, items.slice(at * BLOCK, (at + 1) * BLOCK)));
-    this.byBody = new Map(this.blocks.map((block) => [block.body, block]));
-  }
-
-  // The first block that is drawn shows how high the others will be.
-  measured(height) {
-    if (this.isMeasured) return;
-    this.isMeasured = true;
-    this.rowHeight = height;
-    this.blocks.forEach((block) => {
-      if (!block.drawn) block.body.firstChild.firstChild.style.height = `${height * block.items.length}px`;
-    });
-  }
-
-  watch() {
-    const seen = (entries) => {
-      for (const { target, isIntersecting } of entries) {
-        const block = this.byBody.get(target);
-        if (isIntersecting) block.draw();
-        else block.clear();
-      }
-    };
-    const observer = new IntersectionObserver(seen, { rootMargin: NEAR });
-    this.blocks.forEach((block) => observer.observe(block.body));
+    if (!this.isDrawn || this.body.contains(document.activeElement)) return;
+    this.isDrawn = false;
+    const space = box("tr", "space", element("td", null, { colSpan: this.columns }));
+    space.ariaHidden = "true";
+    space.firstChild.style.height = this.height;
+    this.body.replaceChildren(space);
   }
 }
 
@@ -80,10 +40,16 @@ class LongList {
 export function longTable(caption, columns, items, rowOf) {
   if (items.length <= 2 * BLOCK) return table(caption, columns, items.map(rowOf));
   const made = table(caption, columns, []);
-  const list = new LongList(columns.length, items, rowOf);
-  made.lastChild.replaceWith(...list.blocks.map((block) => block.body));
-  made.setAttribute("aria-rowcount", items.length + 1);
-  list.watch();
+  const blocks = new Map();
+  for (let at = 0; at < items.length; at += BLOCK) {
+    const block = new Block(items.slice(at, at + BLOCK), rowOf, columns.length);
+    blocks.set(block.body, block);
+  }
+  const seen = ({ target, isIntersecting }) => blocks.get(target)[isIntersecting ? "draw" : "clear"]();
+  const observer = new IntersectionObserver((entries) => entries.forEach(seen), { rootMargin: NEAR });
+  [...blocks.keys()].forEach((body) => observer.observe(body));
+  made.lastChild.replaceWith(...blocks.keys());
+  made.ariaRowCount = String(items.length + 1);
   return made;
 }
 
@@ -134,12 +100,10 @@ export function listTable(caption, columns, items, rowOf) {
   return made;
 }
 
-// The cell of a file's name: as the machine showed it, as a link where there is an address; below it one printed else.
-export function nameCell(kind, printed, address = null) {
+// The cell of a file's name: as the machine showed it, and below it where it is printed otherwise.
+export function nameCell(kind, printed) {
   const shown = shownName(kind, printed);
-  const made = element("div", null);
-  made.append(address === null ? element("span", shown) : element("a", shown, { href: address }));
-  const fields = { className: "printed", title: "as the desk prints it" };
-  if (shown !== printed) made.append(element("span", printed, fields));
-  return cell("Name", made, "name");
+  const more = { className: "printed", title: "as the desk prints it" };
+  const other = shown === printed ? null : element("span", printed, more);
+  return cell("Name", box("div", "", element("span", shown), other), "name");
 }

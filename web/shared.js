@@ -133,7 +133,6 @@ export function table(caption, columns, rows) {
 
 export const row = (cells) => box("tr", "", ...cells);
 
-export const numberOf = (value) => (Number.isInteger(value) ? String(value) : "");
 export const textOf = (value) => (typeof value === "string" ? value : "");
 export const counted = (count, word) => `${count.toLocaleString("en")} ${word}${count === 1 ? "" : "s"}`;
 export const listOf = (value) => (Array.isArray(value) ? value : []);
@@ -150,9 +149,7 @@ export function fields() {
 
 export async function ask(path, more = {}) {
   const options = { cache: "no-store", credentials: "omit", redirect: "error", headers: fields(), ...more };
-  const reply = await fetch(path, options).catch(() => {
-    throw new Refused(0, {});
-  });
+  const reply = await loaded(fetch(path, options));
   if (reply.ok) return reply;
   const said = await reply.json().catch(() => ({}));
   throw new Refused(reply.status, said !== null && typeof said === "object" ? said : {});
@@ -161,10 +158,7 @@ export async function ask(path, more = {}) {
 // The object in a reply. A connection that ends too early is a lost one.
 export async function askObject(path, more) {
   const reply = await ask(path, more);
-  const text = await reply.text().catch(() => {
-    throw new Refused(0, {});
-  });
-  return JSON.parse(text);
+  return JSON.parse(await loaded(reply.text()));
 }
 
 const wordsFor = (fault) => {
@@ -172,9 +166,9 @@ const wordsFor = (fault) => {
   return own(REFUSALS, name) || own(STATUSES, name) || own(STATUSES, String(fault.status)) || OTHERS;
 };
 
-// A part of the page that is loaded when it is needed.
-export function loaded(module) {
-  return module.catch(() => {
+// What is loaded, of the page or from the desk. What does not come whole is a lost connection.
+export function loaded(coming) {
+  return coming.catch(() => {
     throw new Refused(0, {});
   });
 }

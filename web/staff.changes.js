@@ -35,62 +35,56 @@ function deedSaid(change) {
   return said(change, ({ donor, signed }) => textOf(donor) && `${donor}, signed on ${textOf(signed)}`);
 }
 
-function keySaid(change, [digest]) {
+function keySaid(change, { digest }) {
   const audience = own(AUDIENCES, textOf(bodyOf(change).audience));
   return `Put a key${audience && ` of ${audience}`}, SHA-256 ${digest}`;
 }
 
-// What is changed at a path, by its method: the words, and of which disk and deed.
+// What is changed at a path, which names its parts, by its method: the words.
 const PATHS = [
   {
-    path: /^\/deeds\/([0-9]+)$/,
-    PUT: (change, [deed]) => `Put deed ${deed}${deedSaid(change)}`,
-    of: ([deed]) => ({ deed }),
+    path: /^\/deeds\/(?<deed>[0-9]+)$/,
+    PUT: (change, { deed }) => `Put deed ${deed}${deedSaid(change)}`,
   },
   {
-    path: /^\/deeds\/([0-9]+)\/rules\/([0-9]+)$/,
-    PUT: (change, at) => `Put ${RULES.rules.words(...at)}${ruleSaid(change)}`,
-    DELETE: (_, at) => `Drop ${RULES.rules.words(...at)}`,
-    of: ([deed]) => ({ deed }),
+    path: /^\/deeds\/(?<deed>[0-9]+)\/rules\/(?<rank>[0-9]+)$/,
+    PUT: (change, { deed, rank }) => `Put ${RULES.rules.words(deed, rank)}${ruleSaid(change)}`,
+    DELETE: (_, { deed, rank }) => `Drop ${RULES.rules.words(deed, rank)}`,
   },
   {
-    path: /^\/images\/([0-9]+)\/rules\/([0-9]+)$/,
-    PUT: (change, at) => `Put ${RULES.takedowns.words(...at)}${ruleSaid(change)}`,
-    DELETE: (_, at) => `Drop ${RULES.takedowns.words(...at)}`,
-    of: ([accession]) => ({ accession }),
+    path: /^\/images\/(?<accession>[0-9]+)\/rules\/(?<rank>[0-9]+)$/,
+    PUT: (change, { accession, rank }) => `Put ${RULES.takedowns.words(accession, rank)}${ruleSaid(change)}`,
+    DELETE: (_, { accession, rank }) => `Drop ${RULES.takedowns.words(accession, rank)}`,
   },
   {
-    path: /^\/accessions\/([0-9]+)\/([a-z0-9]+)\/([0-9]+)\/([0-9A-Fa-f]{64})$/,
-    PUT: (_, [accession, kind, deed, digest]) =>
+    path: /^\/accessions\/(?<accession>[0-9]+)\/(?<kind>[a-z0-9]+)\/(?<deed>[0-9]+)\/(?<digest>[0-9A-Fa-f]{64})$/,
+    PUT: (_, { accession, kind, deed, digest }) =>
       `Put disk ${accession}, ${kindWords(kind)}, under deed ${deed}, SHA-256 ${digest}`,
-    of: ([accession, , deed]) => ({ accession, deed }),
   },
   {
-    path: /^\/badges\/([0-9A-Fa-f]{64})$/,
+    path: /^\/badges\/(?<digest>[0-9A-Fa-f]{64})$/,
     PUT: keySaid,
-    DELETE: (_, [digest]) => `Drop the key with SHA-256 ${digest}`,
-    of: () => ({}),
+    DELETE: (_, { digest }) => `Drop the key with SHA-256 ${digest}`,
   },
   {
-    path: /^\/images\/([0-9]+)\/check$/,
-    POST: (_, [accession]) => `Check disk ${accession}`,
-    of: ([accession]) => ({ accession, isCheck: true }),
+    path: /^\/images\/(?<accession>[0-9]+)\/(?<check>check)$/,
+    POST: (_, { accession }) => `Check disk ${accession}`,
   },
 ];
 
-// The way of a path with the values in it, or none.
+// The words for a method at a path, and the parts of that; or none.
 function wayOf({ method, path }) {
   const [plain] = path.split("?");
   for (const way of PATHS) {
-    const found = way.path.exec(plain);
-    if (found && Object.hasOwn(way, method)) return { way, at: found.slice(1) };
+    const { groups } = way.path.exec(plain) ?? {};
+    if (groups && Object.hasOwn(way, method)) return { words: way[method], groups };
   }
   return null;
 }
 
 export function changeWords(change) {
   const found = wayOf(change);
-  return found ? found.way[change.method](change, found.at) : `${change.method} ${short(change.path)}`;
+  return found ? found.words(change, found.groups) : `${change.method} ${short(change.path)}`;
 }
 
 const REFUSED = {
@@ -166,8 +160,8 @@ export class AllChanges {
 function changeOf({ moment, at, status, method, path, staff, note, body }) {
   const change = { moment, at, status: textOf(status), method: textOf(method), path: textOf(path), body: textOf(body) };
   const [name, reason] = [typed(textOf(staff)), typed(textOf(note))];
-  const found = wayOf(change);
-  const scope = found ? found.way.of(found.at) : {};
+  const { accession, deed, check } = wayOf(change)?.groups ?? {};
   const target = change.path.split("?")[0].toLowerCase();
-  return { ...change, target, name, reason, search: `${name}\n${reason}`.toLowerCase(), ...scope };
+  const search = `${name}\n${reason}`.toLowerCase();
+  return { ...change, target, name, reason, search, accession, deed, isCheck: check !== undefined };
 }

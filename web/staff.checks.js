@@ -1,6 +1,6 @@
 // Survey and check of disks, and the latest check of each.
 import { listTable } from "./lists.js";
-import { box, cell, counted, element, kindWords, numberOf, own, part, row } from "./shared.js";
+import { box, cell, counted, element, kindWords, own, part, row } from "./shared.js";
 import { change, changed, dated, diskCell, formOf, held, readHeld, shownAnew, showsAnew } from "./staff.desk.js";
 import { isDone, sendMany } from "./staff.many.js";
 import { limitFields } from "./staff.ruleform.js";
@@ -20,14 +20,14 @@ function finding(text, isBad) {
 export function surveyed(survey, more = {}) {
   const { donor, signed, files, served, faulty, label, directory, map } = survey;
   const pairs = {
-    Disk: `${numberOf(survey.accession)}, ${kindWords(survey.kind)}${label && `, called \u201c${label}\u201d`}`,
-    Deed: `${numberOf(survey.deed)}, of ${donor}, signed on ${signed}`,
+    Disk: `${survey.accession}, ${kindWords(survey.kind)}${label && `, called \u201c${label}\u201d`}`,
+    Deed: `${survey.deed}, of ${donor}, signed on ${signed}`,
     Files: `${counted(files, "file")}: ${served} can be given out, ${faulty} damaged`,
     Directory: own(DIRECTORIES, directory),
   };
   if (map !== null) {
     const [free, used] = [map.claimed_free, map.unclaimed_used].map((count) => counted(count, "block"));
-    pairs.Map = `in use but marked as free: ${free}; not in use but marked so: ${used}; `;
+    pairs.Map = `in use but marked as free: ${free}; not in use but marked as used: ${used}; `;
     pairs.Map += `with a wrong count: ${counted(map.wrong_counts, "track")}`;
     pairs.Sizes = `${counted(survey.size_differs, "file")} with another size than the directory says`;
   }

@@ -1,6 +1,6 @@
 // Deeds: who gave disks, and when they signed; each with its rules.
 import { listTable } from "./lists.js";
-import { cell, counted, element, part, row } from "./shared.js";
+import { box, cell, counted, element, part, row } from "./shared.js";
 import { change, dated, formOf, held, readHeld, send, shownAnew, showsAnew, sure } from "./staff.desk.js";
 import { limitFields } from "./staff.ruleform.js";
 import { buttonsCell, showChange } from "./staff.rules.js";
@@ -33,13 +33,10 @@ function changeDeed({ deed, donor, signed }) {
 
 // The rules of a deed in short, and the way to all that can be done with them.
 function rulesCell({ deed, rules }) {
-  const made = element("div", null);
-  if (rules.length) made.append(element("ul", null));
   const lines = rules.map((rule) => dated("li", `${rule.rank}: ${ruleWords(rule)}`));
-  made.firstChild?.append(...lines);
   const words = rules.length ? "Rules" : "No rule: nobody sees its disks";
-  made.append(element("a", words, { href: `#/rules/${deed}`, ariaLabel: `${words}, of deed ${deed}` }));
-  return cell("Rules", made);
+  const link = element("a", words, { href: `#/rules/${deed}`, ariaLabel: `${words}, of deed ${deed}` });
+  return cell("Rules", box("div", "", lines.length ? box("ul", "", ...lines) : null, link));
 }
 
 function deedRow(one) {

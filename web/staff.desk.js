@@ -41,7 +41,7 @@ export function hasWho() {
   for (const input of [part("who").elements.name, part("who").elements.reason]) {
     const length = sentWords(input.value).length;
     const long = length > LONGEST_WORDS ? "This is too long: it has at most 1,000 bytes as it is sent." : "";
-    input.setCustomValidity(length === 0 ? "The page sends this with each change." : long);
+    input.setCustomValidity(length === 0 ? "Type this: the journal keeps it with the change." : long);
   }
   return part("who").reportValidity();
 }
@@ -125,15 +125,35 @@ export async function shownAnew(name, words) {
   return fault === null ? words : [words, older(name), refusal(fault)];
 }
 
+// What opens the view that is shown: what stops it, and its end; and the work of each section.
+let opened = { stop: () => {}, end: null };
+const running = {};
+
+// Opens a view. What opened the one before is stopped; a change that goes on in the view itself comes to its end first.
+export function open(name, doing) {
+  opened.stop();
+  const before = [opened.end, running[name]];
+  const mine = { stop: () => (mine.isLeft = true) };
+  const go = (tools) => doing(Object.assign(mine, { stop: tools.stop }) && tools);
+  mine.end = Promise.all(before).then(() => !mine.isLeft && work(name, go));
+  opened = mine;
+  return mine.end;
+}
+
 // Does some work of a section, one at a time, shows the outcome there, and says whether it was done. The work gets a
 // way to show how far it has come, and a signal that the reader stops it. It gives what to show, words or nodes, or
 // null where what it has shown stays.
-export async function work(name, doing) {
+export function work(name, doing) {
   if (part(name).getAttribute("aria-busy") === "true") return false;
+  running[name] = workAlone(name, doing);
+  return running[name];
+}
+
+async function workAlone(name, doing) {
   part(name).setAttribute("aria-busy", "true");
   show(name);
   const stop = new AbortController();
-  const tools = { progress: progressOf(name, stop), signal: stop.signal };
+  const tools = { progress: progressOf(name, stop), signal: stop.signal, stop: () => stop.abort() };
   progresses[name] = tools.progress;
   // a change that was sent may be done all the same
   const isStopped = (fault) => stop.signal.aborted && !isUnsure(fault);

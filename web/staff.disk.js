@@ -1,5 +1,4 @@
 // One disk on one page: what it is, who gets what of it by which rules, its journal, and takedowns of ticked files.
-import { csvText } from "./csv.js";
 import { nameCell } from "./lists.js";
 import { shownName } from "./names.js";
 import { askObject, box, cell, counted, element, part, row, table } from "./shared.js";
@@ -12,35 +11,35 @@ import { freeRank } from "./staff.ranks.js";
 import { rehearsalDays, rehearsed } from "./staff.rehearsal.js";
 import { makeRuleForm, ruleIn } from "./staff.ruleform.js";
 import { putMany } from "./staff.rules.js";
-import { COLUMNS, EFFECT_AT, SAVED_HEADS, byWhichRules, effectOf, mayWords } from "./staff.verdicts.js";
-import { readVerdicts, ruleAbbr, savedVerdict } from "./staff.verdicts.js";
+import { saveTable } from "./staff.saved.js";
+import { COLUMNS, EFFECT_AT, SAVED_HEADS, UNSAID, byWhichRules, effectOf, mayWords } from "./staff.verdicts.js";
+import { ruleShown, savedVerdict, verdictsOf } from "./staff.verdicts.js";
 import { AUDIENCES, RULES, listed, ruleTexts, ruleWords, today } from "./staff.words.js";
-import { save } from "./stream.js";
 import { noteOf, titleOf } from "./titles.js";
 
 // How many changes of the journal are shown at most.
 const MOST_CHANGES = 20;
 
-// The disk that is shown: its survey, who put it and its rules, its files with their verdicts, and changes of it.
+// The disk that is shown: its survey, who put it and its rules, and its files with their verdicts; and where it is.
 let shown = null;
+const frames = { about: box("div", ""), files: box("div", ""), rules: box("div", "") };
 
 const nameOf = (record) => shownName(record[COLUMNS.kind], record[COLUMNS.name]);
 
-// Reads the disk anew, and shows it: first without what the journal says.
+// Reads the disk anew, and shows it: what is known of it at once, then who gets what of it, and what the journal says.
 async function readDisk(accession, tools) {
   const survey = await askObject(`/images/${accession}/survey`);
   for (const what of ["deeds", "takedowns", "checks"]) await readHeld(what);
   const asked = { day: today(), rules: byWhichRules(today()), moment: new Date().toISOString() };
-  const files = [];
-  const take = (record) => record[COLUMNS.accession] === String(accession) && files.push(record);
-  await readVerdicts(asked.day, take, tools);
   const things = [{ ...standingDisk(survey), origin: UNREAD }, ...decidingRules(survey)];
-  shown = { survey, things, files, asked, changes: [] };
-  draw();
+  shown = { survey, things, files: [], asked };
+  draw([]);
+  frames.files.replaceChildren(element("p", "Who gets what of it is not read yet."));
+  shown.files = await verdictsOf(accession, asked.day, tools);
+  drawFiles();
   const { origins, changes } = await originsOf(things, tools);
   things.forEach((thing, at) => Object.assign(thing, { origin: origins[at] }));
-  shown.changes = changes;
-  draw();
+  draw(changes);
 }
 
 // All rules that decide on a disk, in the order in which the desk tries them.
@@ -60,7 +59,7 @@ function fileRow(record) {
   const name = nameCell(record[COLUMNS.kind], record[COLUMNS.name]);
   const cells = [cell("Take down", tick), cell("Slot", slot, "number"), name, cell("Type", record[COLUMNS.type])];
   const verdicts = Object.entries(AUDIENCES).map(([audience, words]) =>
-    cell(words, box("span", "", `${mayWords(record, audience)} `, ruleAbbr(record, audience))),
+    cell(words, box("span", "", `${mayWords(record, audience)} `, ruleShown(record, audience))),
   );
   return row([...cells, cell("Bytes", size && Number(size).toLocaleString("en"), "number"), ...verdicts]);
 }
@@ -70,41 +69,45 @@ function rulesTable(rules) {
   const rowOf = ({ rule, label, name, scope, origin }) => {
     const texts = { ...ruleTexts(rule), [PUT]: origin };
     const cells = columns.slice(1).map((column) => cell(column, dated("span", texts[column])));
-    return row([cell("Rule", element("a", label, { href: `#/${name}/${scope}` })), ...cells]);
+    const words = `${RULES[name].words(scope, rule.rank)} (${label})`;
+    return row([cell("Rule", element("a", words, { href: `#/${name}/${scope}` })), ...cells]);
   };
   if (rules.length === 0) return element("p", "No rule: nobody sees it.");
   return table("rules that decide", columns, rules.map(rowOf));
 }
 
 // The latest changes of the disk and its deed, as far as the journal was read.
-function journalParts({ accession, deed }) {
+function journalParts({ accession, deed }, changes) {
   const [disk, ofDeed] = [String(accession), String(deed)];
-  const mine = shown.changes.filter((one) => one.accession === disk || (one.deed === ofDeed && !one.accession));
+  const mine = changes.filter((one) => one.accession === disk || (one.deed === ofDeed && !one.accession));
   const link = element("a", `All changes of disk ${disk} in the journal`, { href: `#/journal/${disk}` });
   const made = mine.length ? [table("latest changes", CHANGES, mine.slice(0, MOST_CHANGES).map(changeRow))] : [];
   return [element("h2", "The latest changes of the disk and its deed"), ...made, box("p", "", link)];
 }
 
-function draw() {
-  const { survey, things, files, asked } = shown;
+function draw(changes) {
+  const { survey, things } = shown;
   const [disk, ...rules] = things;
   const { accession } = survey;
   const title = [titleOf(accession), noteOf(accession)].filter(Boolean).join("; ") || "none";
   const about = surveyed(survey, { Title: title, "Taken in": disk.origin });
-  const columns = ["Take down", "Slot", "Name", "Type", "Bytes", ...Object.values(AUDIENCES)];
   const press = () => change("disk", () => checked(accession, "disk"));
+  frames.about.replaceChildren(about, checkWords(accession), button("Check it", press));
+  const heading = element("h2", "The rules, in their order: the first that matches decides");
+  frames.rules.replaceChildren(heading, rulesTable(rules), ...journalParts(survey, changes));
+}
+
+function drawFiles() {
+  const { files, asked } = shown;
+  const columns = ["Take down", "Slot", "Name", "Type", "Bytes", ...Object.values(AUDIENCES)];
   const counts = audienceCounts((who, effect) => files.filter((record) => effectOf(record, who) === effect).length);
-  const all = [
-    ...[about, checkWords(accession), button("Check it", press)],
+  frames.files.replaceChildren(
     dated("h2", `Who gets what on ${asked.day}`),
     box("ul", "", ...counts.map((text) => element("li", text))),
     files.length ? table("files", columns, files.map(fileRow)) : element("p", "It has no file."),
-    ...[button("Save who gets what as CSV", saveShown), part("ticked")],
-    ...[element("h2", "The rules, in their order: the first that matches decides"), rulesTable(rules)],
-    ...journalParts(survey),
-  ];
+    button("Save who gets what as CSV", saveShown),
+  );
   part("ticked").hidden = files.length === 0;
-  part("disk").querySelector(".stands").replaceChildren(...all);
 }
 
 // Saves who gets what of the disk, what the rule says that decides, and who put it.
@@ -114,10 +117,12 @@ function saveShown() {
     const found = things.find((one) => one.label === label);
     return found ? [ruleWords(found.rule), found.origin] : ["", ""];
   };
-  const rowOf = (record, [audience, at]) => [...savedVerdict(record, audience, asked), ...deciding(record[at + 1])];
-  const rows = files.flatMap((record) => Object.entries(EFFECT_AT).map((one) => rowOf(record, one)));
-  const records = [[...SAVED_HEADS, "what the rule says", "rule put"], ...rows];
-  save(`disk-${survey.accession}-${asked.day}.csv`, [csvText(records)], "text/csv");
+  const rowOf = ([record, audience]) =>
+    [...savedVerdict(record, audience, asked), ...deciding(record[EFFECT_AT[audience] + 1])];
+  const items = files.flatMap((record) => Object.keys(AUDIENCES).map((audience) => [record, audience]));
+  const about = `Who gets what of disk ${survey.accession}, all of its ${counted(files.length, "file")}. ${UNSAID}`;
+  const heads = [...SAVED_HEADS, "what the rule says", PUT.toLowerCase()];
+  return saveTable(`disk-${survey.accession}-${asked.day}`, about, heads, items, rowOf);
 }
 
 // Puts a takedown of each file that is ticked, at a free rank, once all are rehearsed and agreed to.
@@ -147,15 +152,16 @@ async function takeDown(records, tools) {
   return putMany("disk", commands, more, tools);
 }
 
-export async function openDisk(accession, tools) {
+export async function open(accession, tools) {
   formOf("disk").elements.accession.value = accession ?? "";
   part("ticked").hidden = true;
-  part("disk").querySelector(".stands").replaceChildren(part("ticked"));
+  Object.values(frames).forEach((frame) => frame.replaceChildren());
+  part("disk").querySelector(".stands").replaceChildren(frames.about, frames.files, part("ticked"), frames.rules);
   if (accession) await readDisk(accession, tools);
   return accession ? [] : "Type the number of a disk.";
 }
 
-export function listenForDisk() {
+export function listen() {
   const [which, ticked] = [formOf("disk"), part("ticked")];
   showsAnew("disk", (tools) => readDisk(shown.survey.accession, tools));
   makeRuleForm("takedowns", ticked);

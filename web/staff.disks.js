@@ -212,7 +212,7 @@ function countOn() {
   });
 }
 
-export function listenForDisks() {
+export function listen() {
   const form = formOf("disks");
   const { files, count, empty } = form.elements;
   form.addEventListener("submit", () => change("disks", putDumps));

@@ -1,15 +1,16 @@
 // A look through others' eyes: what the public, the reading room or the staff may do with each file on a day.
-import { csvText } from "./csv.js";
 import { longTable, nameCell } from "./lists.js";
 import { searchText } from "./names.js";
-import { cell, counted, element, kindWords, part, row } from "./shared.js";
+import { box, cell, counted, element, kindWords, part, row } from "./shared.js";
 import { dated, diskCell, formOf, work } from "./staff.desk.js";
 import { limitFields, options } from "./staff.ruleform.js";
-import { COLUMNS, EFFECT_AT, SAVED_HEADS, byWhichRules, effectOf, mayWords, onDay } from "./staff.verdicts.js";
-import { readVerdicts, ruleAbbr, savedVerdict } from "./staff.verdicts.js";
+import { countWords } from "./staff.forecast.js";
+import { saveTable } from "./staff.saved.js";
+import { COLUMNS, EFFECT_AT, SAVED_HEADS, UNSAID, byWhichRules, effectOf, mayWords, onDay } from "./staff.verdicts.js";
+import { readVerdicts, ruleShown, savedVerdict } from "./staff.verdicts.js";
 import { AUDIENCES, today } from "./staff.words.js";
-import { inParts, keeper, save } from "./stream.js";
-import { hasTitles, isTitled } from "./titles.js";
+import { inParts, keeper } from "./stream.js";
+import { isTitled } from "./titles.js";
 
 // The verdicts of the day that was read last, and when they were asked; behind each the text to look in.
 let seen = { day: "", words: "", rules: "", moment: "", files: [] };
@@ -18,19 +19,21 @@ const SEARCHED = 15;
 async function read(day, tools) {
   const asked = { day, words: onDay(day), rules: byWhichRules(day), moment: new Date().toISOString() };
   const [files, once] = [[], keeper()];
-  const take = (record) => files.push([...record.map(once), searchText(record[COLUMNS.kind], record[COLUMNS.name])]);
+  const searched = (record) => searchText(record[COLUMNS.kind], record[COLUMNS.name]);
+  // most texts are those of the line before
+  let last = [];
+  const kept = (text, at) => (text === last[at] ? last[at] : once(text));
+  const take = (record) => files.push((last = [...record, searched(record)].map(kept)));
   await readVerdicts(day, take, tools);
   seen = { ...asked, files };
 }
 
 // Says of a file whether it is looked for: by a part of its name or its disk's title, by the disk's number or its rule.
 function finder(words, audience) {
-  if (words === "") return () => true;
   const [rule, ruleAt] = [words.toUpperCase(), EFFECT_AT[audience] + 1];
   const isNumbered = (file) => file[COLUMNS.accession] === words || file[ruleAt] === rule;
-  const isNamed = (file) => file[SEARCHED].includes(words) || isNumbered(file);
-  if (!hasTitles()) return isNamed;
-  return (file) => isNamed(file) || isTitled(Number(file[COLUMNS.accession]), words);
+  const isOnTitled = (file) => isTitled(Number(file[COLUMNS.accession]), words);
+  return (file) => file[SEARCHED].includes(words) || isNumbered(file) || isOnTitled(file);
 }
 
 // What is asked for now.
@@ -39,25 +42,25 @@ function wanted() {
   return { audience: audience.value, words: words.value.trim().toLowerCase(), showsClosed: closed.checked };
 }
 
-// The files to show: those that are found, and of the hidden ones only where they are asked for. And of all files, how
-// many there are of each effect.
+// The files to show: those that are found, and of the hidden ones only where they are asked for; words for which these
+// are; and of all files, how many there are of each effect.
 async function lookThrough({ audience, words, showsClosed }) {
   const isFound = finder(words, audience);
   const counts = { read: 0, list: 0, deny: 0 };
   const files = [];
+  let left = 0;
   const take = (file) => {
     const effect = effectOf(file, audience);
     counts[effect] += 1;
-    if ((showsClosed || effect !== "deny") && isFound(file)) files.push(file);
+    if (!isFound(file)) return;
+    if (showsClosed || effect !== "deny") files.push(file);
+    else left += 1;
   };
   await inParts(seen.files, (some) => some.forEach(take));
-  return { files, counts };
-}
-
-function summary(counts) {
-  const [read, list, deny] = ["read", "list", "deny"].map((effect) => counts[effect].toLocaleString("en"));
-  const first = `They may read ${read} of ${counted(seen.files.length, "file")}`;
-  return `${first}, only see in the list ${list}, and see nothing of ${deny}.`;
+  const by = words && `, found by \u201c${words}\u201d`;
+  const more = left ? `; ${counted(left, "more file")} of which they see nothing left out` : "";
+  const which = `${files.length.toLocaleString("en")} of ${counted(seen.files.length, "file")}${by}${more}.`;
+  return { files, counts, which };
 }
 
 function fileRow(file, audience) {
@@ -68,7 +71,7 @@ function fileRow(file, audience) {
     nameCell(file[COLUMNS.kind], file[COLUMNS.name]),
     cell("Type", file[COLUMNS.type]),
     cell("They may", mayWords(file, audience)),
-    cell("Rule", ruleAbbr(file, audience)),
+    cell("Rule", box("span", "", `${file[EFFECT_AT[audience] + 1]} `, ruleShown(file, audience))),
   ]);
 }
 
@@ -80,24 +83,23 @@ async function draw() {
   const asked = wanted();
   const stands = part("eyes").querySelector(".stands");
   stands.setAttribute("aria-busy", "true");
-  const { files, counts } = await lookThrough(asked);
+  const { files, counts, which } = await lookThrough(asked);
   if (mine !== turn) return;
-  const count = element("p", `${counted(files.length, "file")} shown here.`);
   const columns = ["Disk", "Kind", "Slot", "Name", "Type", "They may", "Rule"];
   const made = files.length ? [longTable("verdicts", columns, files, (file) => fileRow(file, asked.audience))] : [];
   const heading = dated("h2", `What ${AUDIENCES[asked.audience]} gets ${seen.words}`);
-  stands.replaceChildren(heading, element("p", summary(counts)), count, ...made);
+  const words = [countWords(asked.audience, (effect) => counts[effect]), `Shown: ${which}`];
+  stands.replaceChildren(heading, ...words.map((text) => element("p", text)), ...made);
   stands.setAttribute("aria-busy", "false");
   part("eyes").querySelector(".found").hidden = false;
 }
 
 async function saveShown() {
   const [asked, mine] = [wanted(), seen];
-  const { files } = await lookThrough(asked);
-  const texts = [csvText([SAVED_HEADS])];
-  const recordOf = (file) => savedVerdict(file, asked.audience, mine);
-  await inParts(files, (some) => texts.push(csvText(some.map(recordOf))));
-  save(`${asked.audience}-${mine.day}-${files.length}-of-${mine.files.length}-files.csv`, texts, "text/csv");
+  const { files, which } = await lookThrough(asked);
+  const name = `${asked.audience}-${mine.day}-${files.length}-of-${mine.files.length}-files`;
+  const about = `What ${AUDIENCES[asked.audience]} gets ${mine.words}: ${which} ${UNSAID}`;
+  return saveTable(name, about, SAVED_HEADS, files, (file) => savedVerdict(file, asked.audience, mine));
 }
 
 async function look(tools) {
@@ -107,11 +109,11 @@ async function look(tools) {
   return `Read: what everybody gets ${seen.words}. Shown: ${AUDIENCES[audience.value]}.`;
 }
 
-export function openEyes() {
+export function open() {
   formOf("eyes").elements.day.value ||= today();
 }
 
-export function listenForEyes() {
+export function listen() {
   const form = formOf("eyes");
   const { audience, words, closed, save: button } = form.elements;
   limitFields(form);

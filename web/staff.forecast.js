@@ -21,13 +21,15 @@ export function forecast(files, rules, day) {
   return Object.fromEntries(Object.keys(AUDIENCES).map((audience) => [audience, effectsFor(audience)]));
 }
 
-// How many files each audience may read, see and not see, in a sentence for each.
-export function audienceCounts(countOf) {
-  return Object.entries(AUDIENCES).map(([audience, words]) => {
-    const [read, list, deny] = Object.keys(EFFECTS).map((effect) => countOf(audience, effect).toLocaleString("en"));
-    return `${words[0].toUpperCase()}${words.slice(1)}: ${read} to read, ${list} only in the list, ${deny} hidden.`;
-  });
+// How many files an audience may read, see and not see, in a sentence; and the same of each audience.
+export function countWords(audience, countOf) {
+  const [words, counts] = [AUDIENCES[audience], Object.keys(EFFECTS).map(countOf)];
+  const [read, list, deny] = counts.map((count) => count.toLocaleString("en"));
+  return `${words[0].toUpperCase()}${words.slice(1)}: ${read} to read, ${list} only in the list, ${deny} hidden.`;
 }
+
+export const audienceCounts = (countOf) =>
+  Object.keys(AUDIENCES).map((audience) => countWords(audience, (effect) => countOf(audience, effect)));
 
 export function forecastWords(forecasts) {
   const effectsOf = (audience) => forecasts.flatMap((one) => one[audience]);

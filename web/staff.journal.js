@@ -1,13 +1,12 @@
 // The journal: who changed what, when and why, and what became of it.
-import { csvText } from "./csv.js";
 import { longTable } from "./lists.js";
 import { Refused, cell, counted, element, part, row } from "./shared.js";
 import { AllChanges, UNKNOWN, changeWords, isUnknown, outcomeWords, timeOf } from "./staff.changes.js";
 import { dated, formOf, work } from "./staff.desk.js";
 import { LONGEST, Lines, MONTHS, PIECE } from "./staff.lines.js";
 import { limitFields } from "./staff.ruleform.js";
+import { saveTable } from "./staff.saved.js";
 import { today } from "./staff.words.js";
-import { inParts, save } from "./stream.js";
 import { withTitle } from "./titles.js";
 
 // From how many changes on the page reads no more.
@@ -27,18 +26,19 @@ let changes = [];
 
 const isFull = () => changes.length >= MOST;
 
-// The changes to show.
+// The changes to show, and words for which these are.
 function found({ accession, deed, words, day, checks }) {
   const text = words.value.trim().toLowerCase();
   const holds = [
-    [accession.value, (change) => change.accession === accession.value],
-    [deed.value, (change) => change.deed === deed.value],
-    [text, (change) => change.search.includes(text)],
-    [day.value, (change) => change.moment.startsWith(day.value)],
-    [!checks.checked, (change) => change.isCheck !== true],
-  ];
-  const asked = holds.filter(([value]) => value).map(([, isFound]) => isFound);
-  return changes.filter((change) => asked.every((isFound) => isFound(change)));
+    [accession.value, `of disk ${accession.value}`, (change) => change.accession === accession.value],
+    [deed.value, `of deed ${deed.value}`, (change) => change.deed === deed.value],
+    [text, `with \u201c${text}\u201d in the name or the reason`, (change) => change.search.includes(text)],
+    [day.value, `of ${day.value}`, (change) => change.moment.startsWith(day.value)],
+    [!checks.checked, "without checks of disks", (change) => change.isCheck !== true],
+  ].filter(([value]) => value);
+  const shown = changes.filter((change) => holds.every(([, , isFound]) => isFound(change)));
+  const which = [`${counted(shown.length, "change")} of these`, ...holds.map((one) => one[1])].join(", ");
+  return { shown, which };
 }
 
 export function changeRow(change) {
@@ -68,12 +68,10 @@ function summary() {
 function draw() {
   const form = formOf("journal");
   if (!form.reportValidity()) return;
-  const shown = found(form.elements);
-  const left = form.elements.checks.checked ? 0 : changes.filter((change) => change.isCheck).length;
-  const others = left ? `; ${counted(left, "check")} of disks left out` : "";
-  const words = `${counted(shown.length, "change")} shown here${others}.`;
+  const { shown, which } = found(form.elements);
   const made = shown.length ? [longTable("changes", COLUMNS, shown, changeRow)] : [];
-  part("journal").querySelector(".stands").replaceChildren(dated("p", summary()), element("p", words), ...made);
+  const words = [dated("p", summary()), element("p", `Shown: ${which}.`)];
+  part("journal").querySelector(".stands").replaceChildren(...words, ...made);
   form.elements.older.disabled = lines.isWhole || isFull();
 }
 
@@ -123,6 +121,7 @@ function readAnew(tools) {
   return readOlder(tools);
 }
 
+const UNSAID = "It does not say what was changed without this door, nor whether a name is that of who wrote it.";
 const HEADS = ["moment", "name", "reason", "what", "outcome", "method", "path", "status", "body"];
 
 function savedRecord(change) {
@@ -132,11 +131,11 @@ function savedRecord(change) {
 
 // Saves what is shown as a table for a spreadsheet.
 async function saveShown() {
-  const texts = [csvText([HEADS])];
-  const [shown, all, since] = [found(formOf("journal").elements), changes.length, changes.at(-1)?.moment.slice(0, 10)];
-  await inParts(shown, (some) => texts.push(csvText(some.map(savedRecord))));
-  const name = `journal-${today()}-${shown.length}-of-${all}-changes${since ? `-back-to-${since}` : ""}`;
-  save(`${name}.csv`, texts, "text/csv");
+  const { shown, which } = found(formOf("journal").elements);
+  const since = changes.at(-1)?.moment.slice(0, 10);
+  const name = `journal-${today()}-${shown.length}-of-${changes.length}-changes${since ? `-back-to-${since}` : ""}`;
+  const about = `The journal on ${today()}: ${summary()} Here: ${which}. ${UNSAID}`;
+  return saveTable(name, about, HEADS, shown, savedRecord);
 }
 
 // Shows the journal, of one disk where its number is given.

@@ -1,39 +1,43 @@
 // The staff's page: a key, and one view at a time of what stands at the desk and of the work with it.
-import { ask, element, listenForKey, part, refusal, useNow } from "./shared.js";
+import { readAbout } from "./about.js";
+import { ask, element, listenForKey, loaded, part, refusal, useNow } from "./shared.js";
 import { readTitles } from "./titles.js";
 import { listenForChecks, showChecks } from "./staff.checks.js";
 import { listenForDeeds, showDeeds } from "./staff.deeds.js";
-import { work } from "./staff.desk.js";
-import { listenForDisk, openDisk } from "./staff.disk.js";
-import { listenForDisks } from "./staff.disks.js";
-import { listenForEyes, openEyes } from "./staff.eyes.js";
+import { open } from "./staff.desk.js";
 import { listenForJournal, openJournal } from "./staff.journal.js";
 import { listenForKeys, showKeys } from "./staff.keys.js";
 import { listenForRules, openRules } from "./staff.rules.js";
-import { listenForTimeline, openTimeline } from "./staff.timeline.js";
 
-// The views by their sections: the heading, and what each does when it comes before the reader.
+// The views by their sections: the heading, and what each does when it comes before the reader. What not every visit
+// needs is loaded then, and listens to its form from then on.
 const VIEWS = {
   deeds: { heading: "Deeds", open: showDeeds },
   rules: { heading: "Rules of deeds", of: "Rules of deed", open: (scope) => openRules("rules", scope) },
-  disks: { heading: "Disks", open: () => {} },
+  disks: { heading: "Disks", load: () => import("./staff.disks.js") },
   takedowns: { heading: "Takedowns", of: "Takedowns of disk", open: (scope) => openRules("takedowns", scope) },
   keys: { heading: "Keys", open: (_, tools) => showKeys(tools) },
   checks: { heading: "Checks", open: showChecks },
-  disk: { heading: "One disk", of: "Disk", open: openDisk },
-  eyes: { heading: "Who sees what", open: openEyes, isLook: true },
-  timeline: { heading: "Timeline", open: openTimeline, isLook: true },
+  disk: { heading: "One disk", of: "Disk", load: () => import("./staff.disk.js") },
+  eyes: { heading: "Who sees what", load: () => import("./staff.eyes.js"), isLook: true },
+  timeline: { heading: "Timeline", load: () => import("./staff.timeline.js"), isLook: true },
   journal: { heading: "Journal", of: "Journal of disk", open: openJournal, isLook: true },
 };
 
 let taken = false;
 
-// The museum's titles of disks: those for everybody, and those for the staff, which go before them.
-const titles = readTitles(["titles.csv", "staff.titles.csv"]);
+// The museum's name, and its titles of disks: those for everybody, and those for the staff, which go before them.
+const own = Promise.all([readTitles(["titles.csv", "staff.titles.csv"]), readAbout()]);
 
 function place() {
   const [, name, number] = /^#\/([a-z]+)(?:\/([1-9][0-9]{0,5}))?$/.exec(location.hash) ?? [];
   return Object.hasOwn(VIEWS, name ?? "") ? { name, number } : { name: "deeds" };
+}
+
+async function loadView(view) {
+  const { listen: start, open: show = () => {} } = await loaded(view.load());
+  start();
+  view.open = show;
 }
 
 // Shows the view of the address, with what stands now.
@@ -54,8 +58,9 @@ function showView(focuses) {
     part("status").replaceChildren();
     part("heading").focus();
   }
-  return work(name, async (tools) => {
-    await titles;
+  return open(name, async (tools) => {
+    await own;
+    if (!VIEWS[name].open) await loadView(VIEWS[name]);
     return VIEWS[name].open(number, tools);
   });
 }
@@ -85,8 +90,7 @@ function listen() {
     view.append(element("div", null, { className: "stands" }));
   }
   ["rules", "takedowns"].forEach(listenForRules);
-  const others = [listenForChecks, listenForEyes, listenForTimeline, listenForJournal];
-  for (const start of [listenForDeeds, listenForDisks, listenForDisk, listenForKeys, ...others]) start();
+  for (const start of [listenForDeeds, listenForKeys, listenForChecks, listenForJournal]) start();
   for (const button of part("sure").querySelectorAll("button")) {
     button.addEventListener("click", () => part("sure").close(button.value));
   }

@@ -1,5 +1,5 @@
 // The lines of the journal, from its end: what is written now comes in pieces, each older month comes as one file.
-import { Refused, ask, fields } from "./shared.js";
+import { Refused, ask, fields, loaded } from "./shared.js";
 import { breather } from "./stream.js";
 import { dayAfter, monthBefore, today } from "./staff.words.js";
 
@@ -23,9 +23,7 @@ async function bytesOf(reply, { progress }) {
   const parts = [];
   let [size, came, isCut] = [0, 0, false];
   for (;;) {
-    const { done, value } = await reader.read().catch(() => {
-      throw new Refused(0, {});
-    });
+    const { done, value } = await loaded(reader.read());
     if (done) return { bytes: await joined(parts), isCut };
     parts.push(value);
     size += value.length;

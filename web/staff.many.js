@@ -1,10 +1,9 @@
 // Many changes, one after the other: with progress, a report that can be saved, and a way to go on where they stopped.
-import { csvText } from "./csv.js";
 import { longTable } from "./lists.js";
 import { Refused, box, cell, counted, element, explainRefusal, refusalName, row } from "./shared.js";
 import { button, change, diskCell, isUnsure, keepReason, older, whoNow } from "./staff.desk.js";
+import { saveTable } from "./staff.saved.js";
 import { today } from "./staff.words.js";
-import { save } from "./stream.js";
 
 const DONE = "done";
 
@@ -56,24 +55,22 @@ function summary({ items, word, verb, said }) {
 
 // What became of the items: in short, those not done, buttons to go on or save it; and whether the list is older.
 function report(run, isOlder) {
-  const made = box("div", "", summary(run));
   const others = run.items.filter((item) => outcomeOf(item) && !isDone(item));
   const isWhole = run.items.every(isOver);
   const columns = [...run.heads, "Outcome"];
   const isDisk = (column, text) => text && /^(Accession|Disk)$/.test(column);
   const cellOf = (column, text) => (isDisk(column, text) ? diskCell(text, column) : cell(column, text ?? "", "words"));
   const rowOf = (item) => row([...run.cells(item), outcomeOf(item)].map((text, at) => cellOf(columns[at], text)));
-  if (others.length) made.append(longTable("Not done", columns, others, rowOf));
-  if (run.more && !isWhole && !isOlder) made.append(element("p", run.more()));
-  const goOn = () => change(run.section, (tools) => sendMany(run, tools));
-  const buttons = isWhole ? [] : [button("Go on with the rest", goOn)];
-  made.append(box("p", "choices", ...buttons, button("Save the report", () => saveReport(run))));
-  if (isOlder) made.append(older(run.section));
-  return made;
+  const table = others.length ? longTable("Not done", columns, others, rowOf) : null;
+  const more = run.more && !isWhole && !isOlder ? element("p", run.more()) : null;
+  const goOn = isWhole ? null : button("Go on with the rest", () => change(run.section, (how) => sendMany(run, how)));
+  const buttons = box("p", "choices", goOn, button("Save the report", () => saveReport(run)));
+  return box("div", "", summary(run), table, more, buttons, isOlder ? older(run.section) : null);
 }
 
 function saveReport({ section, items, heads, cells }) {
-  const rows = items.map((item) => [...cells(item), outcomeOf(item) || "not sent", ...(item.who ?? ["", "", ""])]);
-  const records = [[...heads.map((head) => head.toLowerCase()), "outcome", "by", "reason", "tried at"], ...rows];
-  save(`${section}-${today()}.csv`, [csvText(records)], "text/csv");
+  const columns = [...heads.map((head) => head.toLowerCase()), "outcome", "by", "reason", "tried at"];
+  const recordOf = (item) => [...cells(item), outcomeOf(item) || "not sent", ...(item.who ?? ["", "", ""])];
+  const about = "What was sent, and what became of it. It does not say what stands since.";
+  return saveTable(`${section}-report-${today()}`, about, columns, items, recordOf);
 }

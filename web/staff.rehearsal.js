@@ -1,6 +1,6 @@
 // What a change of rules would open and what it would close, for whom and on which days, before it is made.
 import { shownName } from "./names.js";
-import { Refused, counted, element } from "./shared.js";
+import { Refused, box, counted, element } from "./shared.js";
 import { dated, sure } from "./staff.desk.js";
 import { COLUMNS, given, readVerdicts } from "./staff.verdicts.js";
 import { EFFECTS, audienceWords, dayAfter, isOnNoDay, listed, today } from "./staff.words.js";
@@ -127,24 +127,17 @@ function groupParts(group) {
   const items = group.first.map((file) => dated("li", words(file)));
   const rest = group.count - group.first.length;
   if (rest > 0) items.push(element("li", `and ${counted(rest, "more file")}`));
-  const list = element("ul", null);
-  list.append(...items);
-  return [element("p", groupWords(group), { className: group.opens ? "opens" : "closes" }), list];
+  return [element("p", groupWords(group), { className: group.opens ? "opens" : "closes" }), box("ul", "", ...items)];
 }
-
-const sameGroups = (one, other) => JSON.stringify(one) === JSON.stringify(other);
 
 // What a day changes, under a heading; a day that changes the same as the one before says so.
 export function dayParts({ words, groups }, before, level = "h3") {
   const heading = element(level, words);
   if (groups.length === 0) return [heading, element("p", "Nothing opens, and nothing closes.")];
-  if (before && sameGroups(groups, before.groups)) return [heading, element("p", "The same as on the day above.")];
+  const isSame = before && JSON.stringify(groups) === JSON.stringify(before.groups);
+  if (isSame) return [heading, element("p", "The same as on the day above.")];
   return [heading, ...groups.flatMap(groupParts)];
 }
-
-export const rehearsalParts = (found) => found.flatMap((day, at) => dayParts(day, found[at - 1]));
-
-export const closesNothing = (found) => found.every(({ groups }) => groups.every((group) => group.opens));
 
 // Shows what commands would change, and asks whether to send them. Gives those to send, none where the answer is no.
 export async function rehearsed({ words, notes, commands, days, isTakedown, go }, tools) {
@@ -153,8 +146,9 @@ export async function rehearsed({ words, notes, commands, days, isTakedown, go }
   const none = [...missing].map((command) => String(command.scope));
   const said = [...notes];
   if (none.length) said.push(`There is no disk ${listed(none)}: left out.`);
-  if (isTakedown && closesNothing(found)) said.push("Mind: it closes nothing on any of these days.");
+  const closes = found.some(({ groups }) => groups.some((group) => !group.opens));
+  if (isTakedown && !closes) said.push("Mind: it closes nothing on any of these days.");
   if (left.length === 0) return [];
-  const more = [...said.map((text) => dated("p", text)), ...rehearsalParts(found)];
+  const more = [...said.map((text) => dated("p", text)), ...found.flatMap((day, at) => dayParts(day, found[at - 1]))];
   return (await sure({ words, more, go, keep: "Leave it as it is" })) ? left : [];
 }

@@ -1,16 +1,13 @@
 // The form for a rule of a deed or a takedown: made, filled with a rule that stands, and read.
-import { element, own, part } from "./shared.js";
+import { box, element, own, part } from "./shared.js";
 import { AUDIENCES, EFFECTS, LIMITS, RULES, SELECTORS, isDay, selection } from "./staff.words.js";
 
 export function options(select, words, names = Object.keys(words)) {
   select.append(...names.map((name) => element("option", words[name], { value: name })));
 }
 
-function audienceBox(name) {
-  const made = element("label", null);
-  made.append(element("input", null, { type: "checkbox", name: "audiences", value: name }), ` ${AUDIENCES[name]}`);
-  return made;
-}
+const audienceBox = (value) =>
+  box("label", "", element("input", null, { type: "checkbox", name: "audiences", value }), ` ${AUDIENCES[value]}`);
 
 // Gives its limits to each field of a form. A day is typed as it is shown.
 export function limitFields(form) {

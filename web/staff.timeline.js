@@ -92,15 +92,17 @@ async function readDay(day, before, tools) {
   const [effects, changes, alike] = [new Map(), new Changes(), new Map()];
   const take = (record) => {
     const now = Object.keys(AUDIENCES).map((audience) => effectOf(record, audience));
-    const [file, text] = [Number(record[COLUMNS.accession]) * 10000 + Number(record[COLUMNS.slot]), now.join()];
+    const [text, accession, slot] = [now.join(), record[COLUMNS.accession], record[COLUMNS.slot]];
     if (!alike.has(text)) alike.set(text, { now, count: 0 });
     alike.get(text).count += 1;
-    effects.set(file, alike.get(text).now);
-    const old = before?.get(file) ?? now;
+    // what is not compared with another day is not kept
+    if (!before && !effects.has(accession)) effects.set(accession, []);
+    if (!before) effects.get(accession)[slot] = alike.get(text).now;
+    const old = before?.get(accession)?.[slot] ?? now;
     Object.keys(AUDIENCES).forEach((audience, at) => {
       if (old[at] === now[at]) return;
       const name = shownName(record[COLUMNS.kind], record[COLUMNS.name]);
-      changes.take([record[COLUMNS.accession], record[COLUMNS.slot], name, audience, old[at], now[at]]);
+      changes.take([accession, slot, name, audience, old[at], now[at]]);
     });
   };
   await readVerdicts(day, take, tools);
@@ -133,13 +135,13 @@ async function look() {
   if (field().reportValidity() && (await work("timeline", doing)) && field().value !== read) look();
 }
 
-export async function openTimeline() {
+export async function open() {
   field().value ||= today();
   await readLines();
   draw();
 }
 
-export function listenForTimeline() {
+export function listen() {
   const form = formOf("timeline");
   const { day, earlier, later } = form.elements;
   limitFields(form);

@@ -1,8 +1,9 @@
 // What every caller gets of every file on a day, as the desk says; and how that is said and saved.
 import { shownName } from "./names.js";
-import { element, explained, meaning } from "./shared.js";
+import { Records } from "./csv.js";
+import { Refused, ask, element, explained, meaning } from "./shared.js";
 import { AUDIENCES, today } from "./staff.words.js";
-import { readTable } from "./stream.js";
+import { partsOf, readTable } from "./stream.js";
 import { titleOf } from "./titles.js";
 
 // The columns of the table of verdicts, by their places. After them come, for each audience, the effect and the rule.
@@ -12,6 +13,23 @@ export const EFFECT_AT = { public: 9, room: 11, staff: 13 };
 // Reads the verdicts of a day, and hands each record on.
 export function readVerdicts(day, take, { progress, signal }) {
   return readTable(`/staff/verdicts/${day}`, { take, signal, progress: (count) => progress(`Reading ${day}`, count) });
+}
+
+// The verdicts of one disk on a day. The desk tells those of all, by their accessions: the page keeps the lines of this
+// one alone, and reads none behind them.
+export async function verdictsOf(accession, day, { progress, signal }) {
+  const start = `\n${accession},`;
+  let [text, last, length] = ["", -1, 0];
+  for await (const part of partsOf(await ask(`/staff/verdicts/${day}`, { signal }))) {
+    progress("Reading who gets what of it, in kB", Math.round((length += part.length) / 1000));
+    text = (last < 0 ? text.slice(Math.max(0, text.lastIndexOf("\n"))) : text) + part;
+    last = text.lastIndexOf(start);
+    const end = text.indexOf("\n", last + 1);
+    if (last >= 0 && end >= 0 && text.length >= end + start.length) break;
+  }
+  const end = text.indexOf("\n", last + 1);
+  if (end < 0) throw new Refused(0, {});
+  return last < 0 ? [] : new Records().add(text.slice(text.indexOf(start) + 1, end + 1));
 }
 
 // The desk gives out a file only where it has a size: without one, `read` is no more than `list`.
@@ -33,10 +51,9 @@ export function mayWords(record, audience) {
 
 const ruleMeaning = (label) => (label === "D0" ? "no rule matches" : meaning(label));
 
-export function ruleAbbr(record, audience) {
-  const label = record[EFFECT_AT[audience] + 1];
-  return element("abbr", label, { title: ruleMeaning(label) });
-}
+// The rule that decides, in words.
+export const ruleShown = (record, audience) =>
+  element("span", ruleMeaning(record[EFFECT_AT[audience] + 1]), { className: "title" });
 
 // By which rules the verdicts of a day are.
 const PAST = "by today's rules, not by those that stood then";
@@ -47,6 +64,7 @@ const LATER = "by today's rules, which may change until then";
 const NOW = "by the rules that stood when it was asked";
 export const byWhichRules = (day) => (day < today() ? PAST : (day > today() && LATER) || NOW);
 
+export const UNSAID = "It does not say who has read or copied a file, nor what stands on other days.";
 export const SAVED_HEADS = [
   ...["day", "by which rules", "asked at", "audience", "they may", "because", "rule", "rule in words"],
   ...["disk", "title", "deed", "kind", "slot", "user", "name", "name as shown", "type", "size", "faults"],

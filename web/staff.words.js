@@ -1,4 +1,5 @@
 // Words for what stands at a desk: audiences, effects, rules and days, and what the fields for them take.
+import { shownName } from "./names.js";
 
 export const AUDIENCES = { public: "the public", room: "the reading room", staff: "the staff" };
 export const EFFECTS = { read: "read them", list: "see that they are there", deny: "see nothing of them" };
@@ -10,6 +11,8 @@ export function listed(words) {
   if (words.length < 2) return words.join("");
   return `${words.slice(0, -1).join(", ")} and ${words.at(-1)}`;
 }
+
+const asPrinted = (words) => (shownName("d64", words) === words ? "" : ` (printed as \u201c${words}\u201d)`);
 
 function printed(least, most) {
   return { pattern: `[\\x20-\\x7E]{${least},${most}}`, title: "as the desk prints it", required: least > 0 };
@@ -29,7 +32,7 @@ export const SELECTORS = {
     choice: "files whose names begin alike",
     field: "They begin, as the desk prints them, with",
     limits: printed(1, 64),
-    shown: (words) => `files whose names begin with \u201c${words}\u201d`,
+    shown: (words) => `files whose names begin with \u201c${shownName("d64", words)}\u201d${asPrinted(words)}`,
     sent: String,
   },
   user: {

@@ -1,6 +1,6 @@
 // Long tables of the desk, read while they come in, and files that the page saves.
 import { Records } from "./csv.js";
-import { Refused, ask, element } from "./shared.js";
+import { Refused, ask, element, loaded } from "./shared.js";
 
 // For how many milliseconds the page works on before it lets the browser do something else.
 const LONGEST_WORK = 16;
@@ -30,15 +30,17 @@ export async function inParts(items, take) {
   }
 }
 
-// The parts of a reply's text. A connection that ends too early is a lost one.
-async function* partsOf(reply) {
+// The parts of a reply's text, until who reads it needs no more. A connection that ends too early is a lost one.
+export async function* partsOf(reply) {
   const reader = reply.body.pipeThrough(new TextDecoderStream()).getReader();
-  for (;;) {
-    const { done, value } = await reader.read().catch(() => {
-      throw new Refused(0, {});
-    });
-    if (done) return;
-    yield value;
+  try {
+    for (;;) {
+      const { done, value } = await loaded(reader.read());
+      if (done) return;
+      yield value;
+    }
+  } finally {
+    reader.cancel().catch(() => {});
   }
 }
 

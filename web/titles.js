@@ -1,6 +1,6 @@
 // Titles and notes that the museum gives its disks, in tables beside the pages: `accession,title,note`.
 import { recordsOf } from "./csv.js";
-import { element } from "./shared.js";
+import { box, element } from "./shared.js";
 
 const COLUMNS = "accession,title,note";
 
@@ -31,12 +31,10 @@ export const noteOf = (accession) => titles.get(accession)?.note ?? "";
 
 // Whether the title or the note of a disk has some words, which are in small letters.
 export const isTitled = (accession, words) =>
-  `${titleOf(accession)}\n${noteOf(accession)}`.toLowerCase().includes(words);
+  titles.has(accession) && `${titleOf(accession)}\n${noteOf(accession)}`.toLowerCase().includes(words);
 
 // Something that stands for a disk, with its title below where it has one.
 export function withTitle(shown, accession) {
-  const made = element("div", null);
-  made.append(shown);
-  if (titleOf(accession) !== "") made.append(element("span", titleOf(accession), { className: "title" }));
-  return made;
+  const title = titleOf(accession) && element("span", titleOf(accession), { className: "title" });
+  return box("div", "", shown, title);
 }

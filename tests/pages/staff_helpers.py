@@ -33,15 +33,13 @@ def put_deed(staff, deed="35", donor="F. Founder"):
 def takedown(rank, slot):
     return {rank: museums.rule(rank, "deny", ("public", "room"), {"slot": slot})}
 
-def lost_at(number, stays=False, is_done=False):
-    """Has the connection lost by which the change of this number is put, or, if that is done, all from then on; where
-    it stays lost, both."""
+def lost_at(number, stays=False):
+    """Has the connection lost by which the change of this number is put; where it stays lost, all from then on."""
     came = []
 
     def before(method, path):
         came.append(method != "GET" and not path.startswith("/staff/"))
-        is_now = came[-1] and sum(came) == number
-        return b"" if (is_now and not is_done) or (sum(came) >= number and not is_now and (stays or is_done)) else None
+        return b"" if sum(came) >= number and (stays or came[-1] and sum(came) == number) else None
 
     return before
 

@@ -1,5 +1,4 @@
-"""Each view of both pages: names of controls, order of headings, contrast in light and dark, the Tab key, the width of
-a phone, titles, and what the browser refuses there."""
+"""Each view of both pages: names of controls, headings, contrast, the Tab key, a phone, titles, what is refused."""
 
 import pathlib
 

@@ -1,5 +1,4 @@
-"""The journal on the staff's page: who changed what, when and why, and what became of it; what is looked for in it; and
-a journal that is long, was rotated away, is missing or may not be read."""
+"""The journal on the staff's page: who changed what, when and why, how it ended; one that is long or is not there."""
 
 from staff_helpers import CANNOT_REACH, journal_lines, moment, saved_table
 from support.browser import TODAY
@@ -57,7 +56,7 @@ def test_changes_stand_with_who_what_outcome_and_reason(staff):
     shown = read(staff, JOURNAL)
     summary = f"11 changes read, back to {time_of(0)}, and there may be older ones. "
     summary += f"Of 3 {UNKNOWN}, or it has not ended yet. 1 line cannot be read."
-    assert shown["stands"] == [summary, "10 changes shown here; 1 check of disks left out."]
+    assert shown["stands"] == [summary, "Shown: 10 changes of these, without checks of disks."]
     assert (shown["result"], shown["rows"]) == (["Read: 11 changes."], rows_of(0, 1, 2, 3, 4, 6, 7, 8, 9, 10))
     assert (staff.harmed(), staff.one("#who").is_displayed()) == ([None, 0], False)
     fields = [(path, [name for name in fields if b"desk" in name]) for _, path, fields in staff.door.visits]
@@ -72,12 +71,13 @@ def test_what_is_looked_for_is_found_and_saved_without_a_formula(staff):
     for typed, found in cases:
         staff.fill("journal", **{"accession": "", "deed": "", "words": "", "day": "", "checks": False, **typed})
         shown = staff.read()
-        assert (shown["rows"], int(shown["stands"][1].split()[0])) == (rows_of(*found), len(found)), typed
+        assert (shown["rows"], int(shown["stands"][1].split()[1])) == (rows_of(*found), len(found)), typed
     staff.push("Save what is shown as CSV")
     heads, *records = saved_table(staff, f"journal-{TODAY}-3-of-11-changes-back-to-{moment(START)[:10]}.csv")
-    assert heads == ["moment", "name", "reason", "what", "outcome", "method", "path", "status", "body"]
+    assert heads[2:] == ["moment", "name", "reason", "what", "outcome", "method", "path", "status", "body"]
     what, path = rows_of(3)[0][2], CHANGES[3][1][1]
-    assert (len(records), records[2][1:]) == (3, ["'=1+1", "100%", what, "done", "PUT", path, "200", ""])
+    assert (len(records), records[2][3:]) == (3, ["'=1+1", "100%", what, "done", "PUT", path, "200", ""])
+    assert f"back to {time_of(0)}, and there may be older ones." in records[0][1] and "of disk 1002" in records[0][1]
 
 def many(count, first=0, begun=START):
     """The changes of so many deeds, each with two lines."""
@@ -93,7 +93,7 @@ def test_long_journal_is_read_in_pieces_and_then_month_by_month(staff):
         shown = staff.push("Read what is older")
         assert asked(staff) == [("/journal", f"bytes={max(0, until - PIECE)}-{until - 1}")]
     back = f"back to {time_of(0)}, and there may be older ones."
-    assert shown["stands"] == [f"7,000 changes read, {back}", "7,000 changes shown here."]
+    assert shown["stands"] == [f"7,000 changes read, {back}", "Shown: 7,000 changes of these, without checks of disks."]
     months = ["/journal-2027-01", *(f"/journal-{2026 - at // 12}-{12 - at % 12:02}" for at in range(120))]
     for begin, end, more in ((0, 5, 40), (5, 14, 50), (14, 120, 0)):
         shown = staff.push("Read what is older")

@@ -34,16 +34,12 @@ def test_staff_gives_a_key_puts_a_takedown_and_drops_it(staff):
     staff.load()
     reach(staff, "Key of the staff", STAFF, Keys.ENTER)
     staff.read(lambda state: state["rows"])
-    reach(staff, "Your name", "Ada")
-    reach(staff, "Reason", "a letter")
     reach(staff, "Takedowns", Keys.ENTER)
     staff.read(lambda state: state["heading"] == "Takedowns")
-    reach(staff, "Accession, or many", "1002")
-    reach(staff, "the public", Keys.SPACE)
-    reach(staff, "Which files", Keys.DOWN, Keys.DOWN)
-    reach(staff, "Slot", "0")
-    reach(staff, "They may", Keys.DOWN, Keys.DOWN)
-    reach(staff, "Put it", Keys.ENTER)
+    for name, *keys in [("Your name", "Ada"), ("Reason", "a letter"), ("Accession, or many", "1002"),
+                        ("the public", Keys.SPACE), ("Which files", Keys.DOWN, Keys.DOWN), ("Slot", "0"),
+                        ("They may", Keys.DOWN, Keys.DOWN), ("Put it", Keys.ENTER)]:
+        reach(staff, name, *keys)
     assert agree(staff)["result"] == ["Done: takedown 1000 of disk 1002."]
     assert staff.door.effects(1002)["public"] == ["deny", "read", "read"]
     reach(staff, "Reason", "another letter")

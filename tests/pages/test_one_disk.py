@@ -10,8 +10,10 @@ from support.samples import DONOR_OF_9
 
 START, NOT, ALL = 1_800_000_000, "not in the journal", "the public, the reading room and the staff"
 READ = '{"audiences":["room","public","staff"],"select":{"all":true},"effect":"read"}'
-READS, LISTS = "read it R9.20", "see that it is there (the desk gives out no file of type DEL) R9.20"
-CLOSED, HIDDEN = "see nothing of it T1002.{}", "hidden from the public and the reading room, on all days"
+BY_DEED, PUT = "rule 20 of deed 9", "put when, by whom, and why"
+READS, LISTS = f"read it {BY_DEED}", f"see that it is there (the desk gives out no file of type DEL) {BY_DEED}"
+CLOSED = "see nothing of it takedown {} of disk 1002"
+HIDDEN = "hidden from the public and the reading room, on all days"
 BY = f"{moment(START + 0.5).replace('T', ' ')} by Ada: a letter"
 
 @pytest.fixture
@@ -28,17 +30,19 @@ def test_disk_says_what_it_is_and_who_gets_what_by_which_rule(museum, disk):
     rows, left = shown["rows"], shown["result"]
     assert left == [], "the page goes on saying that it reads the journal"
     assert disk.texts("#disk dd")[1:5:2] == [NOT, f"9, of {DONOR_OF_9}, signed on 0001-01-01"]
-    blocks = "in use but marked as free: 0 blocks; not in use but marked so: 0 blocks; with a wrong count: 0 tracks"
-    assert disk.texts("#disk dd")[4:7] == ["3 files: 2 can be given out, 0 damaged", "it ends well", blocks]
-    assert disk.texts("#disk .stands > ul li")[0] == "The public: 1 to read, 1 only in the list, 1 hidden."
+    blocks = "in use but marked as free: 0 blocks; not in use but marked as used: 0 blocks; "
+    assert disk.texts("#disk dd")[4:6] == ["3 files: 2 can be given out, 0 damaged", "it ends well"]
+    assert disk.texts("#disk dd")[6] == f"{blocks}with a wrong count: 0 tracks"
+    assert disk.texts("#disk .stands ul li")[0] == "The public: 1 to read, 1 only in the list, 1 hidden."
     closed = CLOSED.format(1000)
     assert [row[2:3] + row[5:] for row in rows[:3]] == [
         ["TOUR", *[READS] * 3], ["-" * 16, *[LISTS] * 3], ["GUIDE", closed, closed, READS]]
-    assert [[row[0], row[5]] for row in rows[3:5]] == [["T1002.1000", NOT], ["R9.20", BY]]
+    assert [[row[0], row[5]] for row in rows[3:5]] == [
+        ["takedown 1000 of disk 1002 (T1002.1000)", NOT], [f"{BY_DEED} (R9.20)", BY]]
     assert rows[5][1].startswith("Ada") and rows[5][2].startswith("Put rule 20 of deed 9: all files readable for")
     disk.push("Save who gets what as CSV")
     saved = list(csv.DictReader(disk.saved(f"disk-1002-{TODAY}.csv").decode().splitlines()))
-    keys = "day", "audience", "they may", "rule", "what the rule says", "rule put", "name as shown", "size"
+    keys = "day", "audience", "they may", "rule", "what the rule says", PUT, "name as shown", "size"
     assert [[one[key] for key in keys] for one in saved[6:9:2]] == [
         [TODAY, "the public", "see nothing of it", "T1002.1000", f"the file at slot 2 {HIDDEN}", NOT, "GUIDE", "532"],
         [TODAY, "the staff", "read it", "R9.20", f"all files readable for {ALL}, on all days", BY, "GUIDE", "532"]]
@@ -65,7 +69,21 @@ def test_files_ticked_by_their_shown_names_are_taken_down_and_what_stands_after_
     assert [row[5] for row in shown["rows"][:3]] == [CLOSED.format(1000), LISTS, CLOSED.format(990)]
     disk.push("Save the report")
     due = [["1002", slot, name, rank, f"the file at slot {slot} {HIDDEN}", "done"] for name, rank, slot in rules]
-    assert [row[:6] for row in saved_table(disk, f"disk-{TODAY}.csv")[1:]] == due, "a report says not what was put"
+    _, *rows = saved_table(disk, f"disk-report-{TODAY}.csv")
+    assert [row[2:8] for row in rows] == due, "a report says not what was put"
+
+def test_disk_reads_its_own_lines_alone_and_nothing_more_once_it_is_left(museum, disk):
+    whole = museum.show_verdicts(None, TODAY).reply
+    until = lambda line: lambda _, path: [whole[: whole.index(line) + 7], 1e3] if "/verdicts/" in path else None
+    disk.door.before = until(b"\n1003,")
+    names = [row[2] for row in disk.go("disk/1002")["rows"]][:3]
+    assert names == ["TOUR", "-" * 16, "GUIDE"], "it waits for other disks"
+    disk.door.before = until(b"\n1001,")
+    disk.script("location.hash = '#/disk/1001'")
+    disk.wait(lambda state: state["result"] and "Reading who gets what" in state["result"][0])
+    disk.door.before = lambda method, path: None
+    shown = disk.go("disk/1003")
+    assert (shown["heading"], shown["rows"][0][2]) == ("Disk 1003", "LOGBOOK"), "a disk under the number of another"
 
 def test_each_number_of_a_disk_leads_to_its_page(museum, disk):
     museum.rules["T1002"] = takedown(1000, 2)

@@ -16,6 +16,7 @@ UNSERVED = {"DEL": " (the desk gives out no file of type DEL)",
             "SEQ": " (damaged: read-error (the drive could not read a block of it))"}
 # A script: where the bars of the timeline are, and what drags the day.
 ENDS = "return ['.lane', '[type=range]'].map((at) => document.querySelector(`#timeline ${at}`).getBoundingClientRect())"
+UNSAID = "It does not say who has read or copied a file, nor what stands on other days."
 PAST, STOOD = "by today's rules, not by those that stood then", "by the rules that stood when it was asked"
 
 def look(staff, day, audience="public", closed=False, words=""):
@@ -37,31 +38,37 @@ def test_each_audience_sees_and_counts_what_the_desk_gives_out(museum, staff, da
             counts[effect] += 1
             rows.append([line["accession"], line["slot"], EFFECTS[effect] + why, line[f"{audience}_rule"]])
         shown = look(staff, day, audience, closed=True)
-        summary = "may read {read} of 14 files, only see in the list {list}, and see nothing of {deny}."
-        is_honest = shown["stands"][0].endswith(summary.format_map(counts))
-        assert is_honest, "files that the desk gives out to nobody count as readable"
-        assert [[row[at] for at in (0, 2, 5, 6)] for row in shown["rows"]] == rows
+        summary = "{read} to read, {list} only in the list, {deny} hidden.".format_map(counts)
+        assert shown["stands"][0].endswith(summary), "files that the desk gives out to nobody count as readable"
+        assert [[*(row[at] for at in (0, 2, 5)), row[6].split()[0]] for row in shown["rows"]] == rows
         assert len(look(staff, day, audience)["rows"]) == 14 - counts["deny"]
 
 def test_file_is_found_by_name_disk_or_rule_and_saved_without_formula(museum, staff):
     museums.harmful_disk(museum, 1066, 7)
     for words, count in {"guide": 2, "1002": 3, "r9.20": 7, "=1+1": 1, "no such": 0, "1066": 5}.items():
         shown = look(staff, TODAY, "staff", True, words)
-        assert (len(shown["rows"]), int(shown["stands"][1].split()[0])) == (count, count), words
+        assert (len(shown["rows"]), int(shown["stands"][1].split()[1])) == (count, count), words
     staff.script(CLOCK % 86_400_000)
     staff.push("Save what is shown as CSV")
     _, *rows = saved_table(staff, f"staff-{TODAY}-5-of-19-files.csv")
-    assert [row[14] for row in rows] == [name if name[0] != "=" else f"'{name}" for name in museums.HARMFUL]
+    assert [row[16] for row in rows] == [name if name[0] != "=" else f"'{name}" for name in museums.HARMFUL]
     words = ["the staff", "read it", "", "R7.20", "rule 20 of deed 7", "1066", "", "7", "d64", "0", "", "../../X"]
-    assert (rows[0][1], rows[0][3:]) == (STOOD, [*words, "../../X", "SEQ", "4", ""]), "saved a day after it was asked"
+    assert (rows[0][3], rows[0][5:]) == (STOOD, [*words, "../../X", "SEQ", "4", ""]), "saved a day after it was asked"
 
-def test_day_that_is_over_is_said_to_be_by_rules_of_today_in_the_view_and_in_the_saved_table(staff):
-    look(staff, "1999-01-01", words="LOGBOOK")
-    assert staff.texts("#eyes .stands h2") == [f"What the public gets on 1999-01-01, {PAST}"], "a past day looks known"
-    staff.push("Save what is shown as CSV")
-    _, saved = saved_table(staff, "public-1999-01-01-1-of-14-files.csv")
-    assert (saved[:2], saved[2][:14]) == (["1999-01-01", PAST], f"{TODAY}T12:")
-    assert saved[3:6] == ["the public", EFFECTS["list"], UNSERVED["SEQ"][2:-1]]
+def test_day_that_is_over_is_said_to_be_by_rules_of_today_and_a_saved_table_says_what_it_has(staff, tmp_path):
+    (tmp_path / "about.csv").write_text("name,value\nmuseum,Museum of the River\n")
+    staff.load()
+    staff.begin()
+    for words, count, left in (("1004", 0, "2 more files"), ("logbook", 1, "1 more file")):
+        look(staff, "1999-01-01", words=words)
+        heading = f"What the public gets on 1999-01-01, {PAST}"
+        assert staff.texts("#eyes .stands h2") == [heading], "a past day looks known"
+        staff.push("Save what is shown as CSV")
+        _, saved = saved_table(staff, f"public-1999-01-01-{count}-of-14-files.csv")
+        about = f"{heading}: {count} of 14 files, found by “{words}”; {left} of which they see nothing left out."
+        assert saved[:2] == ["Museum of the River", f"{about} {UNSAID}"], "a saved table looks as if it had all"
+    assert (saved[2:4], saved[4][:14]) == (["1999-01-01", PAST], f"{TODAY}T12:")
+    assert saved[5:8] == ["the public", EFFECTS["list"], UNSERVED["SEQ"][2:-1]]
 
 def test_timeline_has_the_next_change_first_and_says_what_is_other_on_each_day(museum, staff):
     museum.rules["R9"][5] = museums.rule(5, "deny", ["public"], {"slot": 0}, *DAYS[:2])

@@ -1,0 +1,12 @@
+// Tables that the page saves. Each row says by itself whose it is, what the table has, and what it does not say.
+import { holder } from "./about.js";
+import { csvText } from "./csv.js";
+import { inParts, save } from "./stream.js";
+
+// A table without items has one row that says so.
+export async function saveTable(name, about, heads, items, recordOf) {
+  const said = [holder() || "a museum without a name in about.csv", about];
+  const texts = [csvText([["museum", "this table", ...heads], ...(items.length ? [] : [said])])];
+  await inParts(items, (some) => texts.push(csvText(some.map((one) => [...said, ...recordOf(one)]))));
+  save(`${name}.csv`, texts, "text/csv");
+}
