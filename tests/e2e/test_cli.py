@@ -42,6 +42,11 @@ def keys(ends, name):
 def test_status_and_streams(ends, words, wanted):
     assert ends(*words) == wanted
 
+def test_help_is_output_and_a_mistake_an_error(ends):
+    status, output, errors = ends("list", "d65", WELCOME)
+    assert (status, output, "d65" in errors) == (2, "", True)
+    assert ends("--help")[::2] == (0, "")
+
 @pytest.mark.parametrize("stream, told", [
     ("full", "the disk is full"), ("unread", "nobody reads what is written there"),
     ("closed", "the system failed, and says no more")])
@@ -58,6 +63,10 @@ def test_store_is_not_taken_for_a_closed_stream(desk, ends, tmp_path):
     how = {"capture_output": False, "stdin": None, "preexec_fn": lambda: os.closerange(0, 3)}
     assert desk("init", "--store", tmp_path / "store", *KEY, **how).returncode == 3
     keys(ends, "store")
+
+def test_image_by_a_pipe(ends):
+    told = ends("list", "cpm8", WELCOME)
+    assert (told[0], ends("list", "cpm8", "-", input=WELCOME.read_bytes())) == (0, told)
 
 @pytest.mark.parametrize("words, paths, wanted", [
     (["init", *KEY, "--store"], [":memory:", "file:desk", "", "none/new", "folder"], STORE),

@@ -128,7 +128,8 @@ def test_bit_that_flips_while_the_desk_serves_is_found_and_takedowns_can_be_read
     flipped = re.fullmatch("check-all: ([0-9]+): unavailable\n", ran.stderr)[1]
     refused = [number for number in range(1, DISKS + 1) if room.ask_desk(get(f"/images/{number}/files/0"))[0] == 503]
     assert refused == [int(flipped)]
-    assert house.back_up()[2].endswith("museum.sqlite: desk: store\n")
+    status, _, errors = house.back_up()
+    assert (status, house.backups()) == (1, []) and errors.endswith("museum.sqlite: desk: store\n")
     house.stop()
     assert room.run("show", "keys", "--store", str(room.store), *key) == (3, "", "desk: store\n")
     dumped = subprocess.run(["sqlite3", room.store, ".dump"], check=True, capture_output=True).stdout

@@ -46,7 +46,7 @@ def test_line_of_a_crate_is_written_once_all_is_tried(monkeypatch, tmp_path, cam
     monkeypatch.setitem(TOOL, "TRIED", tmp_path / "tried")
     monkeypatch.setitem(TOOL, "try_crate", lambda *given: (came, left))
     TOOL["TRIED"].write_text("# A note.\nrd_aaa none: why\nrd_zzz none: why\n")
-    assert TOOL["try_crates"](None, [types.SimpleNamespace(name="rd_cpm")], 0) == ("1 of 2" in line)
+    assert TOOL["try_crates"](None, [types.SimpleNamespace(name="rd_cpm")], 0) == ("1 of 2" in line or bool(left))
     assert re.fullmatch(rf"# A note\.\nrd_aaa none: why\n{line}rd_zzz none: why\n", TOOL["TRIED"].read_text())
     assert ("rd_cpm" in TOOL["due"]()) == ("2 of 2" not in line)
 
