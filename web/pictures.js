@@ -8,9 +8,10 @@ export function picture(width, height, ground = 0) {
   return { width, height, inks, fill };
 }
 
+const KOALA = "a Koala picture (drawn with KoalaPainter on a C64)";
 // Where each part begins behind the load address: the bits of the dots, the colours of each cell, and the ground's.
 const FORMATS = [
-  { words: "a Koala picture", at: 0x6000, sizes: [10001, 10002, 10006], screen: 8000, colours: 9000, ground: 10000 },
+  { words: KOALA, at: 0x6000, sizes: [10001, 10002, 10006], screen: 8000, colours: 9000, ground: 10000 },
   { words: "an Advanced Art Studio picture", at: 0x2000, sizes: [10016], screen: 8000, colours: 9016, ground: 9001 },
   { words: "a Doodle picture", at: 0x5c00, sizes: [9024, 9216], bitmap: 1024, screen: 0 },
   { words: "an Art Studio picture", at: 0x2000, sizes: [9000, 9001, 9007, 9009], screen: 8000 },

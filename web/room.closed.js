@@ -1,7 +1,7 @@
 // What is closed to the reader: how many files of a disk, by which rules, and why one of them is.
 import { kept, nameOfDisk, nameOfFile } from "./room.lists.js";
 import { facts, link } from "./room.parts.js";
-import { ask, box, counted, element, meaning, textOf } from "./shared.js";
+import { ask, box, counted, element, keyInUse, meaning, textOf } from "./shared.js";
 import { pause } from "./stream.js";
 import { noteOf } from "./titles.js";
 
@@ -24,13 +24,15 @@ async function askAt(accession, listed) {
   const [closed, slots] = [[], new Set(listed.map(({ slot }) => slot))];
   for (let slot = 0, asked = 0; asked < MOST; slot += 1) {
     if (slots.has(slot)) continue;
-    const { said } = await ask(`/images/${accession}/files/${slot}`).catch((fault) => fault);
-    if (said?.error === "denied") closed.push({ slot, rule: textOf(said.rule) });
-    else if (said?.error !== "no-file" || slot > Math.max(...slots)) break;
+    const came = await ask(`/images/${accession}/files/${slot}`).catch((fault) => fault);
+    const name = textOf(came.said?.error);
+    if (name === "denied") closed.push({ slot, rule: textOf(came.said.rule) });
+    else if (name !== "no-file") throw came;
+    else if (slot > Math.max(...slots)) return closed;
     asked += 1;
     await pause();
   }
-  return closed;
+  return Object.assign(closed, { isCut: true });
 }
 
 const closedOn = (accession, listed) => kept(`closed ${accession}`, () => askAt(accession, listed));
@@ -39,30 +41,35 @@ const closedOn = (accession, listed) => kept(`closed ${accession}`, () => askAt(
 export async function closedWords(accession, listed) {
   const closed = await closedOn(accession, listed);
   const are = closed.length === 1 ? "is" : "are";
-  const words = `${counted(closed.length, "more file")} ${are} closed to you, name and all: ${rulesOf(closed)}.`;
+  const most = closed.isCut ? "At least " : "";
+  const words = `${most}${counted(closed.length, "more file")} ${are} closed to you, name and all: ${rulesOf(closed)}.`;
   return closed.length ? words : "";
 }
 
-// The other files of a disk that a rule closes: links to those whose names a reader may see.
+// The other files of a disk that a rule closes, if any: links to those whose names a reader may see.
 function othersOf({ accession, kind, slot, rule }, all) {
   const others = all.filter((one) => one.rule === rule && one.slot !== slot);
   const named = others.filter(({ name }) => name !== undefined);
   const links = named.flatMap((one) => [", ", link(nameOfFile(kind, one), `${accession}/${one.slot}`)]).slice(1);
-  const count = others.length ? counted(others.length, "other file") : "no other file";
-  return [`${count} of this disk, as far as the desk tells${links.length ? ": " : ""}`, ...links];
+  const count = `${all.isCut ? "at least " : ""}${counted(others.length, "other file")} of this disk`;
+  return others.length ? box("span", "", count, links.length ? ": " : "", ...links) : null;
 }
 
-// Why a file is closed: by which rule, which other files that closes, and what the museum says of the disk. A rule that
-// lists a file lists the others, too.
-export function whyClosed(file, name) {
+// Why a file is closed: what the museum says of the disk, which rule decides, and which other files that closes. A rule
+// that lists a file lists the others, too.
+export function whyClosed(file, listed) {
   const { accession, files, rule } = file;
-  const [deed] = /\d+/.exec(rule) ?? [];
-  const more = { R: deedWords(deed), T: "A takedown is how the staff closes files of a disk." }[rule[0]] ?? "";
-  const others = element("span", "\u2026");
-  const all = name ? Promise.resolve(files) : closedOn(accession, files);
-  all.catch(() => []).then((some) => others.replaceChildren(...othersOf(file, some)));
-  const words = name ? "You may see its name alone." : "You may not even see its name.";
-  const note = noteOf(accession) && `Of ${nameOfDisk(accession)}: ${noteOf(accession)}`;
-  const why = { Why: `${meaning(rule)} (${rule}). ${more}`.trim(), "It also closes": others, "The museum says": note };
-  return box("div", "refused", element("p", `This file is closed to you. ${words}`), facts(why));
+  const [, kind, deed] = /^([RT])(\d+)/.exec(rule) ?? [];
+  const is = kind === "T" ? "A takedown is how the staff closes files. Name it" : `${deedWords(deed)}Name this rule`;
+  const words = `${meaning(rule)} (${rule}).`;
+  const why = kind ? `Closed by ${words} ${is} when you ask.` : `Closed: ${words}`;
+  const seen = listed?.size === null ? "name and type" : "name, type and size";
+  const shown = listed ? `its ${seen}, but not what is in it` : "nothing of it but its place: its name is closed, too";
+  const key = keyInUse() ? null : element("p", "A key of the museum's reading room may open it.");
+  const note = noteOf(accession) && `${nameOfDisk(accession)}: ${noteOf(accession)}`;
+  const list = Object.assign(facts({ "The museum says": note, "What decides": why }), { ariaLive: "polite" });
+  const all = listed ? Promise.resolve(files) : closedOn(accession, files);
+  const more = kind ? "It also closes" : "The same holds for";
+  all.then((some) => list.append(...facts({ [more]: othersOf(file, some) }).children)).catch(() => {});
+  return box("div", "refused", element("p", `This file is closed to you. You may see ${shown}.`), list, key);
 }

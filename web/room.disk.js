@@ -1,14 +1,15 @@
 // One disk: its title, what may be read of it, and its directory as its own machine shows it.
 import { closedWords, deedWords, rulesOf } from "./room.closed.js";
 import { allDisks, familyOf, known, lastShown, mayRead, nameOfDisk, nameOfFile, typeWords } from "./room.lists.js";
-import { askAbout, button, citation, filesOf, link, neighbours, numberOf, permission, quoting } from "./room.parts.js";
+import { askAbout, button, citation, filesOf, inSight, link, neighbours, numberOf } from "./room.parts.js";
+import { permission, quoting } from "./room.parts.js";
 import { directoryScreen } from "./screen.js";
 import { askObject, box, cell, counted, element, kindWords, loaded, refusal, row, table } from "./shared.js";
 import { noteOf } from "./titles.js";
 
 function fileRow(kind, accession, file, hasUsers) {
   const name = nameOfFile(kind, file);
-  const { word, colour, why } = permission(file);
+  const { word, colour, why } = permission(kind, file);
   const way = (words, more) => link(words, `${accession}/${file.slot}`, more);
   const badge = way(word, { ariaLabel: `${word}: ${name}`, tabIndex: -1, className: `badge ${colour}` });
   const may = box("span", "", badge);
@@ -63,7 +64,8 @@ export async function showDisk(number) {
   const listing = await askObject(`/images/${accession}`);
   const [{ kind, deed }, files] = [listing, filesOf(listing)];
   const title = nameOfDisk(accession);
-  const facts = `Disk ${accession} \u00b7 ${kindWords(kind)} \u00b7 ${counted(files.length, "file")} for you to see`;
+  const sight = inSight(files.length, files.filter(mayRead).length);
+  const facts = `Disk ${accession} \u00b7 ${kindWords(kind)} \u00b7 ${sight}`;
   const hasUsers = files.some((file) => file.user);
   const columns = ["Name", "Type", "Bytes", ...(hasUsers ? ["User"] : []), "You may"];
   const list = table("Files", columns, files.map((file) => fileRow(kind, accession, file, hasUsers)));
@@ -72,7 +74,8 @@ export async function showDisk(number) {
   const rules = files.length ? `What decides here: ${rulesOf(files)}. ` : "";
   const staff = askAbout(accession);
   const why = box("p", "quiet", rules, deedWords(deed), staff);
-  closedWords(accession, files).then((closed) => closed && why.before(box("p", "callout", `${closed} `, staff)));
+  const say = (closed) => closed && why.before(box("p", "callout", `${closed} `, staff));
+  closedWords(accession, files).then(say, () => {});
   const quotes = quoting(() => citation(accession, kind));
   const text = box("div", "", ...zipWay({ accession, kind, files, quotes }), files.length ? list : none, why);
   const aside = files.length ? machine({ kind, accession, files }) : "";

@@ -19,14 +19,23 @@ let showAnew = () => {};
 NARROW.addEventListener("change", () => part("bytes") && showAnew());
 
 // The ways to show bytes: an id and a word of each one's button, what to say of it, and its text or its picture.
-function viewsOf(kind, bytes) {
-  const hex = {
-    id: "as-hex",
-    word: "Bytes",
-    says: "Shown as bytes: the place, hexadecimal digits, and ASCII.",
-    text: () => hexText(bytes, NARROW.matches ? 8 : 16),
-  };
-  return [...(kind === "cpm8" ? cpmViews(bytes) : cbmViews(bytes)), hex];
+function viewsOf(kind, type, bytes) {
+  const views = kind === "cpm8" ? cpmViews(bytes) : cbmViews(bytes);
+  const text = () => hexText(bytes, NARROW.matches ? 8 : 16);
+  const isProgram = views.length === 0 && kind !== "cpm8" && type === "PRG";
+  const says = `${isProgram ? noListing(bytes) : "Shown as bytes"}: the place, hexadecimal digits, and ASCII.`;
+  return [...views, { id: "as-hex", word: "Bytes", says, text }];
+}
+
+// Where a program of the 1541 is loaded, and where BASIC begins in its machines.
+const addressOf = (bytes) => (bytes[0] ?? 0) + 256 * (bytes[1] ?? 0);
+const addressWords = (at) => `${at} ($${at.toString(16).toUpperCase().padStart(4, "0")})`;
+const OF_BASIC = [0x0401, 0x0801, 0x1001, 0x1201, 0x1c01];
+
+function noListing(bytes) {
+  const at = addressOf(bytes);
+  const more = OF_BASIC.includes(at) ? "as one does, but its lines are not whole" : "so it is machine code or data";
+  return `This is not a BASIC program: it loads at ${addressWords(at)}, ${more}. Here are its bytes`;
 }
 
 function cpmViews(bytes) {
@@ -60,17 +69,15 @@ function cbmViews(bytes) {
 }
 
 // A listing in which words, texts in quotes, remarks and numbers of lines can be told apart.
-const SIGNS = new RegExp(`^\\d+|"[^"\\n]*"?|\\{[^}]*\\}|\\brem.*|${BASIC_WORDS}`, "gim");
+const KINDS = '^(?<place>\\d+)|(?<quoted>"[^"\\n]*"?)|(?<code>\\{[^}]*\\})|(?<remark>\\brem.*)';
+const SIGNS = new RegExp(`${KINDS}|(?<word>${BASIC_WORDS})`, "gim");
 
 function coloured(text) {
-  const kindOf = (found) => {
-    if (/^\d/.test(found)) return "line-number";
-    return found.startsWith('"') ? "quoted" : /^rem/i.test(found) ? "remark" : found.startsWith("{") ? "code" : "word";
-  };
   const parts = [];
   let at = 0;
-  for (const { 0: found, index } of text.matchAll(SIGNS)) {
-    parts.push(text.slice(at, index), element("span", found, { className: kindOf(found) }));
+  for (const { 0: found, index, groups } of text.matchAll(SIGNS)) {
+    const className = Object.keys(groups).find((kind) => groups[kind] !== undefined);
+    parts.push(text.slice(at, index), element("span", found, { className }));
     at = index + found.length;
   }
   return [...parts, text.slice(at)];
@@ -117,13 +124,10 @@ function factsOf({ kind, accession, file, bytes, digest, files }) {
     Disk: disk,
     Place: `file ${place} of ${files.length} on its list, at slot ${file.slot} of the directory${inUser}`,
     "Printed name": nameOfFile(kind, file) === file.name ? null : element("span", file.name, { className: "name" }),
-    Type: `${file.type}${words && `, ${words}`}, of ${kindWords(kind)}`,
+    Type: [file.type, words, `of ${kindWords(kind)}`].filter(Boolean).join(", "),
     Size: `${counted(bytes.length, "byte")}, ${blocks}`,
   };
-  if (file.type === "PRG") {
-    const address = (bytes[0] ?? 0) + 256 * (bytes[1] ?? 0);
-    pairs["Load address"] = `$${address.toString(16).toUpperCase().padStart(4, "0")} (${address})`;
-  }
+  if (file.type === "PRG") pairs["Load address"] = addressWords(addressOf(bytes));
   pairs["SHA-256"] = digest && element("span", digest, { className: "digest" });
   pairs["Open by"] = `${meaning(file.rule)} (${file.rule})`;
   return facts(pairs);
@@ -147,16 +151,16 @@ export async function showFile(number, slot) {
   const heading = file && nameOfFile(kind, file);
   const named = (fault) => {
     const closed = { accession, kind, slot: Number(slot), files, rule: textOf(fault.said?.rule) };
-    const why = fault.said?.error === "denied" ? whyClosed(closed, heading) : null;
+    const why = fault.said?.error === "denied" ? whyClosed(closed, file) : null;
     throw Object.assign(fault, { heading, why });
   };
   const bytes = new Uint8Array(await (await ask(`/images/${accession}/files/${slot}`).catch(named)).arrayBuffer());
   if (file === undefined) throw new Refused("changed", {});
   const digest = await digestOf(bytes).catch(() => "");
-  const views = viewsOf(kind, bytes);
+  const views = viewsOf(kind, file.type, bytes);
   const name = fileName(kind, heading, file.type);
   const save = element("a", "Download", { id: "download", className: "button primary", download: name });
-  const words = `\u201c${heading}\u201d, ${file.type} file, ${counted(bytes.length, "byte")}, slot ${slot}`;
+  const words = `\u201c${heading}\u201d, ${`${file.type} file`.trim()}, ${counted(bytes.length, "byte")}, slot ${slot}`;
   const quotes = quoting(() => citation(accession, kind, words, digest));
   const known = factsOf({ kind, accession, file, bytes, digest, files });
   const same = await copiesOf(`${accession}/${slot}`, digest, `${heading} (${nameOfDisk(accession)})`);

@@ -1,10 +1,10 @@
 // The home of the page for readers: a search, facets with counts, an order, a list or screens, all in the address.
-import { welcome } from "./about.js";
-import { allDisks, allFiles, familyOf, found, kept, known, letterOf, mayRead, nameOfDisk } from "./room.lists.js";
-import { namedBy, nameOfFile, plain, showsNow, typeWords, wordsOf } from "./room.lists.js";
-import { filesOf, link, permission, ways } from "./room.parts.js";
-import { askObject, box, counted, element, kindWords, loaded, part } from "./shared.js";
-import { hasTitles, noteOf } from "./titles.js";
+import { askStaff, welcome } from "./about.js";
+import { allDisks, allFiles, familyOf, found, isForBasic, kept, known, letterOf, mayRead } from "./room.lists.js";
+import { TOGETHER, nameOfDisk, nameOfFile, plain, showsNow, typeWords, wordsOf } from "./room.lists.js";
+import { filesOf, inSight, link, permission, ways } from "./room.parts.js";
+import { askObject, box, counted, element, kindWords, loaded, own, part } from "./shared.js";
+import { noteOf } from "./titles.js";
 
 const PAGE = 48;
 const MOST_MATCHES = 5;
@@ -20,7 +20,7 @@ HAS_ROOM.addEventListener("change", () => part("choices")?.toggleAttribute("open
 const SORTS = { title: "Title", number: "Number", files: "Most files" };
 const LOOKS = { list: "List", screens: "Directories" };
 const KINDS = { "": "All", d64: kindWords("d64"), cpm8: kindWords("cpm8") };
-const TYPES = { picture: "Pictures, by size", PRG: "Programs (BASIC, machine code)", SEQ: "Texts, data", TXT: "Texts" };
+const TYPES = { picture: "Pictures", PRG: "Programs (BASIC, machine code)", TXT: "Texts, data" };
 const USUAL = { sort: "title", as: "list", page: "1" };
 const wordsFor = (type) => [...new Set(["d64", "cpm8"].map((kind) => typeWords(kind, { type })))].filter(Boolean);
 const nameOf = (type) => TYPES[type] ?? `${type} ${wordsFor(type).join(" or ")}`.trim();
@@ -28,7 +28,11 @@ const nameOf = (type) => TYPES[type] ?? `${type} ${wordsFor(type).join(" or ")}`
 // What draws screens, which the first list does without.
 const machines = () => loaded(import("./screen.js"));
 
-export const choicesIn = (query) => Object.fromEntries(new URLSearchParams(query));
+// What an address asks for; of types that are one choice, any stands for it.
+export function choicesIn(query) {
+  const { type = "", ...others } = Object.fromEntries(new URLSearchParams(query));
+  return { ...others, type: own(TOGETHER, type) || type };
+}
 
 function placeOf(choices) {
   const said = Object.entries(choices).filter(([name, value]) => value && value !== USUAL[name]);
@@ -65,6 +69,7 @@ function chips(label, name, words, choices, counts = null) {
 // The kinds of disks, the order, and the types of files of which there are most; folded where the window has no room.
 function choicesBelow({ kinds, types, all }, choices) {
   const sum = [...kinds.values()].reduce((before, one) => before + one, 0);
+  types.delete("");
   const most = [...types].sort(([, one], [, other]) => other - one).slice(0, MOST_TYPES).map(([type]) => type);
   const shown = most.includes(choices.type) || !choices.type ? most : [...most, choices.type];
   const names = Object.fromEntries(shown.map((type) => [type, nameOf(type)]));
@@ -75,12 +80,6 @@ function choicesBelow({ kinds, types, all }, choices) {
   return Object.assign(box("details", "", element("summary", ariaLabel), bar), { id: "choices", ariaLabel, open });
 }
 
-// How many files of some a reader may read, where this is known and not all.
-function inSight(count, read) {
-  const [open, listed] = [read, count - read].map((one) => one?.toLocaleString("en"));
-  return `${counted(count, "file")}${(read ?? count) === count ? "" : `: ${open} to read, ${listed} only listed`}`;
-}
-
 function diskCard(disk, matches, files, machine, words) {
   const { accession, kind } = disk;
   const title = link("", accession, { className: "disk-title" });
@@ -88,15 +87,14 @@ function diskCard(disk, matches, files, machine, words) {
   const sight = inSight(disk.files, files?.get(accession)?.filter(mayRead).length);
   const facts = `Disk ${accession} \u00b7 ${kindWords(kind)} \u00b7 ${sight}`;
   const note = noteOf(accession) ? box("p", "", marked(noteOf(accession), words)) : null;
-  const shown = [...new Set([...namedBy(words, matches), ...matches])].slice(0, MOST_MATCHES);
-  const named = shown.map((file) => {
+  const named = matches.slice(0, MOST_MATCHES).map((file) => {
     const way = link("", `${accession}/${file.slot}`, { className: "name" });
     way.append(marked(nameOfFile(kind, file), words));
-    const { word, colour } = permission(file);
+    const { word, colour } = permission(kind, file);
     const badge = colour === "good" ? "" : element("span", word, { className: `badge ${colour}` });
     return box("li", badge && "closed", way, element("small", ` ${typeWords(kind, file)} `), badge);
   });
-  const more = matches.length - shown.length;
+  const more = matches.length - MOST_MATCHES;
   if (more > 0) named.push(box("li", "", "and ", link(counted(more, "more file"), accession)));
   const body = box("div", "", title, element("p", facts, { className: "quiet" }), note);
   if (named.length) body.append(box("ul", "matches", ...named));
@@ -119,7 +117,7 @@ function pages(hits, choices) {
 
 // Where titles begin with each letter, in a list of many pages.
 function letters(hits, choices) {
-  if ((choices.sort ?? "title") !== "title" || hits.length <= 3 * PAGE || !hasTitles()) return null;
+  if ((choices.sort ?? "title") !== "title" || isForBasic(choices.q) || hits.length <= 3 * PAGE) return null;
   const first = new Map();
   hits.forEach((disk, at) => {
     const letter = letterOf(disk);
@@ -136,7 +134,7 @@ function summary(hits, counts, { q, type, kind }, isRead) {
   if (hits.length) return `${disks} with ${inSight(counts.files, isRead ? counts.read : undefined)}.`;
   const other = wordsOf(q).length > 1 ? "fewer words" : "another word";
   const ways = [q && other, type && "all types of files", kind && "all kinds of disks"].filter(Boolean);
-  return `Nothing was found. Try ${ways.join(", or ")}. The staff knows the files whose names are closed.`;
+  return `Nothing was found. Try ${ways.join(", or ")}.`;
 }
 
 // Says of each disk that was found how many of its files are closed, and why; the disk says whom to ask.
@@ -152,14 +150,17 @@ async function sayClosed(shown, cards, files, isOver) {
 function searchBox(q) {
   const field = element("input", null, { id: "q", type: "search", value: q ?? "", maxLength: 64, spellcheck: false });
   Object.assign(field, { autocapitalize: "none", autocomplete: "off", placeholder: "letter, *.PRG" });
-  const label = element("label", "Search titles, names of files and numbers ", { htmlFor: "q" });
+  const label = element("label", "Search titles, notes, names and kinds of files, and numbers ", { htmlFor: "q" });
   label.append(element("small", "(not what is in the files)"));
   const button = element("button", "Search", { type: "submit", className: "primary" });
   const form = box("form", "search", label, field, button);
-  form.role = "search";
   let waiting = 0;
+  // what the address asks for stands in the field, unless the reader is typing
+  const follow = (asked) => waiting || field.value.trim() === asked || Object.assign(field, { value: asked });
+  Object.assign(form, { role: "search", follow });
   const go = () => {
     clearTimeout(waiting);
+    waiting = 0;
     const { page, ...now } = choicesIn(location.hash.split("?")[1]);
     const wanted = `#/${placeOf({ ...now, q: field.value.trim() })}`;
     if (wanted !== (location.hash || "#/")) location.replace(wanted);
@@ -205,14 +206,15 @@ export async function showHome(choices, progress) {
     const cards = shown.map((disk) => diskCard(disk, matches.get(disk) ?? [], files, machine, words));
     const list = cards.length ? box("ul", `disks as-${now.as === "screens" ? "screens" : "list"}`, ...cards) : "";
     showsNow(hits);
-    const head = hits.length ? element("h2", now.q || now.type || now.kind ? "What was found" : "All disks") : null;
+    const heading = element("h2", now.q || now.type || now.kind ? "What was found" : "All disks");
+    const head = hits.length ? heading : askStaff("what you look for", `I look for: ${now.q ?? ""}`);
     results.replaceChildren(...[head, choicesBelow(counts, now), letters(hits, now), list, nav].filter(Boolean));
     progress(summary(hits, counts, now, files));
     if (files && now.q && hits.length <= FEW) sayClosed(shown, cards, files, () => mine !== drawn).catch(() => {});
   }
   async function change(now) {
     const mine = (drawn += 1);
-    if (form.elements.q !== document.activeElement) form.elements.q.value = now.q ?? "";
+    form.follow(now.q ?? "");
     const needsFiles = disks.length <= SMALL || now.q || now.type || now.as === "screens";
     if (!files && needsFiles) {
       await draw(now, mine);

@@ -42,7 +42,7 @@ async function asked({ path, query, accession, slot }, progress) {
 }
 
 // A refusal, with the ways on: without a key, to the staff, to the disk, or to all disks.
-function refusedView({ accession, slot }, fault) {
+function refusedView({ path, accession, slot }, fault) {
   if (fault.said?.error === "unknown-key") {
     part("caller").textContent = "This key is unknown";
     const without = button("Go on without a key", () => useKey(""));
@@ -54,9 +54,11 @@ function refusedView({ accession, slot }, fault) {
   }
   const disk = accession && nameOfDisk(Number(accession));
   const ways = box("p", "cluster", accession ? askAbout(Number(accession), slot, fault.heading) : null);
-  ways.append(slot ? link("The other files of this disk", accession) : link("All disks", ""));
+  const others = slot ? link("The other files of this disk", accession) : link("All disks", "");
+  ways.append(path === "" ? button("Try again", () => show(false)) : others);
+  const none = path === "" ? "The list of disks did not come" : "There is no such place here";
   const isName = fault.heading !== undefined;
-  const heading = fault.heading ?? (slot ? `${disk}, slot ${slot}` : (disk ?? "There is no such place here"));
+  const heading = fault.heading ?? (slot ? `${disk}, slot ${slot}` : (disk ?? none));
   const title = isName ? `${heading}, ${disk}` : heading;
   return { heading, title, isName, parts: [fault.why ?? refusal(fault), ways] };
 }

@@ -11,7 +11,7 @@ const KEPT = 300000;
 // What the types of files mean, in plain words: those of the 1541, and those that are usual on CP/M.
 const OF_1541 = {
   PRG: "program", SEQ: "text or data", USR: "data for one program", REL: "records",
-  DEL: "dividing line", OTHER: "unknown", picture: "picture, by its size",
+  DEL: "dividing line", OTHER: "unknown", picture: "picture",
 };
 const OF_CPM = {
   ASM: "assembler source", BAK: "earlier copy", BAS: "BASIC program", COM: "command", DAT: "data", DBF: "database",
@@ -47,9 +47,11 @@ export const nameOfFile = (kind, file) => shownName(kind, file.name) || `File at
 
 export const mayRead = (file) => file.effect === "read" && file.size !== null;
 
-// What a file is listed under: its type, or a picture where it is a program that has the size of one.
-const groupOf = (kind, { type, size }) => (kind !== "cpm8" && type === "PRG" && SIZES.has(size) ? "picture" : type);
-export const typeWords = (kind, file) => own(kind === "cpm8" ? OF_CPM : OF_1541, groupOf(kind, file));
+// What a file likely is: its type, or a picture where it is a program that has the size of one; its choice in a list.
+const likely = (kind, { type, size }) => (kind !== "cpm8" && type === "PRG" && SIZES.has(size) ? "picture" : type);
+export const typeWords = (kind, file) => own(kind === "cpm8" ? OF_CPM : OF_1541, likely(kind, file));
+export const TOGETHER = { BAS: "PRG", SEQ: "TXT", DOC: "TXT" };
+const groupOf = (kind, file) => own(TOGETHER, likely(kind, file)) || likely(kind, file);
 
 // The disks, each with what the lists of them need.
 const listed = ({ accession, kind, files }) => ({ accession, kind, files });
@@ -102,7 +104,8 @@ export const allFiles = (progress) => kept("files", () => readFiles(progress));
 // the s of a plural not at all.
 const PLURAL = /(?<=[a-z]{2}[a-hj-rtv-z])s$/i;
 const LITTLE = /^(an?|and|at|by|for|from|in|of|on|or|the|to|with)$/i;
-export function wordsOf(text = "") {
+export function wordsOf(typed = "") {
+  const text = typed.replace(/\b(disk|accession number) +(?=\d)/gi, "");
   const [all, few] = [text.match(/\S*[^\s*]\S*/g) ?? [], (word) => !LITTLE.test(word)];
   const words = all.some(few) ? all.filter(few) : all;
   return words.map((word) => spellings(word.replace(PLURAL, "")).map((way) => way.split("*").filter(Boolean)));
@@ -154,8 +157,15 @@ export const familyOf = (kind) => (kind === "cpm8" ? "cpm8" : "d64");
 
 const count = (counts, name) => counts.set(name, (counts.get(name) ?? 0) + 1);
 
-// Those of some files that have a word of their own, and not only by their disk.
-export const namedBy = (words, files) => files.filter(({ text }) => words.some((word) => has(text, word)));
+// Those of some files that have most words of their own: all, where only their disk has any.
+function namedBy(words, files) {
+  const counts = files.map(({ text }) => words.filter((word) => has(text, word)).length);
+  const most = counts.reduce((one, other) => Math.max(one, other), 0);
+  return files.filter((_, at) => counts[at] === most);
+}
+
+// Whether somebody looks for BASIC: disks that surely have it come before those with programs that may be.
+export const isForBasic = (q) => /\bbasic/i.test(q ?? "");
 
 // The disks that were found, by disks the files that have all words by themselves or by their disk, and counts of the
 // other kinds. Where nothing is looked for, the list itself was found.
@@ -167,7 +177,8 @@ export async function found(disks, files, { q, type, kind, sort }) {
   const look = (disk) => {
     const missing = words.filter((word) => !inDisk(diskText(disk), word));
     const all = files?.get(disk.accession) ?? [];
-    const named = missing.length ? all.filter(({ text }) => missing.every((word) => has(text, word))) : all;
+    const hasMissing = ({ text }) => missing.every((word) => has(text, word));
+    const named = words.length ? namedBy(words, all.filter(hasMissing)) : all;
     const isOfKind = !kind || familyOf(disk.kind) === kind;
     if (isOfKind) counts.all += named.length;
     for (const file of isOfKind ? named : []) count(counts.types, groupOf(disk.kind, file));
@@ -181,5 +192,7 @@ export async function found(disks, files, { q, type, kind, sort }) {
     if (words.length || type) matches.set(disk, wanted);
   };
   await inParts(disks, (some) => some.forEach(look));
-  return { hits: Object.hasOwn(ORDERS, sort ?? "") ? [...hits].sort(ORDERS[sort]) : hits, matches, counts };
+  const isSure = (disk) => matches.get(disk)?.some(({ type }) => type === "BAS") === true;
+  const first = isForBasic(q) ? [...hits.filter(isSure), ...hits.filter((disk) => !isSure(disk))] : hits;
+  return { hits: Object.hasOwn(ORDERS, sort ?? "") ? [...first].sort(ORDERS[sort]) : first, matches, counts };
 }

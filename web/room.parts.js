@@ -1,6 +1,6 @@
 // What the views of the page for readers share: what a reader may do with a file, and ways to quote, ask and go on.
 import { askStaff, holder } from "./about.js";
-import { mayRead, nameOfDisk } from "./room.lists.js";
+import { mayRead, nameOfDisk, typeWords } from "./room.lists.js";
 import { box, counted, element, faultWords, kindWords, listOf, meaning, textOf } from "./shared.js";
 import { titleOf } from "./titles.js";
 
@@ -28,14 +28,21 @@ const UNSERVED = {
   REL: "a file of records, which the desk cannot give out",
 };
 
+// How many files of some a reader may read, where this is known and not all.
+export function inSight(count, read) {
+  const [open, listed] = [read, count - read].map((one) => one?.toLocaleString("en"));
+  return `${counted(count, "file")}${(read ?? count) === count ? "" : `: ${open} to read, ${listed} only listed`}`;
+}
+
 // What a reader may do with a file: a word, its colour, and why it is no more than that.
-export function permission(file) {
-  if (mayRead(file)) return { word: "Read it", colour: "good", why: "" };
+export function permission(kind, file) {
+  const word = typeWords(kind, file) === "picture" ? "Show it" : "Read it";
+  if (mayRead(file)) return { word, colour: "good", why: "" };
   const faults = listOf(file.faults).map(textOf);
   if (file.effect === "read" && faults.length) {
     return { word: "Damaged", colour: "bad", why: faults.map(faultWords).join("; ") };
   }
-  const closed = file.rule.startsWith("T") ? "has closed it" : "lets you see its name alone";
+  const closed = file.rule.startsWith("T") ? "has closed it" : "lets you see no more";
   const unserved = UNSERVED[file.type] ?? "the desk cannot give out files of this type";
   const why = file.effect === "read" ? unserved : `${meaning(file.rule)} ${closed}`;
   return { word: "Listed only", colour: "some", why };

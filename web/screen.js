@@ -53,8 +53,8 @@ export const blocksOf = (size) => Math.ceil(size / 254);
 // In quotes, a code that does something shows as a reversed sign.
 const isControl = (code) => (code & 0x7f) < 0x20;
 const shownCode = (code) => (code < 0x20 ? code + 0x40 : isControl(code) ? code - 0x20 : code);
-const inQuotes = (codes, ink, isReverse = false) =>
-  codes.map((code) => ({ sign: petsciiPlace(shownCode(code), false), ink, isReverse: isReverse !== isControl(code) }));
+const inQuotes = (codes, ink, isSmall) =>
+  codes.map((code) => ({ sign: petsciiPlace(shownCode(code), isSmall), ink, isReverse: isControl(code) }));
 const typed = (text, ink, isReverse = false) =>
   Array.from(text, (sign) => ({ sign: asciiPlace(sign.charCodeAt(0)), ink, isReverse }));
 
@@ -65,22 +65,24 @@ function c64(lines, { rows, ...size } = SIZES.whole) {
   return written(lines, { ...size, rows: Math.max(rows, lines.length), border: LIGHT_BLUE, ground: BLUE });
 }
 
-// What LOAD"$",8 and LIST show: of each file its blocks, its name and its type. The head of the list has the number of
-// the disk, since the desk gives readers no label.
+// What LOAD"$",8 and LIST show: of each file its blocks, its name and its type; where a name has a shifted letter, all
+// in the set with small ones. The head has the number of the disk, since the desk gives readers no label.
 function c64Directory({ accession, files }, isSmall) {
-  const rows = files.map((file) => {
-    const ink = mayRead(file) ? LIGHT_BLUE : GREY;
-    const name = codesOf(file.name).slice(0, 16);
+  const names = files.map((file) => codesOf(file.name).slice(0, 16));
+  const inSmall = names.some(hasShifted);
+  const said = (text, ...more) => typed(inSmall ? text.toLowerCase() : text, ...more);
+  const rows = files.map((file, at) => {
+    const [ink, name] = [mayRead(file) ? LIGHT_BLUE : GREY, names[at]];
     const front = (file.size === null ? "" : String(blocksOf(file.size))).padEnd(5);
     const isOpen = listOf(file.faults).includes("not-closed");
     const end = `"${" ".repeat(16 - name.length)}${isOpen ? "*" : " "}${file.type}`;
-    return [...typed(`${front}"`, ink), ...inQuotes(name, ink), ...typed(end, ink)];
+    return [...said(`${front}"`, ink), ...inQuotes(name, ink, inSmall), ...said(end, ink)];
   });
-  const label = typed(`"${`DISK ${accession}`.padEnd(16)}" MU 2A`, LIGHT_BLUE, true);
+  const label = said(`"${`DISK ${accession}`.padEnd(16)}" MU 2A`, LIGHT_BLUE, true);
   const before = ["", 'LOAD"$",8', "", "SEARCHING FOR $", "LOADING", "READY.", "LIST", ""];
-  const head = (isSmall ? [""] : before).map((text) => typed(text, LIGHT_BLUE));
-  const cursor = [typed("READY.", LIGHT_BLUE), typed(" ", LIGHT_BLUE, true)];
-  const lines = [...head, [...typed("0 ", LIGHT_BLUE), ...label], ...rows, ...cursor];
+  const head = (isSmall ? [""] : before).map((text) => said(text, LIGHT_BLUE));
+  const cursor = [said("READY.", LIGHT_BLUE), said(" ", LIGHT_BLUE, true)];
+  const lines = [...head, [...said("0 ", LIGHT_BLUE), ...label], ...rows, ...cursor];
   return isSmall ? c64(lines.slice(0, SIZES.small.rows), SIZES.small) : c64(lines);
 }
 

@@ -29,12 +29,15 @@ export function cpmText(bytes) {
 // The codes with which WordStar marks print, such as bold and underlined, and its soft hyphen.
 const MARKS = [1, 2, 4, 5, 6, 7, 8, 14, 15, 16, 17, 18, 19, 20, 22, 23, 24, 25, 30, 31];
 
-// A text of WordStar: the last letter of many words and the ends of its soft lines have their highest bit set. Without
-// that bit and without the marks for print it is a text; null where it is none, or has no such bit.
+// A text of WordStar: last letters of words, ends of soft lines and the blanks that fill these have their highest bit
+// set. It is one without that bit and the marks for print, whose soft lines are joined; null where it has no such bit.
 export function wordStarText(bytes) {
   const text = beforeEnd(bytes);
   if (text === null || !text.some((byte) => byte >= 0x80)) return null;
-  const plain = text.map((byte) => byte & 0x7f).filter((byte) => !MARKS.includes(byte));
+  const codes = Array.from(text, (byte) => String.fromCharCode(byte)).join("");
+  const whole = codes.replace(/[\x1e\x1f]\x8d[\n\x8a]?[ \xa0]*/g, "");
+  const joined = whole.replace(/[ \xa0]*(\x8d[\n\x8a]?[ \xa0]*)+/g, " ").replace(/(?<=\S[ \xa0])\xa0+/g, "");
+  const plain = Uint8Array.from(joined, (sign) => sign.charCodeAt(0) & 0x7f).filter((byte) => !MARKS.includes(byte));
   return plain.length && plain.every(isText) ? ascii(plain) : null;
 }
 

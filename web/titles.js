@@ -25,7 +25,6 @@ export async function textOfOwn(path) {
   return reply?.ok ? reply.text().catch(() => "") : "";
 }
 
-export const hasTitles = () => titles.size > 0;
 export const titleOf = (accession) => titles.get(accession)?.title ?? "";
 export const noteOf = (accession) => titles.get(accession)?.note ?? "";
 

@@ -18,16 +18,8 @@ const VERSION = 20;
 const DAY = 0x0021;
 
 // Numbers as a zip has them: of two or four bytes each, the low byte first.
-function numbers(...pairs) {
-  const view = new DataView(new ArrayBuffer(pairs.reduce((length, [size]) => length + size, 0)));
-  let at = 0;
-  for (const [size, value] of pairs) {
-    if (size === 2) view.setUint16(at, value, true);
-    else view.setUint32(at, value, true);
-    at += size;
-  }
-  return new Uint8Array(view.buffer);
-}
+const bytesOf = ([size, value]) => Array.from({ length: size }, (_, at) => (value >>> (8 * at)) & 0xff);
+const numbers = (...pairs) => Uint8Array.from(pairs.flatMap(bytesOf));
 
 // What stands of a file both before its bytes and in the directory.
 function fields({ name, bytes, crc }) {
@@ -35,20 +27,16 @@ function fields({ name, bytes, crc }) {
   return [[2, VERSION], [2, 0], [2, 0], [2, 0], [2, DAY], [4, crc], ...sizes];
 }
 
-function entry(file, place) {
-  return numbers([4, 0x02014b50], [2, VERSION], ...fields(file), [2, 0], [2, 0], [2, 0], [4, 0], [4, place]);
-}
-
 // The parts of a zip of files, each a name in ASCII and its bytes.
 export function zipParts(files) {
-  const parts = [];
-  const directory = [];
+  const [parts, directory] = [[], []];
   let place = 0;
   for (const { name, bytes } of files) {
     const file = { name: new TextEncoder().encode(name), bytes, crc: crcOf(bytes) };
     const head = numbers([4, 0x04034b50], ...fields(file));
     parts.push(head, file.name, bytes);
-    directory.push(entry(file, place), file.name);
+    const more = [[2, 0], [2, 0], [2, 0], [4, 0], [4, place]];
+    directory.push(numbers([4, 0x02014b50], [2, VERSION], ...fields(file), ...more), file.name);
     place += head.length + file.name.length + bytes.length;
   }
   const size = directory.reduce((length, part) => length + part.length, 0);

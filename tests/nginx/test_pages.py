@@ -55,7 +55,7 @@ def test_takedown_closes_a_file_and_says_so(room, reader):
     room.ask_desk(TAKEDOWN)
     refusal = reader.go("15/0")["refusal"]
     room.ask_desk(drop("/images/15/rules/1"))
-    assert refusal[1].startswith("takedown 1 of disk 15 (T15.1). ")
+    assert refusal[1].startswith("Closed by takedown 1 of disk 15 (T15.1). ")
     assert reader.go("15/0")["refusal"] == []
 
 def test_desk_that_is_down_is_said(room, reader):

@@ -74,8 +74,7 @@ def test_reader_finds_reads_and_saves_a_file(museum, reader):
     assert reader.go("1066")["rows"][2][0].startswith("<IMG") and reader.harmed() == [None, 0]
     assert reader.script(CONTRAST) == []
     assert reader.script("return document.querySelector('figure canvas').width") > 1000
-    assert reader.find("welcome")["matches"] == ["WELCOME.TXT"]
-    assert reader.script(CONTRAST) == []
+    assert reader.find("welcome")["matches"] == ["WELCOME.TXT"] and reader.script(CONTRAST) == []
     reader.go("1001/0")
     reader.push("Bytes")
     assert reader.text("pre").startswith("000000  ")

@@ -3,6 +3,7 @@
 import pytest
 from staff_helpers import LEFT
 from support import museums
+from support.browser import wait_for
 from support.samples import NOBODY, PROGRAM_DISK, PUBLIC, ROOM, STAFF, digest
 from support.stand_in import refused_by_nginx
 
@@ -10,8 +11,8 @@ from support.stand_in import refused_by_nginx
 UMLAUTS = "Schlüssel für den Raum\u00a0"
 AS_PUBLIC, BY_KEY = "I have a key", "You read with a key"
 OPEN, ALL = ([f"Disk {number}" for number in range(1001, end)] for end in (1004, 1007))
-CLOSED, TELLS = "This file is closed to you. You may %s.", "of this disk, as far as the desk tells"
-TAKEDOWN = "takedown 1 of disk %d (T%d.1). A takedown is how the staff closes files of a disk."
+CLOSED, KEY = "This file is closed to you. You may see %s.", "A key of the museum's reading room may open it."
+TAKEDOWN = "Closed by takedown 1 of disk %d (T%d.1). A takedown is how the staff closes files. Name it when you ask."
 WELCOME = ["WELCOME.TXT", "TXT text", "896"]
 UNREAD = "Damaged the drive could not read a block of it"
 DAMAGED = "read-error (the drive could not read a block of it)"
@@ -37,27 +38,26 @@ def test_caller_sees_the_disks_of_their_audience(reader, key, asks, disks):
     closed = "2 more files are closed to you, name and all: rule 10 of deed 7 (R7.10). Turn to the museum's staff about"
     due = [] if is_staff else ["There is no file on it that you may see.", f"{closed} this disk."]
     reader.wait(lambda state: reader.texts(".callout") == due, f"{due} on the disk")
-    deed, none = "Deed 7 is the paper by which the disk came to the museum.", f"no other file {TELLS}"
-    rules = {"1004/0": [f"rule 10 of deed 7 (R7.10). {deed}", f"1 other file {TELLS}"],
-             "1003/1": [TAKEDOWN % (1003, 1003), none], "1007/0": ["no rule lets you see it (D0).", none]}
+    deed = "Deed 7 is the paper by which the disk came to the museum. Name this rule when you ask."
+    rules = {"1004/0": [f"Closed by rule 10 of deed 7 (R7.10). {deed}", "1 other file of this disk"],
+             "1003/1": [TAKEDOWN % (1003, 1003)], "1007/0": ["Closed: no rule lets you see it (D0)."]}
     for place, rule in rules.items():
-        refusal = [CLOSED % "not even see its name", *rule]
+        refusal = [CLOSED % "nothing of it but its place: its name is closed, too", *rule, *[KEY] * (asks == AS_PUBLIC)]
         reader.go(place)
         reader.read(lambda state: state["refusal"] == ([] if is_staff and place != "1007/0" else refusal))
-    assert reader.find("welcome")["disks"] == (["Disk 1001", "Disk 1004"] if is_staff else ["Disk 1001"])
 
 def test_each_file_leads_to_its_page_and_one_that_is_closed_says_why_there_and_in_lists(museum, reader):
     museum.rules["T1001"] = {1: museums.rule(1, "list", ["public"], {"slot": 0})}
     shown = reader.go("1001")
     why = "Listed only takedown 1 of disk 1001 has closed it"
     assert (shown["rows"][0], shown["links"]) == ([*WELCOME, why], [f"#/1001/{slot}" for slot in "0011"])
-    alone = [CLOSED % "see its name alone", TAKEDOWN % (1001, 1001), f"no other file {TELLS}"]
+    alone = [CLOSED % "its name, type and size, but not what is in it", TAKEDOWN % (1001, 1001), KEY]
     assert reader.go("1001/0")["refusal"] == alone and reader.go("1001")
     rules = "takedown 1 of disk 1001 (T1001.1) about 1 file, rule 20 of deed 9 (R9.20) about 1 file."
     assert f"What decides here: {rules}" in reader.text("#view")
     museum.rules["R9"][10] = museums.rule(10, "list", ["public"])
-    assert reader.go("1002/0")["refusal"][2:] == [f"2 other files {TELLS}: {'-' * 16}, GUIDE"]
-    why = "Listed only rule 10 of deed 9 lets you see its name alone"
+    assert reader.go("1002/0")["refusal"][2:] == [f"2 other files of this disk: {'-' * 16}, GUIDE", KEY]
+    why = "Listed only rule 10 of deed 9 lets you see no more"
     assert reader.go("1003")["rows"][0] == ["LOGBOOK", "SEQ text or data", "", why]
     del museum.rules["R9"][10]
     assert reader.go("1003")["rows"][0] == ["LOGBOOK", "SEQ text or data", "", UNREAD]
@@ -88,11 +88,15 @@ def test_desk_that_has_nothing_or_does_not_answer_is_said(museum, reader):
     for status, words in wanted.items():
         reader.door.before = lambda method, path: refused_by_nginx(status, "No")
         shown = reader.load()
-        assert (shown["refusal"], shown["disks"]) == ([words], []), status
+        assert (shown["refusal"], shown["heading"]) == ([words], "The list of disks did not come"), status
+    reader.door.before = lambda method, path: refused_by_nginx(429, "No") if path.endswith("1004/files/1") else None
+    assert reader.push("Try again")["disks"] == OPEN and reader.go("1004/0")
+    wait_for("the refusal", lambda: [path for _, path, _ in reader.door.visits if path.endswith("1004/files/1")])
     reader.door.before = lambda method, path: None
-    assert reader.load()["disks"] == OPEN
+    assert reader.read()["refusal"][2:] == [KEY] and reader.go("1004") and reader.go("1004/0")
+    reader.wait(lambda state: state["refusal"][2:] == ["1 other file of this disk", KEY], "what the desk tells now")
     museum.images.clear()
-    assert reader.load() and reader.text("#view") == "There is no disk of which you may see a file."
+    assert reader.go("") and reader.load() and reader.text("#view") == "There is no disk of which you may see a file."
 
 def test_file_that_was_opened_in_between_is_not_shown(museum, reader):
     museum.rules["T1001"] = {1: museums.rule(1, "deny", ["public"], {"slot": 0})}

@@ -38,7 +38,8 @@ CONVERTED = {
         b"A\x1a" + bytes(300): "A",
         **dict.fromkeys([b"A\x1a" + b"\xff" * 128, b"A\xc1", b"A\x00", b"\x1a" * 128, b""])},
     "texts.wordStarText(data)": {
-        b"\x02Th\xe5\x02\xa0la\xf3t\x8d\n\x1flin\xe5\x1e.\r\n\x1a": "The last\nline.\n",
+        b"\x02Th\xe5\x02\xa0la\xf3t\x8d\n\x1flin\xe5\x1e.\r\n\x1a": "The last line.\n",
+        b"in\x1f\x8d\n\xa0side \xa0\xa0of\xa0 \x8d\n\xa0it\r\n": "inside of it\n",
         **dict.fromkeys([b"plain", b"\xe1\x00", b""])},
     "texts.cbmText(data)": {
         b"A TEXT.\r\\ ^ _\xa0.": "A TEXT.\n£ ↑ ← .", b"\xc1 TEXT.\x8dB": "A text.\nb",
@@ -103,16 +104,16 @@ SHOWN = {
     "2001/0": ("HELLO", "Shown as a listing of BASIC, without the 2 bytes after it.",
                '10 PRINT "HELLO"\n20 GOTO 10\n', "HELLO.prg", BASIC),
     "2001/1": ("LETTER", "Shown as it came on the screen of a C64.", "", "LETTER.seq", GRAPHIC),
-    "2002/0": ("LETTER.TXT", "Shown as text of WordStar, without its marks for print.", "The last\nwords.\n",
+    "2002/0": ("LETTER.TXT", "Shown as text of WordStar, without its marks for print.", "The last words.\n",
                "LETTER.TXT", STAR),
     "2001/3": ("../../X", "Shown as text.", "<IMG SRC=X ONERROR=1>\n", "____X.usr", b"<IMG SRC=X ONERROR=1>\r"),
-    "2001/8": ("DATA", "Shown as bytes: the place, hexadecimal digits, and ASCII.", hexed(DATA), "DATA.prg", DATA)}
+    "2001/8": ("DATA", "it loads at 256 ($0100), so it is machine code or data.", hexed(DATA), "DATA.prg", DATA)}
 
 @pytest.mark.parametrize("place", SHOWN)
 def test_file_comes_in_the_way_that_suits_it_and_is_saved_by_a_safe_name(reader, place):
     heading, says, text, name, data = SHOWN[place]
     assert (reader.go(place)["heading"], reader.text("pre"), reader.harmed()) == (heading, text, [None, 0])
-    assert says in reader.texts("#view p")
+    assert says in " ".join(reader.texts("#view p"))
     reader.named("link", "Download").click()
     assert reader.saved(name) == data
 
@@ -153,7 +154,8 @@ def letters(data, x, y):
         return 0
     return 1 if data[8 * (32 * down + across) + top] >> 7 - left & 1 else 6
 
-DRAWN = {"a Koala picture": (0x6000, 10001, koala), "a plain bitmap": (0x2000, 8000, lambda *at: art(*at, None)),
+DRAWN = {"a Koala picture (drawn with KoalaPainter on a C64)": (0x6000, 10001, koala),
+         "a plain bitmap": (0x2000, 8000, lambda *at: art(*at, None)),
          "an Advanced Art Studio picture": (0x2000, 10016, lambda *at: koala(*at, 9016, 9001)),
          "an Art Studio picture": (0x2000, 9009, art),
          "a Doodle picture": (0x5C00, 9216, lambda *at: art(*at, 0, 1024)), "a set of signs": (0x3800, 1024, letters)}
@@ -194,7 +196,7 @@ return import("/screen.js").then(({ canvasOf, directoryScreen, textScreen }) =>
 # By a kind of disk: files, and the text that its screen is like: light blue (9A hex), grey (98) where there is no size.
 DIRECTORIES = [
     ("d64", [("LOADER", "PRG", 509), ("A%D3B", "SEQ", None), ("X", "USR", None, None, ["not-closed"])],
-     b'\x9a\rLOAD"$",8\r\rSEARCHING FOR $\rLOADING\rREADY.\rLIST\r\r0 \x12"DISK 7          " MU 2A\x92\r'
+     b'\x0e\x9a\rLOAD"$",8\r\rSEARCHING FOR $\rLOADING\rREADY.\rLIST\r\r0 \x12"DISK 7          " MU 2A\x92\r'
      b'3    "LOADER"           PRG\r\x98     "A\xd3B"              SEQ\r     "X"               *USR\r'
      b"\x9aREADY.\r\x12 "),
     ("cpm8", [("PIP.COM", "COM", 128, 0), ("NOTES.TXT", "TXT", 128, 3), ("ED.COM", "COM", None, 0)],
@@ -210,7 +212,7 @@ def test_file_says_what_is_known_of_it_and_how_to_cite_it(reader):
     assert dict(zip(reader.texts("dt"), reader.texts("dd"))) == {
         "Disk": "Disk 2001", "Place": "file 1 of 9 on its list, at slot 0 of the directory",
         "Type": "PRG, a BASIC program, of Commodore 1541", "Size": f"{len(BASIC)} bytes, 1 block",
-        "Load address": "$0801 (2049)", "SHA-256": digest(BASIC), "Open by": "rule 20 of deed 9 (R9.20)"}
+        "Load address": "2049 ($0801)", "SHA-256": digest(BASIC), "Open by": "rule 20 of deed 9 (R9.20)"}
     disk = "“Disk 2001”, floppy disk (Commodore 1541), accession number 2001"
     file = f"“HELLO”, PRG file, {len(BASIC)} bytes, slot 0, on {disk}. SHA-256 {digest(BASIC)}"
     cite, link = "%s. {} (accessed 15 June 2026).", ("2001/0", "Copy link", "{}")
@@ -221,25 +223,30 @@ def test_file_says_what_is_known_of_it_and_how_to_cite_it(reader):
         wait_for(text, lambda: reader.text(".copied").partition(": ")[2] == text)
     reader.named("link", "LETTER\u00a0→").click()
     assert reader.read(lambda state: state["heading"] == "LETTER")["here"] == "#/2001/1"
+    assert "%CC%C5%D4%D4%C5%D2" in reader.texts("dd"), "its name as it is printed"
 
 def test_disk_with_most_files_and_a_picture_is_found_and_short_on_a_phone_beside_its_figure(museum, reader):
     museums.put_files(museum, 2003, "d64", 9, [(f"FILE {n}", "PRG", bytes(10003 - n)) for n in range(11)])
+    museums.put_files(museum, 2004, "cpm8", 9, [("PLAY.BAS", "BAS", b"10 END\r\n")])
     reader.load()
     assert reader.go("2002")["rows"] == [["LETTER.TXT", "TXT text", str(len(STAR)), "user 3", "Read it"]]
     assert reader.go("?type=picture")["matches"] == ["FILE 0"]
-    chips = {"Programs (BASIC, machine code) 13", "Pictures, by size 1", "REL records or compiled code 1"}
+    chips = {"Programs (BASIC, machine code) 14", "Pictures 1", "REL records or compiled code 1"}
     assert {*reader.go("?type=PRG")["chips"]} >= chips and "FILE 0" not in reader.read()["matches"]
+    assert reader.find("BASIC")["disks"][0] == "Disk 2004", "what is surely BASIC before what may be"
     assert {"HELLO", "FILE 0"} & {*reader.find("BASIC programs")["matches"]} == {"HELLO"}
     assert reader.find("<IMG")["matches"] == [HARMFUL[2].upper()] and reader.harmed() == [None, 0]
     assert reader.go("?sort=files")["disks"][:2] == ["Disk 2003", "Disk 2001"]
-    reader.go("2003")
+    assert [row[-1] for row in reader.go("2003")["rows"][:2]] == ["Show it", "Read it"]
     shown = "const at = document.querySelector('figure canvas'); return [at.role, at.ariaDetailsElements[0].tagName]"
     assert reader.script(shown) == ["img", "TABLE"]
-    assert reader.texts(".neighbours > *") == ["", "1 of 6 disks", "Disk 2001\u00a0→"]
+    assert reader.texts(".neighbours > *") == ["", "1 of 7 disks", "Disk 2001\u00a0→"]
     for width in (360, 640):
         with reader.phone(width):
             reader.wait(lambda state: reader.script("return window.innerWidth") == width)
             assert reader.script("return document.querySelector('table').offsetHeight") <= 1100
+    museum.rules["T2001"] = {1: museums.rule(1, "list", ["public"])}
+    assert HARMFUL[2].upper() in reader.go("2001/3")["refusal"][2] and reader.harmed() == [None, 0]
 
 def zip_says(reader, words):
     wait_for(f"{words!r} beside the button of the zip", lambda: words in "".join(reader.texts("[role=status]")))

@@ -5,7 +5,7 @@ from support import museums
 from support.browser import wait_for
 from support.museums import HARMFUL
 
-PUBLIC = "\r\n".join(["\ufeffaccession,title,note", f"1002,{HARMFUL[2]},Müllerstraße", "1004,Not open,hush",
+PUBLIC = "\r\n".join(["\ufeffaccession,title,note", f"1002,{HARMFUL[2]},Müllerstraße: a GUIDE", "1004,Not open,hush",
                      '1001,Letters of a Férryman,"Written on the river, 1983 to 1986"', "0,no disk,", ""])
 UMLAUTS = "müller", "MU\u0308LLER", "mueller", "muller", "M*ller strasse", "Mü*er straße"
 FOR_STAFF = "accession,title,note\n1001,Letters (the ferry company asks for care),see the file\n1005,=1+1,\n"
@@ -31,17 +31,16 @@ def test_titles_and_notes_for_readers_are_shown_and_found(reader):
     shown = reader.go("1001")
     ferry = ["Letters of a Férryman"]
     assert (shown["heading"], shown["title"]) == (*ferry, f"{ferry[0]}, disk 1001 – The reading room")
-    facts = "Disk 1001 · CP/M, 8 inches · 2 files for you to see"
-    assert reader.texts("#view > p") == [facts, "Written on the river, 1983 to 1986"]
-    assert reader.load() and reader.texts(".neighbours > *")[1] == "2 of 3 disks", "disks in the order of the list"
+    assert reader.texts("#view > p") == ["Disk 1001 · CP/M, 8 inches · 2 files", "Written on the river, 1983 to 1986"]
     wanted = {"FERRY": ferry, "letters river 1984": [], "1986 letters river": ferry, "hush": [], "welcome": ferry,
-              "1001": ferry, "ferryman welcomes": ferry, "damaged": [], **dict.fromkeys(UMLAUTS, [HARMFUL[2]])}
+              "Accession number 1001": ferry, "1001": ferry, "ferryman welcomes": ferry, "damaged": [],
+              **dict.fromkeys(UMLAUTS, [HARMFUL[2]])}
     for words, disks in wanted.items():
         assert reader.find(words)["disks"] == disks, words
     assert reader.find("ferry")["matches"] == ["WELCOME.TXT", "SKEW.TXT"], "the files of a disk that was found"
+    assert reader.find("guide")["matches"] == ["GUIDE"], "a file that has the word, and not all of the disk"
     found = reader.find("a welcome on the river")["matches"]
     assert (found, reader.texts("mark")) == (["WELCOME.TXT"], ["river", "WELCOME"])
-    assert reader.texts(".disk .quiet") == [facts.removesuffix(" for you to see")], "no count of files only listed"
     assert reader.go("1001") and reader.texts(".neighbours") == [], "no way to others where one disk was found"
 
 def test_titles_for_the_staff_go_before_those_for_all(staff):
@@ -71,11 +70,11 @@ def test_room_is_the_museums_in_head_foot_title_and_refusals(museum, tmp_path, r
     assert reader.script(links, "#foot a") == ["mailto:room@museum.example", f"{reader.door.address}imprint.html"]
     assert reader.texts("#foot p")[0] == "Museum of the River, Lower Valley" and "one" not in reader.text("#foot")
     museum.rules["T1001"] = {1: museums.rule(1, "deny", ["public"], {"slot": 0})}
-    of, there = "Letters of a Férryman", f"Of Letters of a Férryman: Written on the river, 1983 to 1986"
+    of, there = "Letters of a Férryman", "Letters of a Férryman: Written on the river, 1983 to 1986"
     subjects = {"1001": f"1001: {of}", "1003/0": "1003, slot 0: LOGBOOK", "1001/0": f"1001, slot 0: {of}",
                 "1001/1": f"1001, slot 1: SKEW.TXT on {of}"}
     for place, subject in subjects.items():
-        assert (reader.go(place)["refusal"][-1:] == [there]) == (place == "1001/0")
+        assert (reader.go(place)["refusal"][1:2] == [there]) == (place == "1001/0")
         [mail] = reader.script(links, "#view a[href^=mailto]")
         assert mail.startswith(f"mailto:room@museum.example?subject=Disk {subject}&body=")
         assert mail.endswith(f"#/{place}")
