@@ -227,10 +227,10 @@ def test_file_says_what_is_known_of_it_and_how_to_cite_it(reader):
 
 def test_disk_with_most_files_and_a_picture_is_found_and_short_on_a_phone_beside_its_figure(museum, reader):
     museums.put_files(museum, 2003, "d64", 9, [(f"FILE {n}", "PRG", bytes(10003 - n)) for n in range(11)])
-    museums.put_files(museum, 2004, "cpm8", 9, [("PLAY.BAS", "BAS", b"10 END\r\n")])
+    museums.put_files(museum, 2004, "cpm8", 9, [("PLAY.BAS", "BAS", b"10 END\r\n"), ("NOTE", "", b"Hi\r\n")])
     reader.load()
     assert reader.go("2002")["rows"] == [["LETTER.TXT", "TXT text", str(len(STAR)), "user 3", "Read it"]]
-    assert reader.go("?type=picture")["matches"] == ["FILE 0"]
+    assert reader.go("?type=picture")["matches"] == ["FILE 0"] and "All" in reader.text("[aria-label=Files] .chip")
     chips = {"Programs (BASIC, machine code) 14", "Pictures 1", "REL records or compiled code 1"}
     assert {*reader.go("?type=PRG")["chips"]} >= chips and "FILE 0" not in reader.read()["matches"]
     assert reader.find("BASIC")["disks"][0] == "Disk 2004", "what is surely BASIC before what may be"
