@@ -49,7 +49,7 @@ export function longTable(caption, columns, items, rowOf) {
   const observer = new IntersectionObserver((entries) => entries.forEach(seen), { rootMargin: NEAR });
   [...blocks.keys()].forEach((body) => observer.observe(body));
   made.lastChild.replaceWith(...blocks.keys());
-  made.ariaRowCount = String(items.length + 1);
+  made.setAttribute("aria-rowcount", items.length + 1);
   return made;
 }
 

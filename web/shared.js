@@ -128,7 +128,8 @@ export function cell(label, content, kind = "") {
 export function table(caption, columns, rows) {
   const heads = columns.map((column) => element("th", column, { scope: "col" }));
   const made = box("table", "", box("thead", "", row(heads)), box("tbody", "", ...rows));
-  return Object.assign(made, { ariaLabel: caption });
+  made.setAttribute("aria-label", caption);
+  return made;
 }
 
 export const row = (cells) => box("tr", "", ...cells);

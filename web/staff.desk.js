@@ -21,8 +21,8 @@ export const formOf = (name) => part(name).querySelector("form");
 // What the desk holds, as it was when it was read last.
 export const held = { deeds: [], takedowns: [], keys: [], checks: [] };
 
-export async function readHeld(what) {
-  held[what] = listOf((await askObject(`/staff/${what}`))[what]);
+export async function readHeld(what, signal) {
+  held[what] = listOf((await askObject(`/staff/${what}`, { signal }))[what]);
   return held[what];
 }
 
@@ -125,28 +125,46 @@ export async function shownAnew(name, words) {
   return fault === null ? words : [words, older(name), refusal(fault)];
 }
 
-// What opens the view that is shown: what stops it, and its end; and the work of each section.
-let opened = { stop: () => {}, end: null };
+// What opens the view that is shown: its section, what stops it, and its end; and the other work of each section.
+let opened = { stop: () => {} };
 const running = {};
 
-// Opens a view. What opened the one before is stopped; a change that goes on in the view itself comes to its end first.
+// Opens a view. What opened the one before is stopped. Other work of the view itself comes to its end first, and what
+// is said of it stays; until then nothing is shown of what stands.
 export function open(name, doing) {
   opened.stop();
-  const before = [opened.end, running[name]];
-  const mine = { stop: () => (mine.isLeft = true) };
-  const go = (tools) => doing(Object.assign(mine, { stop: tools.stop }) && tools);
-  mine.end = Promise.all(before).then(() => !mine.isLeft && work(name, go));
+  const mine = { name, stop: () => (mine.isLeft = true) };
+  mine.end = openAfter(opened.name === name ? opened.end : null, mine, doing);
   opened = mine;
   return mine.end;
+}
+
+async function openAfter(before, mine, doing) {
+  const [stands, result] = [".stands", ".result"].map((at) => part(mine.name).querySelector(at));
+  stands.hidden = true;
+  await before;
+  const isBusy = running[mine.name] !== undefined;
+  while (running[mine.name]) await running[mine.name];
+  if (mine.isLeft) return;
+  const kept = isBusy ? [...result.childNodes] : null;
+  const go = (tools) => {
+    mine.stop = tools.stop;
+    stands.hidden = false;
+    return doing(tools);
+  };
+  await workAlone(mine.name, go);
+  if (kept) result.replaceChildren(...kept);
 }
 
 // Does some work of a section, one at a time, shows the outcome there, and says whether it was done. The work gets a
 // way to show how far it has come, and a signal that the reader stops it. It gives what to show, words or nodes, or
 // null where what it has shown stays.
-export function work(name, doing) {
+export async function work(name, doing) {
   if (part(name).getAttribute("aria-busy") === "true") return false;
   running[name] = workAlone(name, doing);
-  return running[name];
+  const done = await running[name];
+  delete running[name];
+  return done;
 }
 
 async function workAlone(name, doing) {

@@ -28,14 +28,14 @@ const nameOf = (record) => shownName(record[COLUMNS.kind], record[COLUMNS.name])
 
 // Reads the disk anew, and shows it: what is known of it at once, then who gets what of it, and what the journal says.
 async function readDisk(accession, tools) {
-  const survey = await askObject(`/images/${accession}/survey`);
-  for (const what of ["deeds", "takedowns", "checks"]) await readHeld(what);
+  const survey = await askObject(`/images/${accession}/survey`, { signal: tools.signal });
+  for (const what of ["deeds", "takedowns", "checks"]) await readHeld(what, tools.signal);
   const asked = { day: today(), rules: byWhichRules(today()), moment: new Date().toISOString() };
   const things = [{ ...standingDisk(survey), origin: UNREAD }, ...decidingRules(survey)];
   shown = { survey, things, files: [], asked };
-  draw([]);
+  draw(null);
   frames.files.replaceChildren(element("p", "Who gets what of it is not read yet."));
-  shown.files = await verdictsOf(accession, asked.day, tools);
+  shown.files = await verdictsOf(survey, asked.day, tools);
   drawFiles();
   const { origins, changes } = await originsOf(things, tools);
   things.forEach((thing, at) => Object.assign(thing, { origin: origins[at] }));
@@ -80,11 +80,12 @@ function rulesTable(rules) {
 function journalParts({ accession, deed }, changes) {
   const [disk, ofDeed] = [String(accession), String(deed)];
   const mine = changes.filter((one) => one.accession === disk || (one.deed === ofDeed && !one.accession));
-  const link = element("a", `All changes of disk ${disk} in the journal`, { href: `#/journal/${disk}` });
+  const link = element("a", `Changes of disk ${disk}, without those of its deed`, { href: `#/journal/${disk}` });
   const made = mine.length ? [table("latest changes", CHANGES, mine.slice(0, MOST_CHANGES).map(changeRow))] : [];
   return [element("h2", "The latest changes of the disk and its deed"), ...made, box("p", "", link)];
 }
 
+// Shows what is known of the disk; of the changes null where they are not read yet.
 function draw(changes) {
   const { survey, things } = shown;
   const [disk, ...rules] = things;
@@ -92,9 +93,9 @@ function draw(changes) {
   const title = [titleOf(accession), noteOf(accession)].filter(Boolean).join("; ") || "none";
   const about = surveyed(survey, { Title: title, "Taken in": disk.origin });
   const press = () => change("disk", () => checked(accession, "disk"));
-  frames.about.replaceChildren(about, checkWords(accession), button("Check it", press));
+  frames.about.replaceChildren(about, checkWords(accession), button("Check it", press, { disabled: changes === null }));
   const heading = element("h2", "The rules, in their order: the first that matches decides");
-  frames.rules.replaceChildren(heading, rulesTable(rules), ...journalParts(survey, changes));
+  frames.rules.replaceChildren(heading, rulesTable(rules), ...journalParts(survey, changes ?? []));
 }
 
 function drawFiles() {

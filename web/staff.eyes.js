@@ -44,7 +44,7 @@ function wanted() {
 
 // The files to show: those that are found, and of the hidden ones only where they are asked for; words for which these
 // are; and of all files, how many there are of each effect.
-async function lookThrough({ audience, words, showsClosed }) {
+async function lookThrough({ audience, words, showsClosed }, all) {
   const isFound = finder(words, audience);
   const counts = { read: 0, list: 0, deny: 0 };
   const files = [];
@@ -56,10 +56,10 @@ async function lookThrough({ audience, words, showsClosed }) {
     if (showsClosed || effect !== "deny") files.push(file);
     else left += 1;
   };
-  await inParts(seen.files, (some) => some.forEach(take));
+  await inParts(all, (some) => some.forEach(take));
   const by = words && `, found by \u201c${words}\u201d`;
-  const more = left ? `; ${counted(left, "more file")} of which they see nothing left out` : "";
-  const which = `${files.length.toLocaleString("en")} of ${counted(seen.files.length, "file")}${by}${more}.`;
+  const more = left ? `; ${left.toLocaleString("en")} more, hidden from them, left out` : "";
+  const which = `${files.length.toLocaleString("en")} of ${counted(all.length, "file")}${by}${more}.`;
   return { files, counts, which };
 }
 
@@ -83,7 +83,7 @@ async function draw() {
   const asked = wanted();
   const stands = part("eyes").querySelector(".stands");
   stands.setAttribute("aria-busy", "true");
-  const { files, counts, which } = await lookThrough(asked);
+  const { files, counts, which } = await lookThrough(asked, seen.files);
   if (mine !== turn) return;
   const columns = ["Disk", "Kind", "Slot", "Name", "Type", "They may", "Rule"];
   const made = files.length ? [longTable("verdicts", columns, files, (file) => fileRow(file, asked.audience))] : [];
@@ -96,17 +96,16 @@ async function draw() {
 
 async function saveShown() {
   const [asked, mine] = [wanted(), seen];
-  const { files, which } = await lookThrough(asked);
+  const { files, which } = await lookThrough(asked, mine.files);
   const name = `${asked.audience}-${mine.day}-${files.length}-of-${mine.files.length}-files`;
   const about = `What ${AUDIENCES[asked.audience]} gets ${mine.words}: ${which} ${UNSAID}`;
   return saveTable(name, about, SAVED_HEADS, files, (file) => savedVerdict(file, asked.audience, mine));
 }
 
 async function look(tools) {
-  const { day, audience } = formOf("eyes").elements;
-  await read(day.value, tools);
+  await read(formOf("eyes").elements.day.value, tools);
   await draw();
-  return `Read: what everybody gets ${seen.words}. Shown: ${AUDIENCES[audience.value]}.`;
+  return `Read: what everybody gets ${seen.words}.`;
 }
 
 export function open() {

@@ -3,7 +3,7 @@ import { longTable } from "./lists.js";
 import { Refused, cell, counted, element, part, row } from "./shared.js";
 import { AllChanges, UNKNOWN, changeWords, isUnknown, outcomeWords, timeOf } from "./staff.changes.js";
 import { dated, formOf, work } from "./staff.desk.js";
-import { LONGEST, Lines, MONTHS, PIECE } from "./staff.lines.js";
+import { Lines, MONTHS, PIECE } from "./staff.lines.js";
 import { limitFields } from "./staff.ruleform.js";
 import { saveTable } from "./staff.saved.js";
 import { today } from "./staff.words.js";
@@ -15,7 +15,7 @@ export const COLUMNS = ["When", "Who", "What", "Outcome", "Reason"];
 
 const BOUND = [
   `the last ${PIECE >> 20} MB first and as much at each press; then what was put away, month by month`,
-  `of the last ${MONTHS / 12} years, and of a month at most the last ${LONGEST >> 20} MB`,
+  `of the last ${MONTHS / 12} years`,
   `until it holds ${MOST.toLocaleString("en")} changes`,
 ].join(", ");
 
@@ -60,7 +60,6 @@ function summary() {
   const more = [`${texts.join(", ")}.`];
   if (unknown) more.push(`Of ${unknown.toLocaleString("en")} ${UNKNOWN}, or it has not ended yet.`);
   if (read.unread) more.push(`${counted(read.unread, "line")} cannot be read.`);
-  if (lines.isCut) more.push("A month had more than the page takes.");
   if (isFull()) more.push("The page reads no more of them.");
   return more.join(" ");
 }
@@ -121,7 +120,7 @@ function readAnew(tools) {
   return readOlder(tools);
 }
 
-const UNSAID = "It does not say what was changed without this door, nor whether a name is that of who wrote it.";
+const UNSAID = "It does not say what was changed by other ways than this page, nor whether a name is that of who wrote it.";
 const HEADS = ["moment", "name", "reason", "what", "outcome", "method", "path", "status", "body"];
 
 function savedRecord(change) {

@@ -21,7 +21,7 @@ const VIEWS = {
   disk: { heading: "One disk", of: "Disk", load: () => import("./staff.disk.js") },
   eyes: { heading: "Who sees what", load: () => import("./staff.eyes.js"), isLook: true },
   timeline: { heading: "Timeline", load: () => import("./staff.timeline.js"), isLook: true },
-  journal: { heading: "Journal", of: "Journal of disk", open: openJournal, isLook: true },
+  journal: { heading: "Journal", open: openJournal, isLook: true },
 };
 
 let taken = false;

@@ -3,10 +3,8 @@ import { Refused, ask, fields, loaded } from "./shared.js";
 import { breather } from "./stream.js";
 import { dayAfter, monthBefore, today } from "./staff.words.js";
 
-// How many bytes come at a time, of how many bytes at most the page takes the end where a file comes as a whole, and
-// how many months it looks back for a file.
+// How many bytes come at a time, and how many months the page looks back for a file.
 export const PIECE = 4 << 20;
-export const LONGEST = 64 << 20;
 export const MONTHS = 120;
 
 const LINE_FEED = 10;
@@ -17,21 +15,7 @@ const absent = new Set();
 // Some bytes behind others.
 const joined = async (parts) => new Uint8Array(await new Blob(parts).arrayBuffer());
 
-// The bytes of a reply: of a long one those at its end, and whether some before them are left out.
-async function bytesOf(reply, { progress }) {
-  const reader = reply.body.getReader();
-  const parts = [];
-  let [size, came, isCut] = [0, 0, false];
-  for (;;) {
-    const { done, value } = await loaded(reader.read());
-    if (done) return { bytes: await joined(parts), isCut };
-    parts.push(value);
-    size += value.length;
-    came += value.length;
-    for (; size - parts[0].length > LONGEST; isCut = true) size -= parts.shift().length;
-    progress("Reading the journal, in kB", Math.round(came / 1000));
-  }
-}
+const bytesOf = async (reply) => new Uint8Array(await loaded(reply.arrayBuffer()));
 
 // What a reply would be, or null where nginx refuses it with a status.
 function unless(status, reply) {
@@ -64,8 +48,6 @@ export class Lines {
     // The month to look at next, and how many are still to be looked at.
     this.month = "";
     this.months = MONTHS;
-    // Whether a file was longer than the page takes.
-    this.isCut = false;
   }
 
   // Whether all is read that the page can find.
@@ -86,8 +68,7 @@ export class Lines {
     const places = /^bytes ([0-9]+)-[0-9]+\/([0-9]+)$/.exec(reply?.headers.get("Content-Range") ?? "");
     const [start, length] = places === null ? [0, 0] : places.slice(1).map(Number);
     if (reply === null || length < this.length) throw new Refused("rotated", {});
-    const { bytes } = await bytesOf(reply, tools);
-    const whole = await joined([bytes, this.rest]);
+    const whole = await joined([await bytesOf(reply), this.rest]);
     const first = start === 0 ? 0 : whole.indexOf(LINE_FEED) + 1 || whole.length;
     Object.assign(this, { until: start, length, rest: whole.slice(0, first) });
     await eachLine(whole.subarray(first), take);
@@ -98,7 +79,7 @@ export class Lines {
     // The clock of the museum's machine may be ahead of this one.
     this.month ||= oldest() || dayAfter(today(), 1).slice(0, 7);
     for (let isFound = false; this.months > 0 && !isFound; ) {
-      tools.progress("Looking for an older file, month by month", MONTHS - this.months, MONTHS);
+      tools.progress("Looking for an older journal, month by month", MONTHS - this.months, MONTHS);
       isFound = await this.readFile(take, tools);
       this.month = monthBefore(this.month);
       this.months -= 1;
@@ -110,9 +91,7 @@ export class Lines {
     const reply = await unless(404, ask(`/journal-${this.month}`, { signal: tools.signal }));
     if (reply === null && this.month < monthBefore(today().slice(0, 7))) absent.add(this.month);
     if (reply === null) return false;
-    const { bytes, isCut } = await bytesOf(reply, tools);
-    this.isCut ||= isCut;
-    await eachLine(isCut ? bytes.subarray(bytes.indexOf(LINE_FEED) + 1) : bytes, take);
+    await eachLine(await bytesOf(reply), take);
     return true;
   }
 }

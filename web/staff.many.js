@@ -71,6 +71,6 @@ function report(run, isOlder) {
 function saveReport({ section, items, heads, cells }) {
   const columns = [...heads.map((head) => head.toLowerCase()), "outcome", "by", "reason", "tried at"];
   const recordOf = (item) => [...cells(item), outcomeOf(item) || "not sent", ...(item.who ?? ["", "", ""])];
-  const about = "What was sent, and what became of it. It does not say what stands since.";
+  const about = "What was to be sent, and what became of it. It does not say what stands since.";
   return saveTable(`${section}-report-${today()}`, about, columns, items, recordOf);
 }

@@ -5,8 +5,9 @@ import { inParts, save } from "./stream.js";
 
 // A table without items has one row that says so.
 export async function saveTable(name, about, heads, items, recordOf) {
-  const said = [holder() || "a museum without a name in about.csv", about];
+  const said = [holder() || "(the museum's name was not found)", about];
   const texts = [csvText([["museum", "this table", ...heads], ...(items.length ? [] : [said])])];
   await inParts(items, (some) => texts.push(csvText(some.map((one) => [...said, ...recordOf(one)]))));
-  save(`${name}.csv`, texts, "text/csv");
+  const moment = new Date().toISOString().slice(0, 19).replaceAll(":", "");
+  save(`${name}-saved-${moment}Z.csv`, texts, "text/csv");
 }

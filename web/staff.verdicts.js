@@ -15,21 +15,21 @@ export function readVerdicts(day, take, { progress, signal }) {
   return readTable(`/staff/verdicts/${day}`, { take, signal, progress: (count) => progress(`Reading ${day}`, count) });
 }
 
-// The verdicts of one disk on a day. The desk tells those of all, by their accessions: the page keeps the lines of this
-// one alone, and reads none behind them.
-export async function verdictsOf(accession, day, { progress, signal }) {
+// The verdicts of the files of one disk on a day. The desk tells those of all disks, by their accessions: the page keeps
+// the lines of this one, and stops at the first line of a later one.
+export async function verdictsOf({ accession, files }, day, { progress, signal }) {
   const start = `\n${accession},`;
-  let [text, last, length] = ["", -1, 0];
+  let [text, length] = ["", 0];
   for await (const part of partsOf(await ask(`/staff/verdicts/${day}`, { signal }))) {
     progress("Reading who gets what of it, in kB", Math.round((length += part.length) / 1000));
-    text = (last < 0 ? text.slice(Math.max(0, text.lastIndexOf("\n"))) : text) + part;
-    last = text.lastIndexOf(start);
-    const end = text.indexOf("\n", last + 1);
-    if (last >= 0 && end >= 0 && text.length >= end + start.length) break;
+    text = (text.includes(start) ? text : text.slice(Math.max(0, text.lastIndexOf("\n")))) + part;
+    const end = text.lastIndexOf("\n");
+    if (Number.parseInt(text.slice(text.lastIndexOf("\n", end - 1) + 1, end), 10) > accession) break;
   }
-  const end = text.indexOf("\n", last + 1);
-  if (end < 0) throw new Refused(0, {});
-  return last < 0 ? [] : new Records().add(text.slice(text.indexOf(start) + 1, end + 1));
+  const [first, end] = [text.indexOf(start), text.indexOf("\n", text.lastIndexOf(start) + 1)];
+  const found = first < 0 ? [] : new Records().add(text.slice(first + 1, end + 1));
+  if (found.length !== files) throw new Refused(0, {});
+  return found;
 }
 
 // The desk gives out a file only where it has a size: without one, `read` is no more than `list`.
@@ -56,13 +56,13 @@ export const ruleShown = (record, audience) =>
   element("span", ruleMeaning(record[EFFECT_AT[audience] + 1]), { className: "title" });
 
 // By which rules the verdicts of a day are.
-const PAST = "by today's rules, not by those that stood then";
+export function byWhichRules(day) {
+  const rules = `by the rules of ${today()}`;
+  if (day === today()) return `${rules} when it was asked`;
+  return day < today() ? `${rules}, not by those that stood then` : `${rules}, which may change until then`;
+}
 
-export const onDay = (day) => `on ${day}${day < today() ? `, ${PAST}` : ""}`;
-
-const LATER = "by today's rules, which may change until then";
-const NOW = "by the rules that stood when it was asked";
-export const byWhichRules = (day) => (day < today() ? PAST : (day > today() && LATER) || NOW);
+export const onDay = (day) => `on ${day}${day === today() ? "" : `, ${byWhichRules(day)}`}`;
 
 export const UNSAID = "It does not say who has read or copied a file, nor what stands on other days.";
 export const SAVED_HEADS = [

@@ -12,7 +12,8 @@ export function listed(words) {
   return `${words.slice(0, -1).join(", ")} and ${words.at(-1)}`;
 }
 
-const asPrinted = (words) => (shownName("d64", words) === words ? "" : ` (printed as \u201c${words}\u201d)`);
+// The beginning of names as it is shown, where a code in it says that they are of the 1541.
+const asShown = (words) => (/%[89A-F]/.test(words) ? ` (on the screen \u201c${shownName("d64", words)}\u201d)` : "");
 
 function printed(least, most) {
   return { pattern: `[\\x20-\\x7E]{${least},${most}}`, title: "as the desk prints it", required: least > 0 };
@@ -32,7 +33,7 @@ export const SELECTORS = {
     choice: "files whose names begin alike",
     field: "They begin, as the desk prints them, with",
     limits: printed(1, 64),
-    shown: (words) => `files whose names begin with \u201c${shownName("d64", words)}\u201d${asPrinted(words)}`,
+    shown: (words) => `files whose names begin with \u201c${words}\u201d${asShown(words)}`,
     sent: String,
   },
   user: {

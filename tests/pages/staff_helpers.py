@@ -44,8 +44,8 @@ def lost_at(number, stays=False):
     return before
 
 def saved_table(page, name):
-    """The records of a table that the page saved."""
-    return list(csv.reader(page.saved(name).decode().splitlines()))
+    """The records of a table that the page saved, by the beginning of its name; the moment stands behind it."""
+    return list(csv.reader(page.saved(f"{name}-saved-*Z.csv").decode().splitlines()))
 
 def moment(at):
     return datetime.datetime.fromtimestamp(at, datetime.timezone.utc).strftime("%Y-%m-%dT%H:%M:%S+00:00")

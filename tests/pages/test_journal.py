@@ -73,7 +73,7 @@ def test_what_is_looked_for_is_found_and_saved_without_a_formula(staff):
         shown = staff.read()
         assert (shown["rows"], int(shown["stands"][1].split()[1])) == (rows_of(*found), len(found)), typed
     staff.push("Save what is shown as CSV")
-    heads, *records = saved_table(staff, f"journal-{TODAY}-3-of-11-changes-back-to-{moment(START)[:10]}.csv")
+    heads, *records = saved_table(staff, f"journal-{TODAY}-3-of-11-changes-back-to-{moment(START)[:10]}")
     assert heads[2:] == ["moment", "name", "reason", "what", "outcome", "method", "path", "status", "body"]
     what, path = rows_of(3)[0][2], CHANGES[3][1][1]
     assert (len(records), records[2][3:]) == (3, ["'=1+1", "100%", what, "done", "PUT", path, "200", ""])

@@ -3,7 +3,7 @@
 import csv
 
 import pytest
-from staff_helpers import journal_lines, lost_at, moment, saved_table, takedown
+from staff_helpers import CANNOT_REACH, journal_lines, lost_at, moment, saved_table, takedown
 from support import museums
 from support.browser import TODAY
 from support.samples import DONOR_OF_9
@@ -41,7 +41,7 @@ def test_disk_says_what_it_is_and_who_gets_what_by_which_rule(museum, disk):
         ["takedown 1000 of disk 1002 (T1002.1000)", NOT], [f"{BY_DEED} (R9.20)", BY]]
     assert rows[5][1].startswith("Ada") and rows[5][2].startswith("Put rule 20 of deed 9: all files readable for")
     disk.push("Save who gets what as CSV")
-    saved = list(csv.DictReader(disk.saved(f"disk-1002-{TODAY}.csv").decode().splitlines()))
+    saved = list(csv.DictReader(disk.saved(f"disk-1002-{TODAY}-saved-*.csv").decode().splitlines()))
     keys = "day", "audience", "they may", "rule", "what the rule says", PUT, "name as shown", "size"
     assert [[one[key] for key in keys] for one in saved[6:9:2]] == [
         [TODAY, "the public", "see nothing of it", "T1002.1000", f"the file at slot 2 {HIDDEN}", NOT, "GUIDE", "532"],
@@ -69,18 +69,20 @@ def test_files_ticked_by_their_shown_names_are_taken_down_and_what_stands_after_
     assert [row[5] for row in shown["rows"][:3]] == [CLOSED.format(1000), LISTS, CLOSED.format(990)]
     disk.push("Save the report")
     due = [["1002", slot, name, rank, f"the file at slot {slot} {HIDDEN}", "done"] for name, rank, slot in rules]
-    _, *rows = saved_table(disk, f"disk-report-{TODAY}.csv")
+    _, *rows = saved_table(disk, f"disk-report-{TODAY}")
     assert [row[2:8] for row in rows] == due, "a report says not what was put"
 
 def test_disk_reads_its_own_lines_alone_and_nothing_more_once_it_is_left(museum, disk):
     whole = museum.show_verdicts(None, TODAY).reply
-    until = lambda line: lambda _, path: [whole[: whole.index(line) + 7], 1e3] if "/verdicts/" in path else None
+    until = lambda line: lambda _, path: [whole[: whole.index(line) + 90], 1e3] if "/verdicts/" in path else None
     disk.door.before = until(b"\n1003,")
     names = [row[2] for row in disk.go("disk/1002")["rows"]][:3]
     assert names == ["TOUR", "-" * 16, "GUIDE"], "it waits for other disks"
     disk.door.before = until(b"\n1001,")
     disk.script("location.hash = '#/disk/1001'")
     disk.wait(lambda state: state["result"] and "Reading who gets what" in state["result"][0])
+    disk.door.before = lambda _, path: whole[: whole.index(b"\n1003,") + 3] if "/verdicts/" in path else None
+    assert disk.go("disk/1003")["result"] == [CANNOT_REACH], "a reply that is cut off is told as a disk without files"
     disk.door.before = lambda method, path: None
     shown = disk.go("disk/1003")
     assert (shown["heading"], shown["rows"][0][2]) == ("Disk 1003", "LOGBOOK"), "a disk under the number of another"

@@ -60,8 +60,7 @@ def test_drop_is_rehearsed_and_done(takedowns):
     shown = takedowns.wait(lambda state: not state["busy"] and not state["sure"])
     assert shown["result"] == ["Kept: takedown 1 of disk 1005."]
     takedowns.of_row("takedown 1 of disk 1005", "Drop")
-    shown, words = takedowns.answer(True), "Done: there is no takedown 1 of disk 1005 now."
-    assert (shown["result"], shown["stands"], shown["rows"]) == ([words], ["There is no takedown."], [])
+    assert takedowns.answer(True)["result"] == ["Done: there is no takedown 1 of disk 1005 now."]
     assert takedowns.door.effects(1005)["public"] == ["read"] * 3
 
 def test_days_to_come_of_an_embargo(staff):
@@ -157,8 +156,12 @@ def test_takedowns_go_on_where_the_connection_was_lost(museum, takedowns):
     takedowns.door.before = lambda method, path: None if is_held(path) else lost(method, path)
     takedowns.one("#sure [value='go']").click()
     takedowns.wait(lambda state: state["result"] == ["Sending: 2 of 4.Stop"])
+    for place, heading in (("keys", "Keys"), ("takedowns", "Takedowns")):
+        takedowns.script("location.hash = arguments[0]", f"#/{place}")
+        takedowns.wait(lambda state: state["heading"] == heading)
     is_seen.set()
-    assert takedowns.read()["result"][0] == "2 takedowns put, 1 failed, 1 not sent yet."
+    said = takedowns.read(lambda state: state["result"])["result"]
+    assert said[:1] == ["2 takedowns put, 1 failed, 1 not sent yet."], "a report is lost where somebody leaves and returns"
     assert [sorted(museum.rules.get(f"T{disk}", {})) for disk in DISKS] == [[990, 1000], [1000], [], []]
     assert takedowns.push("Go on with the rest")["result"][0] == "4 takedowns put, 0 failed."
     assert [sorted(museum.rules.get(f"T{disk}", {})) for disk in DISKS] == [[990, 1000], [1000], [1000], [1000]]

@@ -40,7 +40,7 @@ def test_deed_is_replaced_only_when_that_is_agreed(staff):
         shown = staff.answer(is_agreed)
         assert (shown["result"], shown["rows"][1][1], len(staff.door.sent())) == ([said], donor, is_agreed)
 
-def test_rule_is_put_and_changed(staff):
+def test_rule_is_put_changed_and_dropped(staff):
     staff.go("rules/8")
     staff.put_rule("rules", "8", "20", "all", None, "public", "room", "staff", effect="read")
     shown = staff.answer(True)
@@ -52,11 +52,15 @@ def test_rule_is_put_and_changed(staff):
     shown = staff.answer(True)
     changed = ["8", "20", EVERYBODY, "all files", "see that they are there", "until 2099-01-01", "ChangeDrop"]
     assert (shown["rows"], shown["focus"]) == ([changed], "result")
+    staff.of_row("rule 20 of deed 8", "Drop")
+    shown = staff.answer(True)
+    assert shown["result"] == ["Done: there is no rule 20 of deed 8 now."]
+    assert (shown["stands"], shown["rows"]) == (["There is no rule of deed 8."], [])
 
 def test_rules_that_are_put_again_stay_as_they_were(museum, staff):
     ways = [({"slot": 0}, "the file at slot 0"), ({"user": 15}, "files of user 15"),
             ({"type": "PRG"}, "files of type \u201cPRG\u201d"), ({"type": ""}, "files without a type"),
-            ({"prefix": "%CC"}, "files whose names begin with “L” (printed as “%CC”)")]
+            ({"prefix": "%CC"}, "files whose names begin with “%CC” (on the screen “L”)")]
     museum.rules["R9"] = {rank: museums.rule(rank, "list", ["public", "staff"], select, "2030-01-01", "2020-01-01")
                           for rank, (select, _) in enumerate(ways, 1)}
     before, days = museum.shown_rules("R9"), "on no day: from 2030-01-01, but until 2020-01-01"

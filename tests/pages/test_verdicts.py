@@ -17,7 +17,8 @@ UNSERVED = {"DEL": " (the desk gives out no file of type DEL)",
 # A script: where the bars of the timeline are, and what drags the day.
 ENDS = "return ['.lane', '[type=range]'].map((at) => document.querySelector(`#timeline ${at}`).getBoundingClientRect())"
 UNSAID = "It does not say who has read or copied a file, nor what stands on other days."
-PAST, STOOD = "by today's rules, not by those that stood then", "by the rules that stood when it was asked"
+STOOD = f"by the rules of {TODAY} when it was asked"
+PAST = f"by the rules of {TODAY}, not by those that stood then"
 
 def look(staff, day, audience="public", closed=False, words=""):
     staff.go("eyes")
@@ -50,7 +51,7 @@ def test_file_is_found_by_name_disk_or_rule_and_saved_without_formula(museum, st
         assert (len(shown["rows"]), int(shown["stands"][1].split()[1])) == (count, count), words
     staff.script(CLOCK % 86_400_000)
     staff.push("Save what is shown as CSV")
-    _, *rows = saved_table(staff, f"staff-{TODAY}-5-of-19-files.csv")
+    _, *rows = saved_table(staff, f"staff-{TODAY}-5-of-19-files")
     assert [row[16] for row in rows] == [name if name[0] != "=" else f"'{name}" for name in museums.HARMFUL]
     words = ["the staff", "read it", "", "R7.20", "rule 20 of deed 7", "1066", "", "7", "d64", "0", "", "../../X"]
     assert (rows[0][3], rows[0][5:]) == (STOOD, [*words, "../../X", "SEQ", "4", ""]), "saved a day after it was asked"
@@ -59,13 +60,13 @@ def test_day_that_is_over_is_said_to_be_by_rules_of_today_and_a_saved_table_says
     (tmp_path / "about.csv").write_text("name,value\nmuseum,Museum of the River\n")
     staff.load()
     staff.begin()
-    for words, count, left in (("1004", 0, "2 more files"), ("logbook", 1, "1 more file")):
+    for words, count, left in (("1004", 0, 2), ("logbook", 1, 1)):
         look(staff, "1999-01-01", words=words)
         heading = f"What the public gets on 1999-01-01, {PAST}"
         assert staff.texts("#eyes .stands h2") == [heading], "a past day looks known"
         staff.push("Save what is shown as CSV")
-        _, saved = saved_table(staff, f"public-1999-01-01-{count}-of-14-files.csv")
-        about = f"{heading}: {count} of 14 files, found by “{words}”; {left} of which they see nothing left out."
+        _, saved = saved_table(staff, f"public-1999-01-01-{count}-of-14-files")
+        about = f"{heading}: {count} of 14 files, found by “{words}”; {left} more, hidden from them, left out."
         assert saved[:2] == ["Museum of the River", f"{about} {UNSAID}"], "a saved table looks as if it had all"
     assert (saved[2:4], saved[4][:14]) == (["1999-01-01", PAST], f"{TODAY}T12:")
     assert saved[5:8] == ["the public", EFFECTS["list"], UNSERVED["SEQ"][2:-1]]
@@ -87,7 +88,8 @@ def test_timeline_has_the_next_change_first_and_says_what_is_other_on_each_day(m
         staff.push("Change after")
         heading, public, _, _, *more = staff.texts("#timeline .day > *")
         words = "The public: {} to read, {} only in the list, {} hidden.".format(*counts)
-        assert (heading, public, more) == (f"Who gets what on {day}", words, ["What is other than today", *turns])
+        assert (heading, public) == (f"Who gets what on {day}, by the rules of {TODAY}, which may change until then", words)
+        assert more == ["What is other than today", *turns]
     staff.set("#timeline [type=range]", int(staff.one("#timeline [type=range]").get_property("min")))
     staff.read(lambda state: state["result"] == ["Read: 2025-06-15."])
     assert staff.text("#timeline .day h2") == f"Who gets what on 2025-06-15, {PAST}"

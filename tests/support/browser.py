@@ -143,10 +143,10 @@ class Page:
         return [line["message"] for line in self.driver.get_log("browser")]
 
     def saved(self, name):
-        """The bytes of a file that the page saved, once Chromium or Firefox has no bytes of it in another file."""
-        path = self.driver.downloads / name
-        others = lambda: [one for one in path.parent.iterdir() if one.suffix in (".crdownload", ".part")]
-        wait_for(f"a download with the name {name}", lambda: path.exists() and path.stat().st_size and not others())
+        """The bytes of a file that the page saved, by a pattern of its name, once no bytes of it are in another file."""
+        others = lambda: [one for one in self.driver.downloads.iterdir() if one.suffix in (".crdownload", ".part")]
+        found = lambda: [one for one in self.driver.downloads.glob(name) if one.stat().st_size and not others()]
+        [path] = wait_for(f"a download with the name {name}", found)
         data = path.read_bytes()
         path.unlink()
         return data
