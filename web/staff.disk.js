@@ -59,7 +59,7 @@ function fileRow(record) {
   const name = nameCell(record[COLUMNS.kind], record[COLUMNS.name]);
   const cells = [cell("Take down", tick), cell("Slot", slot, "number"), name, cell("Type", record[COLUMNS.type])];
   const verdicts = Object.entries(AUDIENCES).map(([audience, words]) =>
-    cell(words, box("span", "", `${mayWords(record, audience)} `, ruleShown(record, audience))),
+    cell(words, box("span", "", `${mayWords(record, audience, shown.asked)} `, ruleShown(record, audience))),
   );
   return row([...cells, cell("Bytes", size && Number(size).toLocaleString("en"), "number"), ...verdicts]);
 }
@@ -118,12 +118,13 @@ function saveShown() {
     const found = things.find((one) => one.label === label);
     return found ? [ruleWords(found.rule), found.origin] : ["", ""];
   };
-  const rowOf = ([record, audience]) =>
-    [...savedVerdict(record, audience, asked), ...deciding(record[EFFECT_AT[audience] + 1])];
+  const rowOf = ([file, who]) => [...savedVerdict(file, who, asked), ...deciding(file[EFFECT_AT[who] + 1])];
   const items = files.flatMap((record) => Object.keys(AUDIENCES).map((audience) => [record, audience]));
-  const about = `Who gets what of disk ${survey.accession}, all of its ${counted(files.length, "file")}. ${UNSAID}`;
+  const { accession, deed, donor, signed } = survey;
+  const whose = `under deed ${deed} of ${donor}, signed on ${signed}; taken in: ${things[0].origin}`;
+  const about = `Who gets what of disk ${accession}, ${whose}. It has all ${counted(files.length, "file")}. ${UNSAID}`;
   const heads = [...SAVED_HEADS, "what the rule says", PUT.toLowerCase()];
-  return saveTable(`disk-${survey.accession}-${asked.day}`, about, heads, items, rowOf);
+  return saveTable(`disk-${accession}-${asked.day}`, about, heads, items, rowOf);
 }
 
 // Puts a takedown of each file that is ticked, at a free rank, once all are rehearsed and agreed to.

@@ -2,7 +2,7 @@
 import { longTable, nameCell } from "./lists.js";
 import { searchText } from "./names.js";
 import { box, cell, counted, element, kindWords, part, row } from "./shared.js";
-import { dated, diskCell, formOf, work } from "./staff.desk.js";
+import { dated, diskCell, formOf, readHeld, work } from "./staff.desk.js";
 import { limitFields, options } from "./staff.ruleform.js";
 import { countWords } from "./staff.forecast.js";
 import { saveTable } from "./staff.saved.js";
@@ -24,8 +24,10 @@ async function read(day, tools) {
   let last = [];
   const kept = (text, at) => (text === last[at] ? last[at] : once(text));
   const take = (record) => files.push((last = [...record, searched(record)].map(kept)));
+  const deeds = day < today() ? await readHeld("deeds", tools.signal) : [];
+  const later = deeds.filter(({ signed }) => signed > day).map(({ deed, signed }) => [String(deed), signed]);
   await readVerdicts(day, take, tools);
-  seen = { ...asked, files };
+  seen = { ...asked, files, later: new Map(later) };
 }
 
 // Says of a file whether it is looked for: by a part of its name or its disk's title, by the disk's number or its rule.
@@ -70,7 +72,7 @@ function fileRow(file, audience) {
     cell("Slot", file[COLUMNS.slot], "number"),
     nameCell(file[COLUMNS.kind], file[COLUMNS.name]),
     cell("Type", file[COLUMNS.type]),
-    cell("They may", mayWords(file, audience)),
+    cell("They may", mayWords(file, audience, seen)),
     cell("Rule", box("span", "", `${file[EFFECT_AT[audience] + 1]} `, ruleShown(file, audience))),
   ]);
 }

@@ -14,8 +14,7 @@ const MOST = 100000;
 export const COLUMNS = ["When", "Who", "What", "Outcome", "Reason"];
 
 const BOUND = [
-  `the last ${PIECE >> 20} MB first and as much at each press; then what was put away, month by month`,
-  `of the last ${MONTHS / 12} years`,
+  `the last ${PIECE >> 20} MB first and as much at each press; then each month of the last ${MONTHS / 12} years`,
   `until it holds ${MOST.toLocaleString("en")} changes`,
 ].join(", ");
 
@@ -74,14 +73,14 @@ function draw() {
   form.elements.older.disabled = lines.isWhole || isFull();
 }
 
-// Reads it anew, so far back that it is enough, or else all. Gives the changes and, if there may be more, since when.
+// Reads it anew, so far back that it is enough, or else all. Gives the changes, how far back, and whether that is all.
 export async function readBack(isEnough, tools) {
   [lines, read, changes] = [new Lines(), new AllChanges(), []];
   while (!isEnough(changes) && !lines.isWhole && !isFull()) {
     await lines.readOlder((line) => read.take(line), () => read.oldest.slice(0, 7), tools);
     changes = read.inOrder();
   }
-  return { changes, since: lines.isWhole ? "" : timeOf({ moment: read.oldest }) };
+  return { changes, reach: timeOf({ moment: read.oldest }), isWhole: lines.isWhole };
 }
 
 // Where nginx has no file, or may not read it, the page says so.
@@ -120,7 +119,7 @@ function readAnew(tools) {
   return readOlder(tools);
 }
 
-const UNSAID = "It does not say what was changed by other ways than this page, nor whether a name is that of who wrote it.";
+const UNSAID = "It does not say what was changed by other ways, nor whether a name is that of who wrote it.";
 const HEADS = ["moment", "name", "reason", "what", "outcome", "method", "path", "status", "body"];
 
 function savedRecord(change) {

@@ -12,9 +12,6 @@ const LINE_FEED = 10;
 // The months without a file of which none comes any more: they are not asked for again.
 const absent = new Set();
 
-// Some bytes behind others.
-const joined = async (parts) => new Uint8Array(await new Blob(parts).arrayBuffer());
-
 const bytesOf = async (reply) => new Uint8Array(await loaded(reply.arrayBuffer()));
 
 // What a reply would be, or null where nginx refuses it with a status.
@@ -68,7 +65,7 @@ export class Lines {
     const places = /^bytes ([0-9]+)-[0-9]+\/([0-9]+)$/.exec(reply?.headers.get("Content-Range") ?? "");
     const [start, length] = places === null ? [0, 0] : places.slice(1).map(Number);
     if (reply === null || length < this.length) throw new Refused("rotated", {});
-    const whole = await joined([await bytesOf(reply), this.rest]);
+    const whole = await bytesOf(new Response(new Blob([await bytesOf(reply), this.rest])));
     const first = start === 0 ? 0 : whole.indexOf(LINE_FEED) + 1 || whole.length;
     Object.assign(this, { until: start, length, rest: whole.slice(0, first) });
     await eachLine(whole.subarray(first), take);

@@ -30,11 +30,11 @@ function originOf(thing, changes) {
   return same.findLast(({ status }) => status === "200") ?? same[0] ?? null;
 }
 
-function originWords(change, since) {
-  if (change === null) return since ? `not in the journal, which is read back to ${since}` : "not in the journal";
+function originWords(change, { reach, isWhole }) {
+  if (change === null) return reach ? `not in the journal, back to ${reach}` : "not in the journal";
   const { moment, name, reason } = change;
   const put = `${moment.replace("T", " ")} by ${name || "nobody who is named"}${reason && `: ${reason}`}`;
-  return since ? `${put} (or before ${since}, back to which the journal is read)` : put;
+  return isWhole ? put : `${put} (or before ${reach}, back to which the journal is read)`;
 }
 
 export const UNREAD = "not looked for in the journal";
@@ -43,9 +43,9 @@ export const PUT = "Put when, by whom, and why";
 // For each of some things that stand, the words that say who put it, when and why; and the changes that were read.
 export async function originsOf(things, tools) {
   const isEnough = (changes) => things.every((thing) => originOf(thing, changes));
-  const { changes, since, fault } = await readBack(isEnough, tools).catch((came) => ({ changes: [], fault: came }));
+  const { changes, fault, ...far } = await readBack(isEnough, tools).catch((came) => ({ changes: [], fault: came }));
   if (fault && (tools.signal?.aborted || !(fault instanceof Refused))) throw fault;
   const none = fault?.status === 404 ? "there is no journal" : "the journal cannot be read";
-  const origins = things.map((thing) => (fault ? none : originWords(originOf(thing, changes), since)));
+  const origins = things.map((thing) => (fault ? none : originWords(originOf(thing, changes), far)));
   return { origins, changes };
 }

@@ -3,7 +3,6 @@ import { holder } from "./about.js";
 import { csvText } from "./csv.js";
 import { inParts, save } from "./stream.js";
 
-// A table without items has one row that says so.
 export async function saveTable(name, about, heads, items, recordOf) {
   const said = [holder() || "(the museum's name was not found)", about];
   const texts = [csvText([["museum", "this table", ...heads], ...(items.length ? [] : [said])])];

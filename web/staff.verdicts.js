@@ -15,8 +15,8 @@ export function readVerdicts(day, take, { progress, signal }) {
   return readTable(`/staff/verdicts/${day}`, { take, signal, progress: (count) => progress(`Reading ${day}`, count) });
 }
 
-// The verdicts of the files of one disk on a day. The desk tells those of all disks, by their accessions: the page keeps
-// the lines of this one, and stops at the first line of a later one.
+// The verdicts of one disk on a day. The desk tells those of all disks, by accession: the page keeps the lines of this
+// one, and stops at the first line of a later one.
 export async function verdictsOf({ accession, files }, day, { progress, signal }) {
   const start = `\n${accession},`;
   let [text, length] = ["", 0];
@@ -37,15 +37,17 @@ export const given = (effect, isServed) => (effect === "read" && !isServed ? "li
 export const effectOf = (record, audience) => given(record[EFFECT_AT[audience]], record[COLUMNS.size] !== "");
 const MAY = { read: "read it", list: "see that it is there", deny: "see nothing of it" };
 
-// Why a file is only listed that a rule lets them read.
-function whyListed(record, audience) {
-  if (effectOf(record, audience) === record[EFFECT_AT[audience]]) return "";
-  const faults = record[COLUMNS.faults].split(" ").map(explained).join("; ");
-  return faults ? `damaged: ${faults}` : `the desk gives out no file of type ${record[COLUMNS.type]}`;
+// Why a file is only listed that a rule lets them read; and that its deed was signed later, where one of these has it.
+function because(record, audience, { later }) {
+  const [deed, faults] = [record[COLUMNS.deed], record[COLUMNS.faults].split(" ").map(explained).join("; ")];
+  const why = faults ? `damaged: ${faults}` : `the desk gives out no file of type ${record[COLUMNS.type]}`;
+  const isListed = effectOf(record, audience) !== record[EFFECT_AT[audience]];
+  const notThen = later?.has(deed) && `not then: deed ${deed} was signed on ${later.get(deed)}`;
+  return [isListed && why, notThen].filter(Boolean).join("; ");
 }
 
-export function mayWords(record, audience) {
-  const why = whyListed(record, audience);
+export function mayWords(record, audience, asked) {
+  const why = because(record, audience, asked);
   return `${MAY[effectOf(record, audience)]}${why && ` (${why})`}`;
 }
 
@@ -71,9 +73,10 @@ export const SAVED_HEADS = [
 ];
 
 // A verdict as a record of a table that says by itself what it is, also where it is saved on a later day.
-export function savedVerdict(record, audience, { day, rules, moment }) {
+export function savedVerdict(record, audience, asked) {
+  const { day, rules, moment } = asked;
   const [label, accession] = [record[EFFECT_AT[audience] + 1], record[COLUMNS.accession]];
-  const words = [MAY[effectOf(record, audience)], whyListed(record, audience), label, ruleMeaning(label)];
+  const words = [MAY[effectOf(record, audience)], because(record, audience, asked), label, ruleMeaning(label)];
   const name = shownName(record[COLUMNS.kind], record[COLUMNS.name]);
   return [
     ...[day, rules, moment, AUDIENCES[audience], ...words, accession, titleOf(Number(accession))],

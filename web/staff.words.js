@@ -12,7 +12,7 @@ export function listed(words) {
   return `${words.slice(0, -1).join(", ")} and ${words.at(-1)}`;
 }
 
-// The beginning of names as it is shown, where a code in it says that they are of the 1541.
+// (only names of the 1541 have codes from 80 hex on)
 const asShown = (words) => (/%[89A-F]/.test(words) ? ` (on the screen \u201c${shownName("d64", words)}\u201d)` : "");
 
 function printed(least, most) {

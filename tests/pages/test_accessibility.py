@@ -91,12 +91,15 @@ def view(request, driver, tmp_path_factory):
             page.push(button)
         yield page
 
-def test_each_control_has_a_name_of_its_own(view):
+def test_each_control_has_a_name_of_its_own_and_headings_skip_no_level(view):
     nodes = [node for node in view.cdp("Accessibility.getFullAXTree")["nodes"] if not node["ignored"]]
     due = [node for node in nodes if node["role"]["value"] in NAMED]
     assert [node for node in due if not node["name"]["value"].strip()] == []
     ids = view.script("return Array.from(document.querySelectorAll('[id]'), (one) => one.id)")
     assert due and len(set(ids)) == len(ids)
+    levels = view.script(HEADINGS)
+    assert levels and levels.count(1) <= 1 and levels[0] == min(levels)
+    assert all(level <= before + 1 for before, level in zip(levels, levels[1:]))
 
 def test_page_without_javascript_says_what_there_is_and_leads_to_it(reader):
     reader.cdp("Emulation.setScriptExecutionDisabled", value=True)
@@ -108,11 +111,6 @@ def test_page_without_javascript_says_what_there_is_and_leads_to_it(reader):
         assert not reader.one("#key-box").is_displayed()
     finally:
         reader.cdp("Emulation.setScriptExecutionDisabled", value=False)
-
-def test_headings_skip_no_level(view):
-    levels = view.script(HEADINGS)
-    assert levels and levels.count(1) <= 1 and levels[0] == min(levels)
-    assert all(level <= before + 1 for before, level in zip(levels, levels[1:]))
 
 def test_text_has_the_contrast_of_level_aa_in_dark_and_light(view):
     for scheme in ("dark", "light"):

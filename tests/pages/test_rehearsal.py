@@ -161,7 +161,7 @@ def test_takedowns_go_on_where_the_connection_was_lost(museum, takedowns):
         takedowns.wait(lambda state: state["heading"] == heading)
     is_seen.set()
     said = takedowns.read(lambda state: state["result"])["result"]
-    assert said[:1] == ["2 takedowns put, 1 failed, 1 not sent yet."], "a report is lost where somebody leaves and returns"
+    assert said[:1] == ["2 takedowns put, 1 failed, 1 not sent yet."], "a report is lost by leaving"
     assert [sorted(museum.rules.get(f"T{disk}", {})) for disk in DISKS] == [[990, 1000], [1000], [], []]
     assert takedowns.push("Go on with the rest")["result"][0] == "4 takedowns put, 0 failed."
     assert [sorted(museum.rules.get(f"T{disk}", {})) for disk in DISKS] == [[990, 1000], [1000], [1000], [1000]]

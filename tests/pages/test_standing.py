@@ -8,7 +8,8 @@ from support.samples import digest
 EVERYBODY = "the public, the reading room and the staff"
 RULE_20 = ["20", EVERYBODY, "all files", "read them", "on all days", "ChangeDrop"]
 STAFF, OTHER, RESTORE = digest(b"abc"), digest(b"another"), " Restore a backup of what is changed."
-START, NOT, NOBODY = 1_800_000_000, "not in the journal", "Nobody can use it any more."
+START, NOBODY = 1_800_000_000, "Nobody can use it any more."
+NOT = f"not in the journal, back to {moment(START)[:19].replace('T', ' ')}"
 
 def test_deed_is_put_with_name_and_reason(staff):
     """They go as percent-encoded UTF-8, which may have 1,000 bytes. Without one of them nothing is sent."""

@@ -70,6 +70,8 @@ def test_day_that_is_over_is_said_to_be_by_rules_of_today_and_a_saved_table_says
         assert saved[:2] == ["Museum of the River", f"{about} {UNSAID}"], "a saved table looks as if it had all"
     assert (saved[2:4], saved[4][:14]) == (["1999-01-01", PAST], f"{TODAY}T12:")
     assert saved[5:8] == ["the public", EFFECTS["list"], UNSERVED["SEQ"][2:-1]]
+    later = "see nothing of it (not then: deed 7 was signed on 2019-05-04)"
+    assert look(staff, "1999-01-01", closed=True, words="1004")["rows"][0][5] == later, "a day before the deed"
 
 def test_timeline_has_the_next_change_first_and_says_what_is_other_on_each_day(museum, staff):
     museum.rules["R9"][5] = museums.rule(5, "deny", ["public"], {"slot": 0}, *DAYS[:2])
@@ -88,7 +90,8 @@ def test_timeline_has_the_next_change_first_and_says_what_is_other_on_each_day(m
         staff.push("Change after")
         heading, public, _, _, *more = staff.texts("#timeline .day > *")
         words = "The public: {} to read, {} only in the list, {} hidden.".format(*counts)
-        assert (heading, public) == (f"Who gets what on {day}, by the rules of {TODAY}, which may change until then", words)
+        due = f"Who gets what on {day}, by the rules of {TODAY}, which may change until then"
+        assert (heading, public) == (due, words)
         assert more == ["What is other than today", *turns]
     staff.set("#timeline [type=range]", int(staff.one("#timeline [type=range]").get_property("min")))
     staff.read(lambda state: state["result"] == ["Read: 2025-06-15."])

@@ -143,7 +143,7 @@ class Page:
         return [line["message"] for line in self.driver.get_log("browser")]
 
     def saved(self, name):
-        """The bytes of a file that the page saved, by a pattern of its name, once no bytes of it are in another file."""
+        """The bytes of a file that the page saved, by a pattern of its name, once none of them are in another file."""
         others = lambda: [one for one in self.driver.downloads.iterdir() if one.suffix in (".crdownload", ".part")]
         found = lambda: [one for one in self.driver.downloads.glob(name) if one.stat().st_size and not others()]
         [path] = wait_for(f"a download with the name {name}", found)
