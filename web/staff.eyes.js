@@ -38,7 +38,6 @@ function finder(words, audience) {
   return (file) => file[SEARCHED].includes(words) || isNumbered(file) || isOnTitled(file);
 }
 
-// What is asked for now.
 function wanted() {
   const { audience, words, closed } = formOf("eyes").elements;
   return { audience: audience.value, words: words.value.trim().toLowerCase(), showsClosed: closed.checked };
@@ -111,7 +110,7 @@ async function look(tools) {
 }
 
 export function open() {
-  formOf("eyes").elements.day.value ||= today();
+  formOf("eyes").elements.day.value = today();
 }
 
 export function listen() {

@@ -136,9 +136,10 @@ async function saveShown() {
   return saveTable(name, about, HEADS, shown, savedRecord);
 }
 
-// Shows the journal, of one disk where its number is given.
+// Shows the journal, of one disk where its number is given, and else all.
 export function openJournal(accession, tools) {
-  if (accession) formOf("journal").elements.accession.value = accession;
+  formOf("journal").reset();
+  formOf("journal").elements.accession.value = accession ?? "";
   return readAnew(tools);
 }
 
@@ -149,6 +150,7 @@ export function listenForJournal() {
   part("journal").querySelector(".bound").textContent = BOUND;
   form.addEventListener("submit", () => draw());
   [accession, deed, words, day, checks].forEach((field) => field.addEventListener("change", draw));
+  accession.addEventListener("change", () => history.replaceState(null, "", `#/journal/${accession.value}`));
   older.addEventListener("click", goOn);
   anew.addEventListener("click", () => work("journal", readAnew));
   button.addEventListener("click", saveShown);

@@ -30,7 +30,7 @@ let taken = false;
 const own = Promise.all([readTitles(["titles.csv", "staff.titles.csv"]), readAbout()]);
 
 function place() {
-  const [, name, number] = /^#\/([a-z]+)(?:\/([1-9][0-9]{0,5}))?$/.exec(location.hash) ?? [];
+  const [, name, number] = /^#\/([a-z]+)(?:\/([1-9][0-9]{0,5})?)?$/.exec(location.hash) ?? [];
   return Object.hasOwn(VIEWS, name ?? "") ? { name, number } : { name: "deeds" };
 }
 

@@ -95,7 +95,6 @@ async function readDay(day, before, tools) {
     const [text, accession, slot] = [now.join(), record[COLUMNS.accession], record[COLUMNS.slot]];
     if (!alike.has(text)) alike.set(text, { now, count: 0 });
     alike.get(text).count += 1;
-    // what is not compared with another day is not kept
     if (!before && !effects.has(accession)) effects.set(accession, []);
     if (!before) effects.get(accession)[slot] = alike.get(text).now;
     const old = before?.get(accession)?.[slot] ?? now;
