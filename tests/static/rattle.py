@@ -56,8 +56,7 @@ def proof_folders(path, name):
     return [folder for folder, parts in found if folder.startswith(f"{module}/") or {*types} & {*parts}]
 
 def pairs_of(path):
-    """The changes of a wrong body, one after the other: the file, the old text and the new one of each. None where it
-    has another form."""
+    """The changes of a wrong body: the file, the old text and the new one of each. None where it has another form."""
     text, folder, found = text_of(path), "/".join(path.split("/")[:2]), []
     for part in re.split(r"(?m)^file: ", text)[1:] if EDIT.fullmatch(text) else ():
         file = f"{folder}/{part.splitlines()[0].strip()}"

@@ -51,8 +51,8 @@ def test_line_of_a_crate_is_written_once_all_is_tried(monkeypatch, tmp_path, cam
     assert ("rd_cpm" in TOOL["due"]()) == ("2 of 2" not in line)
 
 def test_no_check_begins_once_the_time_is_over():
-    came, left = TOOL["try_crate"](None, types.SimpleNamespace(name="rd_cpm"), 0)
-    assert not came and len(left) == len(TOOL["edits_of"]("rd_cpm"))
+    tried = TOOL["try_crate"](None, types.SimpleNamespace(name="rd_cpm"), 0)
+    assert [*map(len, tried)] == [0, len(TOOL["edits_of"]("rd_cpm"))]
 
 def test_digest_is_of_what_a_trial_reads(monkeypatch, tmp_path):
     monkeypatch.setitem(TOOL, "ROOT", tmp_path)
