@@ -7,7 +7,7 @@ from support.samples import digest, refused, reply
 from support.stand_in import refused_by_nginx
 
 # A script: what the desk says to who asks with the page's own key.
-ASK = """return import("/shared.js").then(async (it) => (await fetch("/staff/keys", { headers: it.fields() })).status);"""
+ASK = """return import("/shared.js").then(async (a) => (await fetch("/staff/keys", { headers: a.fields() })).status);"""
 
 def give(staff, key):
     staff.one("#key").send_keys(key)

@@ -31,7 +31,6 @@ def test_those_that_a_test_refuses_name_it():
         assert not named or any(named[2] or f"fn {named[3]}(" in test.read_text() for test in tests), path
 
 def test_each_crate_was_tried_as_it_is(request):
-    """Or says why it has no wrong bodies. Names those that were not; only a release fails for them."""
     due = TOOL["due"]()
     told = f"without a line of their text as it is, or with an edit that is not refused: {' '.join(due)}"
     assert not (due and request.config.getoption("--release")), told
