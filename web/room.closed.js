@@ -1,7 +1,7 @@
 // What is closed to the reader: how many files of a disk, by which rules, and why one of them is.
-import { kept, nameOfDisk, nameOfFile } from "./room.lists.js";
+import { kept, nameOfDisk, nameOfFile, typeWords } from "./room.lists.js";
 import { facts, link } from "./room.parts.js";
-import { ask, box, counted, element, keyInUse, meaning, textOf } from "./shared.js";
+import { ask, box, counted, element, meaning, textOf } from "./shared.js";
 import { pause } from "./stream.js";
 import { noteOf } from "./titles.js";
 
@@ -55,21 +55,20 @@ function othersOf({ accession, kind, slot, rule }, all) {
   return others.length ? box("span", "", count, links.length ? ": " : "", ...links) : null;
 }
 
-// Why a file is closed: what the museum says of the disk, which rule decides, and which other files that closes. A rule
-// that lists a file lists the others, too.
+// Why a file is closed: what the museum says of the disk, which rule decides, and which other files that closes.
 export function whyClosed(file, listed) {
   const { accession, files, rule } = file;
   const [, kind, deed] = /^([RT])(\d+)/.exec(rule) ?? [];
   const is = kind === "T" ? "A takedown is how the staff closes files. Name it" : `${deedWords(deed)}Name this rule`;
-  const words = `${meaning(rule)} (${rule}).`;
-  const why = kind ? `Closed by ${words} ${is} when you ask.` : `Closed: ${words}`;
-  const seen = listed?.size === null ? "name and type" : "name, type and size";
-  const shown = listed ? `its ${seen}, but not what is in it` : "nothing of it but its place: its name is closed, too";
-  const key = keyInUse() ? null : element("p", "A key of the museum's reading room may open it.");
-  const note = noteOf(accession) && `${nameOfDisk(accession)}: ${noteOf(accession)}`;
-  const list = Object.assign(facts({ "The museum says": note, "What decides": why }), { ariaLive: "polite" });
+  const why = `Closed${kind ? " by" : ":"} ${meaning(rule)} (${rule}).${kind ? ` ${is} when you ask.` : ""}`;
+  const size = listed && listed.size !== null && counted(listed.size, "byte");
+  const known = listed && [typeWords(file.kind, listed) || listed.type, size].filter(Boolean).join(", ");
+  const shown = listed ? "that it is there, not what is in it" : "nothing of it but its place: its name is closed, too";
+  const note = noteOf(accession) && `\u201c${nameOfDisk(accession)}\u201d: ${noteOf(accession)}`;
+  const said = { "The museum says of": note, "What it is": known, "What decides": why };
+  const list = Object.assign(facts(said), { ariaLive: "polite" });
   const all = listed ? Promise.resolve(files) : closedOn(accession, files);
   const more = kind ? "It also closes" : "The same holds for";
   all.then((some) => list.append(...facts({ [more]: othersOf(file, some) }).children)).catch(() => {});
-  return box("div", "refused", element("p", `This file is closed to you. You may see ${shown}.`), list, key);
+  return box("div", "refused", element("p", `This file is closed to you. You may see ${shown}.`), list);
 }

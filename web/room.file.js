@@ -20,7 +20,7 @@ NARROW.addEventListener("change", () => part("bytes") && showAnew());
 
 // The ways to show bytes: an id and a word of each one's button, what to say of it, and its text or its picture.
 function viewsOf(kind, type, bytes) {
-  const views = kind === "cpm8" ? cpmViews(bytes) : cbmViews(bytes);
+  const views = kind === "cpm8" ? cpmViews(bytes, type) : cbmViews(bytes);
   const text = () => hexText(bytes, NARROW.matches ? 8 : 16);
   const isProgram = views.length === 0 && kind !== "cpm8" && type === "PRG";
   const says = `${isProgram ? noListing(bytes) : "Shown as bytes"}: the place, hexadecimal digits, and ASCII.`;
@@ -38,11 +38,12 @@ function noListing(bytes) {
   return `This is not a BASIC program: it loads at ${addressWords(at)}, ${more}. Here are its bytes`;
 }
 
-function cpmViews(bytes) {
+function cpmViews(bytes, type) {
   const plain = cpmText(bytes);
   const text = plain ?? wordStarText(bytes);
-  const says = plain === null ? "Shown as text of WordStar, without its marks for print." : "Shown as text.";
-  return text === null ? [] : [{ id: "as-text", word: "Text", says, text: () => text }];
+  const [word, read] = type === "BAS" ? ["Listing", "Shown as a listing of BASIC."] : ["Text", "Shown as text."];
+  const says = plain === null ? "Shown as text of WordStar, without its marks for print." : read;
+  return text === null ? [] : [{ id: "as-text", word, says, text: () => text }];
 }
 
 // Those of the 1541 are in either set of letters: a listing at first in that with which the machine starts.

@@ -11,7 +11,7 @@ from support.stand_in import refused_by_nginx
 UMLAUTS = "Schlüssel für den Raum\u00a0"
 AS_PUBLIC, BY_KEY = "I have a key", "You read with a key"
 OPEN, ALL = ([f"Disk {number}" for number in range(1001, end)] for end in (1004, 1007))
-CLOSED, KEY = "This file is closed to you. You may see %s.", "A key of the museum's reading room may open it."
+CLOSED = "This file is closed to you. You may see %s."
 TAKEDOWN = "Closed by takedown 1 of disk %d (T%d.1). A takedown is how the staff closes files. Name it when you ask."
 WELCOME = ["WELCOME.TXT", "TXT text", "896"]
 UNREAD = "Damaged the drive could not read a block of it"
@@ -42,7 +42,7 @@ def test_caller_sees_the_disks_of_their_audience(reader, key, asks, disks):
     rules = {"1004/0": [f"Closed by rule 10 of deed 7 (R7.10). {deed}", "1 other file of this disk"],
              "1003/1": [TAKEDOWN % (1003, 1003)], "1007/0": ["Closed: no rule lets you see it (D0)."]}
     for place, rule in rules.items():
-        refusal = [CLOSED % "nothing of it but its place: its name is closed, too", *rule, *[KEY] * (asks == AS_PUBLIC)]
+        refusal = [CLOSED % "nothing of it but its place: its name is closed, too", *rule]
         reader.go(place)
         reader.read(lambda state: state["refusal"] == ([] if is_staff and place != "1007/0" else refusal))
 
@@ -51,12 +51,12 @@ def test_each_file_leads_to_its_page_and_one_that_is_closed_says_why_there_and_i
     shown = reader.go("1001")
     why = "Listed only takedown 1 of disk 1001 has closed it"
     assert (shown["rows"][0], shown["links"]) == ([*WELCOME, why], [f"#/1001/{slot}" for slot in "0011"])
-    alone = [CLOSED % "its name, type and size, but not what is in it", TAKEDOWN % (1001, 1001), KEY]
+    alone = [CLOSED % "that it is there, not what is in it", "text, 896 bytes", TAKEDOWN % (1001, 1001)]
     assert reader.go("1001/0")["refusal"] == alone and reader.go("1001")
     rules = "takedown 1 of disk 1001 (T1001.1) about 1 file, rule 20 of deed 9 (R9.20) about 1 file."
     assert f"What decides here: {rules}" in reader.text("#view")
     museum.rules["R9"][10] = museums.rule(10, "list", ["public"])
-    assert reader.go("1002/0")["refusal"][2:] == [f"2 other files of this disk: {'-' * 16}, GUIDE", KEY]
+    assert reader.go("1002/0")["refusal"][3:] == [f"2 other files of this disk: {'-' * 16}, GUIDE"]
     why = "Listed only rule 10 of deed 9 lets you see no more"
     assert reader.go("1003")["rows"][0] == ["LOGBOOK", "SEQ text or data", "", why]
     del museum.rules["R9"][10]
@@ -93,8 +93,8 @@ def test_desk_that_has_nothing_or_does_not_answer_is_said(museum, reader):
     assert reader.push("Try again")["disks"] == OPEN and reader.go("1004/0")
     wait_for("the refusal", lambda: [path for _, path, _ in reader.door.visits if path.endswith("1004/files/1")])
     reader.door.before = lambda method, path: None
-    assert reader.read()["refusal"][2:] == [KEY] and reader.go("1004") and reader.go("1004/0")
-    reader.wait(lambda state: state["refusal"][2:] == ["1 other file of this disk", KEY], "what the desk tells now")
+    assert reader.read()["refusal"][2:] == [] and reader.go("1004") and reader.go("1004/0")
+    reader.wait(lambda state: state["refusal"][2:] == ["1 other file of this disk"], "what the desk tells now")
     museum.images.clear()
     assert reader.go("") and reader.load() and reader.text("#view") == "There is no disk of which you may see a file."
 

@@ -234,6 +234,7 @@ def test_disk_with_most_files_and_a_picture_is_found_and_short_on_a_phone_beside
     chips = {"Programs (BASIC, machine code) 14", "Pictures 1", "REL records or compiled code 1"}
     assert {*reader.go("?type=PRG")["chips"]} >= chips and "FILE 0" not in reader.read()["matches"]
     assert reader.find("BASIC")["disks"][0] == "Disk 2004", "what is surely BASIC before what may be"
+    assert reader.go("2004/0") and "Shown as a listing of BASIC." in reader.texts("#view p")
     assert {"HELLO", "FILE 0"} & {*reader.find("BASIC programs")["matches"]} == {"HELLO"}
     assert reader.find("<IMG")["matches"] == [HARMFUL[2].upper()] and reader.harmed() == [None, 0]
     assert reader.go("?sort=files")["disks"][:2] == ["Disk 2003", "Disk 2001"]
@@ -246,7 +247,7 @@ def test_disk_with_most_files_and_a_picture_is_found_and_short_on_a_phone_beside
             reader.wait(lambda state: reader.script("return window.innerWidth") == width)
             assert reader.script("return document.querySelector('table').offsetHeight") <= 1100
     museum.rules["T2001"] = {1: museums.rule(1, "list", ["public"])}
-    assert HARMFUL[2].upper() in reader.go("2001/3")["refusal"][2] and reader.harmed() == [None, 0]
+    assert HARMFUL[2].upper() in reader.go("2001/3")["refusal"][3] and reader.harmed() == [None, 0]
 
 def zip_says(reader, words):
     wait_for(f"{words!r} beside the button of the zip", lambda: words in "".join(reader.texts("[role=status]")))

@@ -70,7 +70,7 @@ def test_room_is_the_museums_in_head_foot_title_and_refusals(museum, tmp_path, r
     assert reader.script(links, "#foot a") == ["mailto:room@museum.example", f"{reader.door.address}imprint.html"]
     assert reader.texts("#foot p")[0] == "Museum of the River, Lower Valley" and "one" not in reader.text("#foot")
     museum.rules["T1001"] = {1: museums.rule(1, "deny", ["public"], {"slot": 0})}
-    of, there = "Letters of a Férryman", "Letters of a Férryman: Written on the river, 1983 to 1986"
+    of, there = "Letters of a Férryman", "“Letters of a Férryman”: Written on the river, 1983 to 1986"
     subjects = {"1001": f"1001: {of}", "1003/0": "1003, slot 0: LOGBOOK", "1001/0": f"1001, slot 0: {of}",
                 "1001/1": f"1001, slot 1: SKEW.TXT on {of}"}
     for place, subject in subjects.items():
