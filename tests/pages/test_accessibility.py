@@ -112,13 +112,11 @@ def test_page_without_javascript_says_what_there_is_and_leads_to_it(reader):
     finally:
         reader.cdp("Emulation.setScriptExecutionDisabled", value=False)
 
-def test_text_has_the_contrast_of_level_aa_in_dark_and_light(view):
+def test_text_has_contrast_in_dark_and_light_and_nothing_is_cut_off_on_a_phone_or_at_200_percent(view):
     for scheme in ("dark", "light"):
         view.cdp("Emulation.setEmulatedMedia", features=[{"name": "prefers-color-scheme", "value": scheme}])
         assert view.script(CONTRAST) == [], scheme
         assert {part > 127 for part in view.script(PAPER)} == {scheme == "light"}
-
-def test_nothing_is_cut_off_on_a_phone_or_in_a_window_of_1280_points_at_200_percent(view):
     for width in (320, 360, 640):
         with view.phone(width):
             view.wait(lambda state: view.script("return window.innerWidth") == width)

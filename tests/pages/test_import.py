@@ -1,5 +1,4 @@
-"""Dumps of disks: found by a sheet or numbered by hand, described, compared, shown, and put once that is agreed; what
-is wrong is not sent. What the page reads on a dump and foretells is what the desk says after the import."""
+"""Dumps of disks: found, described, compared, put once that is agreed; what is foretold is what the desk then says."""
 
 import itertools
 import random
