@@ -25,7 +25,7 @@ ASKED = {
         *(get(f"/staff/{path}", STAFF) for path in ("deeds", "takedowns", "keys", "checks", f"verdicts/{DAY}")),
         *(put(path, RULE) for path in REHEARSED), *(drop(path) for path in REHEARSED), drop(badge("reader")),
         drop("/images/15/rules/1"), drop("/deeds/9/rules/1"), *(get(f"/images/{acc}", STAFF) for acc in samples.IMAGES),
-    ],
+        get(f"/staff/verdicts/{DAY}/15", STAFF)],
     400: [put("/deeds/10", {"donor": "D"})],
     401: [get("/images", NOBODY), get("/staff/keys", NOBODY)],
     403: [survey(12, ROOM), get("/images/12/files/0"), put("/deeds/10", DEED, None)],

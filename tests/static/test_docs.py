@@ -21,6 +21,7 @@ KIT = ("clap", "csv", "hex", "httparse", "itoa", "jiff", "matchit", "serde", "se
 OTHER_NAMES = ("HasCleanDisk", "UTC0", "Wary", "id", "inconsistent", "requires", "sqlite3", "u8")
 ASKED = {"cat", "check", "export", "import", "init", "list", "serve", "show"}
 ARCHITECTURE, PROMISES = "docs/ARCHITECTURE.md", "docs/PROMISES.md"
+GONE = re.compile(r"\b(enum|struct|record|data) (way|fate|beside|sift|noted|told)\b")
 FOLDERS = ("README.md", "records/README.md", "docs/*.md", "crates/*/README.md")
 PAGES = sorted(str(page.relative_to(ROOT)) for pages in FOLDERS for page in ROOT.glob(pages))
 of_each_page = pytest.mark.parametrize("page", PAGES)
@@ -84,3 +85,12 @@ def test_ways_name_functions():
     named = set(re.findall(r"`(\w+)`", "".join(re.findall(STEP, ways)))) - {*KIT}
     sources = [str(path.relative_to(ROOT)) for path in ROOT.glob("crates/*/src/**/*.rt")]
     assert named and not named - {name for path in sources for name in rattle.items(path)}
+
+def test_words_are_those_of_the_sources():
+    """Each term of the table of words is a word of its crates, where no type has a name that says nothing."""
+    rows = re.findall(r"(?m)^\| ([^|`]+) \| [^|]+ \| (`rd_[^|]+) \|", sections(ARCHITECTURE)["Words"])
+    assert 30 <= len(rows) <= 40
+    for terms, crates in rows:
+        files = [file for crate in re.findall(r"rd_\w+", crates) for file in (rattle.CRATES / crate).glob("s*/**/*.*t")]
+        text = " ".join(file.read_text(encoding="utf-8").lower() for file in files)
+        assert all(re.search(rf"\b{term}s?\b", text) for term in terms.split(", ")) and not GONE.search(text), terms

@@ -37,7 +37,7 @@ def test_paths_and_methods_are_those_of_the_page_and_the_code():
     pairs = [(path, methods) for paths, methods, _ in rows for path in re.findall(r"`([^`]*)`", paths)]
     assert {in_braces(path): set(methods.lower().split(", ")) for path, methods in pairs} == {
         path: set(item) for path, item in HERE.items()}
-    assert set(HERE) == set(re.findall(r'"(/[^"]*)",\s*Pattern::', text_of("crates/rd_messages/src/pattern.rt")))
+    assert set(HERE) == set(re.findall(r'\(\s*"(/[^"]*)",', text_of("crates/rd_messages/src/table.rt")))
 
 @pytest.mark.parametrize("path", HERE)
 def test_parts_of_a_path_are_declared(path):

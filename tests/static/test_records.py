@@ -9,12 +9,10 @@ from static import formats, rattle, records
 from static.rattle import ROOT, parts_of, text_of
 
 # What a record has to have: of each item one of the words. A note says why there is none.
-DUE = {
-    "rule": ["page", "defined", "coded", "tested", "refused note"],
-    "promise": ["clause note", "tested note"],
+DUE = {"rule": ["page", "defined", "coded", "tested", "refused note"], "promise": ["clause note", "tested note"],
     "unproved": ["coded", "tested note"]}
 # The crates whose src/ is tests, and nothing else; and what makes a function a test.
-TESTS = ("rd_disk_tests", "rd_policy_tests", "rd_tests", "rd_stop_runs")
+TESTS = ("rd_disk_tests", "rd_tests", "rd_stop_runs")
 TEST = r"#\[test\](?:\s*(?:#\[.*\]|//.*))*\s*(?:pub(?:\([^)]*\))? )?fn {}\b"
 
 def is_page(_, path, name):
@@ -27,8 +25,7 @@ def is_coded(record, path, name):
 
 def is_tested(record, path, name):
     """Whether a trial has this visit, run or note; a file of runs this run; a test this text or function; or a file for
-    pytest this test, or any. What shows a promise, or what no clause says, is a test itself, and no function that tests
-    call."""
+    pytest this test, or any. What shows a promise, or what no clause says, is itself a test, not what tests call."""
     (crate, folder, inside), word, text = parts_of(path), re.escape(name), text_of(path)
     if re.fullmatch(r"tests/\w+/test_\w+\.py", path):
         return re.search(rf"(?m)^ *def {word}\b" if name else r"(?m)^ *def test_", text)
@@ -43,8 +40,7 @@ def is_tested(record, path, name):
     return is_called if record.kind == "rule" else re.search(TEST.format(word), text)
 
 # What is behind a word: whether it is there, by the record, the path and the name.
-THERE = {
-    "page": is_page, "coded": is_coded, "tested": is_tested,
+THERE = {"page": is_page, "coded": is_coded, "tested": is_tested,
     "defined": lambda _, path, name: parts_of(path)[1] == "specs" and rattle.has_definition(path, name),
     "refused": lambda _, path, name: path.endswith(".edit") and text_of(path) and not name,
     "file": lambda _, path, name: parts_of(path)[1] == "specs" and path.endswith(".antt") and text_of(path),

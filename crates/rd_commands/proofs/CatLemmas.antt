@@ -58,9 +58,9 @@ faulty_file kind slot image file has served some =
     })
 
 -- the faults that are told of a file are those of the file at its slot
-told_bits : (kind : Kind) (image : List ℕ) (file : Found) → IsFound kind image file → AreFaultsOf kind image file.slot file.faults
-told_bits Cpm8 image file described = described.faults
-told_bits _ image file described = record { blocks = described.blocks; are_blocks = described.are_blocks; holds = described.holds.faults }
+found_faults : (kind : Kind) (image : List ℕ) (file : Found) → IsFound kind image file → AreFaultsOf kind image file.slot file.faults
+found_faults Cpm8 image file described = described.faults
+found_faults _ image file described = record { blocks = described.blocks; are_blocks = described.are_blocks; holds = described.holds.faults }
 
 -- so it is faulty by these
 pub faulty_by : (kind : Kind) (slot : ℕ) (image : List ℕ) (file : Found) → HasFound kind image slot file → IsTrue file.served_class → file.faults ≢ 0
@@ -68,7 +68,7 @@ pub faulty_by : (kind : Kind) (slot : ℕ) (image : List ℕ) (file : Found) →
 faulty_by kind slot image file has served some = record {
   file = faulty_file kind slot image file has served some;
   same_kind = refl;
-  are_faults = subst (λ s. AreFaultsOf kind image s file.faults) has.at (told_bits kind image file has.described);
+  are_faults = subst (λ s. AreFaultsOf kind image s file.faults) has.at (found_faults kind image file has.described);
 }
 
 -- the bytes of a file that is found, of that class and with no fault

@@ -18,8 +18,8 @@ pub gains_lines : {T E : Type 0} (r : Result T E) (old new : Option (List ℕ)) 
 gains_lines r old new bytes are done cut = (bytes, are, part_either r old new bytes done cut)
 
 -- of no bytes nothing is written
-pub nothing_told : (old new : Option (List ℕ)) (bytes : List ℕ) → bytes ≡ [] → AppendsPart old new bytes → Keeps old new
-nothing_told old new bytes none part =
+pub nothing_written : (old new : Option (List ℕ)) (bytes : List ℕ) → bytes ≡ [] → AppendsPart old new bytes → Keeps old new
+nothing_written old new bytes none part =
     keeps_by_nothing old old new (Keeps-refl old) (subst (Appends old new) (no_front part.part part.rest (sym none ∙ part.whole)) part.gained)
   where
     no_front : (front rest : List ℕ) → [] ≡ front ++ rest → front ≡ []

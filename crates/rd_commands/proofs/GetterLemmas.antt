@@ -24,13 +24,13 @@ use Rattle.rd_policy.specs.declared.zone.Zone.{Zone}
 use Rattle.rd_policy.specs.declared.zone.ZoneFault.{ZoneFault}
 use Rattle.rd_geometry.specs.Kinds.{word_of}
 use Rattle.clap.specs.declared.error.kind.ErrorKind.{ErrorKind}
-use Rattle.rd_commands.specs.Asks.{EntersAs, EntersByRule, EntersCat, EntersCheck, EntersCopy, EntersExport, EntersFiles, EntersImport, EntersInit, EntersList, EntersNaming, EntersNamingNone, EntersNoPlace, EntersServe, EntersShow, EntersSift, EntersStaffKey, EntersSumming, EntersTelling, EntersTimed, HasTimeouts, IsCopyAsk, IsExtractAsk, IsFaultOf, IsFileAsk, IsFilesAsk, IsForMemory, IsHelp, IsImportAsk, IsInitAsk, IsMistake, IsMomentNamed, IsOneQuestionAsk, IsServeAsk, IsSiftAsk, IsStaffKeyAsk, IsWithinLimits, TellsOnOutput, has_sums, EntersTrusting, is_trusting}
+use Rattle.rd_commands.specs.Asks.{EntersAs, EntersByRule, EntersCat, EntersCheck, EntersCopy, EntersExport, EntersFiles, EntersImport, EntersInit, EntersList, EntersNaming, EntersNamingNone, EntersNoPlace, EntersServe, EntersShow, EntersFlaggedImport, EntersStaffKey, EntersSumming, EntersTelling, EntersTimed, HasTimeouts, IsCopyAsk, IsExtractAsk, IsFaultOf, IsFileAsk, IsFilesAsk, IsForMemory, IsHelp, IsImportAsk, IsInitAsk, IsMistake, IsMomentNamed, IsOneQuestionAsk, IsServeAsk, IsFlaggedImportAsk, IsStaffKeyAsk, IsWithinLimits, TellsOnOutput, has_sums, EntersTrusting, is_trusting}
 use Rattle.rd_commands.specs.CommandLine.{AsksForHelp, Enters, HasFault, IsDeskApp, IsTaken, IsTakenAs, IsTakenTelling, NameList, desk_app}
-use Rattle.rd_commands.specs.Commands.{AsksCheck, AsksCopy, AsksExport, AsksFiles, AsksImport, AsksInit, AsksServe, AsksShow, AsksSift, AsksStaffKey, IsAskOf, IsCommand, IsTakenServingNowhere, IsTakenShowingNothing, NamesWhatItShows, Sums, TellsARule, Trusts}
-use Rattle.rd_commands.specs.Beside.{EntersApart, IsTakenApart}
+use Rattle.rd_commands.specs.Commands.{AsksCheck, AsksCopy, AsksExport, AsksFiles, AsksImport, AsksInit, AsksServe, AsksShow, AsksFlaggedImport, AsksStaffKey, IsAskOf, IsCommand, IsTakenServingNowhere, IsTakenShowingNothing, NamesWhatItShows, Sums, TellsARule, Trusts}
+use Rattle.rd_commands.specs.CommonOptions.{EntersApart, IsTakenApart}
 use Rattle.rd_commands.specs.Serving.{Place}
 use Rattle.rd_commands.specs.Words.{AsksCat, AsksList, IsSlotText}
-use Rattle.rd_commands.specs.Zones.{HasClocks, IsFlagTold, rule_text}
+use Rattle.rd_commands.specs.Zones.{HasClocks, IsFlagGiven, rule_text}
 use Rattle.rd_commands.specs.declared.words.Ask.{Ask}
 use Rattle.rd_commands.specs.declared.words.Question.TheVariants.{Catalogue, Check, Show}
 use Rattle.rd_commands.specs.declared.words.Shown.{Shown}
@@ -64,10 +64,10 @@ zone_ruled (Ok zone) o rule is taken = subst (λ x. OnSome x (IsZoneRule rule)) 
 zone_ruled (Err fault) o rule is taken = subst (λ x. OnSome x (IsZoneRule rule)) (sym is) tt
 
 -- of a rule a zone is read
-pub zone_told : (read : Result Zone ZoneFault) (zone : Option Zone) (rule : Text) → zone ≡ result_ok read → (IsOk read ↔ IsZoneRule rule) → IfOk read (IsZoneOf rule)
+pub zone_given : (read : Result Zone ZoneFault) (zone : Option Zone) (rule : Text) → zone ≡ result_ok read → (IsOk read ↔ IsZoneRule rule) → IfOk read (IsZoneOf rule)
     → IsZoneRule rule → IsSomeAnd zone (IsZoneOf rule)
-zone_told (Ok zone) o rule is taken of has = subst (λ x. IsSomeAnd x (IsZoneOf rule)) (sym is) of
-zone_told (Err fault) o rule is taken of has = let fails : false ≡ true = taken.1 has in cc
+zone_given (Ok zone) o rule is taken of has = subst (λ x. IsSomeAnd x (IsZoneOf rule)) (sym is) of
+zone_given (Err fault) o rule is taken of has = let fails : false ≡ true = taken.1 has in cc
 
 -- the kind of a kind's word
 pub kind_is : (r : Option Kind) (word : Text) (kind : Kind) → IfSome r (λ k. word ≡ word_of k) → IfNone r ((k : Kind) → word ≢ word_of k)
@@ -80,10 +80,10 @@ abbrev pub ReadsAs : ℕ → Text → Result ℕ ParseIntError → Type 0
 ReadsAs bits text r = ParsesUnsigned bits 10 text r × ExplainsUnsignedError 10 text r × HasUnsignedDigitsIfOk text r
 
 -- the word of a kind that is read is told
-pub kind_told : (rows : List Row) (word : Text) (r : Option Kind) → first_of (codes "KIND") rows ≡ Some word → IfSome r (λ kind. word ≡ word_of kind)
+pub kind_given : (rows : List Row) (word : Text) (r : Option Kind) → first_of (codes "KIND") rows ≡ Some word → IfSome r (λ kind. word ≡ word_of kind)
     → IfSome r (λ kind. first_of (codes "KIND") rows ≡ Some (word_of kind))
-kind_told rows word (Some kind) there is = there ∙ ap Some is
-kind_told rows word None there is = tt
+kind_given rows word (Some kind) there is = there ∙ ap Some is
+kind_given rows word None there is = tt
 
 -- the text of a number reads as the number
 pub number_is : (bits : ℕ) (text : Text) (number : ℕ) (r : Option ℕ) → ReadsOne (ReadsAs bits) text r → ParsesUnsigned {E = ParseIntError} bits 10 text (Ok number)
@@ -101,7 +101,7 @@ ReadsSigned text r = ParsesSigned w64 10 text r × ExplainsSignedError 10 text r
 
 -- the truth value that is read is the one that is told
 pub flag_is : (o : Option Text) (flag r : Bool) → (o ≡ None → r ≡ false) → (o ≡ Some (codes "true") → r ≡ true) → (o ≡ Some (codes "false") → r ≡ false)
-    → IsFlagTold o flag → r ≡ flag
+    → IsFlagGiven o flag → r ≡ flag
 flag_is (Some text) true r none on off told = on (ap Some told)
 flag_is (Some text) false r none on off told = off (ap Some told)
 flag_is None flag r none on off told = none refl ∙ sym told
@@ -125,8 +125,8 @@ pub record GivesAsk (words : List Text) (o : Option Ask) : Type 0 where
       → IsSomeAnd o (IsOneQuestionAsk store (Some key) (Check acc) moment rule)
   pub show : (store key : Text) (shown : Shown) (moment : Option ℤ) (rule : Text) → AsksShow words store key shown moment rule
       → IsSomeAnd o (IsOneQuestionAsk store (Some key) (Show shown) moment rule)
-  pub sift : (store key sheet : Text) (moment : Option ℤ) (rule : Text) (dry_run keep_going : Bool) → AsksSift words store key sheet moment rule dry_run keep_going
-      → IsSomeAnd o (IsSiftAsk store key sheet moment rule dry_run keep_going)
+  pub flagged_import : (store key sheet : Text) (moment : Option ℤ) (rule : Text) (dry_run keep_going : Bool) → AsksFlaggedImport words store key sheet moment rule dry_run keep_going
+      → IsSomeAnd o (IsFlaggedImportAsk store key sheet moment rule dry_run keep_going)
   pub extract : (kind : Kind) (image folder : Text) → AsksFiles words kind image folder → IsSomeAnd o (IsExtractAsk kind image folder)
   pub staff_key : (store key : Text) → AsksStaffKey words store key → IsSomeAnd o (IsStaffKeyAsk store key)
   pub copy : (store target : Text) (summed : Bool) → AsksCopy words store target summed → IsSomeAnd o (IsCopyAsk store target summed)
@@ -146,8 +146,8 @@ pub record GivesRows (entered : Option (Text × List Row)) (shown : Option Shown
       → IsSomeAnd o (IsOneQuestionAsk store (Some key) (Check acc) moment rule)
   pub show : (store key : Text) (what : Shown) (moment : Option ℤ) (rule : Text) → shown ≡ Some what → EntersShow entered store key moment rule
       → IsSomeAnd o (IsOneQuestionAsk store (Some key) (Show what) moment rule)
-  pub sift : (store key sheet : Text) (moment : Option ℤ) (rule : Text) (dry_run keep_going : Bool) → EntersSift entered store key sheet moment rule dry_run keep_going
-      → IsSomeAnd o (IsSiftAsk store key sheet moment rule dry_run keep_going)
+  pub flagged_import : (store key sheet : Text) (moment : Option ℤ) (rule : Text) (dry_run keep_going : Bool) → EntersFlaggedImport entered store key sheet moment rule dry_run keep_going
+      → IsSomeAnd o (IsFlaggedImportAsk store key sheet moment rule dry_run keep_going)
   pub extract : (kind : Kind) (image folder : Text) → EntersFiles entered kind image folder → IsSomeAnd o (IsExtractAsk kind image folder)
   pub staff_key : (store key : Text) → EntersStaffKey entered store key → IsSomeAnd o (IsStaffKeyAsk store key)
   pub copy : (store target : Text) (summed : Bool) → EntersCopy entered store target summed → IsSomeAnd o (IsCopyAsk store target summed)
@@ -169,16 +169,16 @@ ask_given o shown app words m desk matches naming given =
       serve = λ store place count rule asks. given.serve store place count rule (record { rows = asks.rows; into = sym same ∙ asks.enters.into app desk; found = asks.found });
       timeouts = λ rows enters. timed_rows o (subcommand_rows_of m) rows (sym same ∙ enters.into app desk) given.timeouts;
       import = λ store key sheet moment rule asks.
-          given.import store key sheet moment rule (record { rows = asks.rows; into = sym same ∙ asks.enters.into app desk; found = asks.found; ways = asks.ways });
+          given.import store key sheet moment rule (record { rows = asks.rows; into = sym same ∙ asks.enters.into app desk; found = asks.found; flags = asks.flags });
       export = λ store key moment rule asks. given.export store key moment rule (record { rows = asks.rows; into = sym same ∙ asks.enters.into app desk; found = asks.found });
       check = λ store key acc moment rule asks. given.check store key acc moment rule (record { rows = asks.rows; into = sym same ∙ asks.enters.into app desk; found = asks.found });
       show = λ store key what moment rule asks.
           let into = sym same ∙ asks.enters.into app desk in
           given.show store key what moment rule (named_given shown asks.rows what (naming asks.rows into) asks.names)
           (record { rows = asks.rows; into = into; found = asks.found });
-      sift = λ store key sheet moment rule dry_run keep_going asks.
-          given.sift store key sheet moment rule dry_run keep_going
-          (record { rows = asks.rows; into = sym same ∙ asks.enters.into app desk; found = asks.found; ways = asks.ways; one = asks.one });
+      flagged_import = λ store key sheet moment rule dry_run keep_going asks.
+          given.flagged_import store key sheet moment rule dry_run keep_going
+          (record { rows = asks.rows; into = sym same ∙ asks.enters.into app desk; found = asks.found; flags = asks.flags; one = asks.one });
       extract = λ kind image folder asks.
           given.extract kind image folder (record { rows = asks.rows; into = sym same ∙ asks.enters.into app desk; found = asks.found });
       staff_key = λ store key asks. given.staff_key store key (record { rows = asks.rows; into = sym same ∙ asks.enters.into app desk; found = asks.found });
@@ -188,7 +188,7 @@ ask_given o shown app words m desk matches naming given =
 -- words that are read are what is asked for
 pub ask_read : (o : Option Ask) (fault : Unread) (r : Result Ask Unread) (words : List Text) → r ≡ ok_or o fault → GivesAsk words o
     → IfOk r (IsAskOf words)
-ask_read (Some ask) fault r words is given = subst (λ x. IfOk x (IsAskOf words)) (sym is) (record { file = given.file; files = given.files; init = given.init; serve = given.serve; timeouts = given.timeouts; import = given.import; export = given.export; check = given.check; show = given.show; sift = given.sift; extract = given.extract; staff_key = given.staff_key; copy = given.copy })
+ask_read (Some ask) fault r words is given = subst (λ x. IfOk x (IsAskOf words)) (sym is) (record { file = given.file; files = given.files; init = given.init; serve = given.serve; timeouts = given.timeouts; import = given.import; export = given.export; check = given.check; show = given.show; flagged_import = given.flagged_import; extract = given.extract; staff_key = given.staff_key; copy = given.copy })
 ask_read None fault r words is given = subst (λ x. IfOk x (IsAskOf words)) (sym is) tt
 
 -- an accession that is read is a number of one
@@ -239,7 +239,7 @@ help_asked words NoMemory help fault = absurd help
 no_command : (words : List Text) → GivesAsk words None → IsCommand words → ⊥
 no_command words given (inl (inl cat)) = given.file cat.0 cat.1 cat.2 cat.3
 no_command words given (inl (inr (inl files))) = given.extract files.0 files.1 files.2 files.3
-no_command words given (inl (inr (inr sift))) = given.sift sift.0 sift.1 sift.2 sift.3 sift.4 sift.5 sift.6 sift.7
+no_command words given (inl (inr (inr flagged_import))) = given.flagged_import flagged_import.0 flagged_import.1 flagged_import.2 flagged_import.3 flagged_import.4 flagged_import.5 flagged_import.6 flagged_import.7
 no_command words given (inr (inl list)) = given.files list.0 list.1 list.2
 no_command words given (inr (inr (inl init))) = given.init init.0 init.1 init.2
 no_command words given (inr (inr (inr (inl serve)))) = given.serve serve.0 serve.1 serve.2 serve.3 serve.4
@@ -269,8 +269,8 @@ pub fails_for_memory : (app : App) (words : List Text) (error : Error) → IsDes
 fails_for_memory app words error desk (inl (inl cat)) passes has = passes (takes_cat app words cat.0 cat.1 cat.2 desk cat.3)
 fails_for_memory app words error desk (inl (inr (inl files))) passes has =
     none_among (fault_of app words) error (files.3.enters.no_fault app desk) (has (ap is_simple_and_free desk.is ∙ free desk.cat_kinds desk.list_kinds desk.files_kinds desk.shown))
-fails_for_memory app words error desk (inl (inr (inr sift))) passes has =
-    none_among (fault_of app words) error (sift.7.enters.no_fault app desk) (has (ap is_simple_and_free desk.is ∙ free desk.cat_kinds desk.list_kinds desk.files_kinds desk.shown))
+fails_for_memory app words error desk (inl (inr (inr flagged_import))) passes has =
+    none_among (fault_of app words) error (flagged_import.7.enters.no_fault app desk) (has (ap is_simple_and_free desk.is ∙ free desk.cat_kinds desk.list_kinds desk.files_kinds desk.shown))
 fails_for_memory app words error desk (inr (inl list)) passes has = passes (takes_list app words list.0 list.1 desk list.2)
 fails_for_memory app words error desk (inr (inr (inl init))) passes has =
     none_among (fault_of app words) error (init.2.enters.no_fault app desk) (has (ap is_simple_and_free desk.is ∙ free desk.cat_kinds desk.list_kinds desk.files_kinds desk.shown))

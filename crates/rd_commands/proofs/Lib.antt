@@ -5,6 +5,7 @@ pub mod ListLine
 pub mod HelpLine
 mod HelpNames
 pub mod VersionLine
+pub mod Options
 pub mod ShowWords
 pub mod GetterLemmas
 pub mod OneCommand

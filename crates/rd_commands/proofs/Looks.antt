@@ -13,15 +13,15 @@ use Rattle.clap.specs.declared.parser.matches.Found.{Found}
 use Rattle.clap.proofs.WalkLemmas.{first_value-rows}
 use Rattle.rd_policy.specs.Dates.{IsDateOf}
 use Rattle.rd_commands.specs.Asks.{EntersNamed, EntersNaming, EntersTimed, IsCheck, IsMomentNamed, IsSeenFault, IsWithinLimits, TellsInRows}
-use Rattle.rd_commands.specs.Beside.{IsApart, IsDayTold, IsMomentText, IsOneAtMost, IsSeconds}
+use Rattle.rd_commands.specs.CommonOptions.{IsApart, IsDayOfMoment, IsMomentText, IsOneAtMost, IsSeconds}
 use Rattle.rd_commands.specs.Serving.{IsCountGiven}
-use Rattle.rd_commands.specs.Told.{AreSecondsTold, AskFrom, CallerFrom, EntersFrom, IsAccessionTold, OneFrom, command_name, question_name}
+use Rattle.rd_commands.specs.Parsed.{AreSecondsGiven, AskFrom, CallerFrom, EntersFrom, OneFrom, command_name, question_name}
 use Rattle.rd_commands.specs.declared.words.Question.TheVariants.{Catalogue, Check}
 use Rattle.rd_commands.specs.declared.words.Question.{Question}
 use Rattle.rd_commands.specs.declared.words.Ask.{Ask}
-use Rattle.rd_commands.specs.declared.words.Ask.TheVariants.{Import, OneQuestion, Sift}
+use Rattle.rd_commands.specs.declared.words.Ask.TheVariants.{Import, OneQuestion, FlaggedImport}
 use Rattle.rd_commands.specs.declared.words.OneQuestionAsk.{OneQuestionAsk}
-use Rattle.rd_commands.specs.Shown.{NamesAny, NamesShown}
+use Rattle.rd_commands.specs.Shown.{IsAccessionGiven, NamesAny, NamesShown}
 use Rattle.rd_commands.specs.declared.words.Shown.{Shown}
 use Rattle.rd_commands.specs.declared.words.Unread.{Unread}
 use Rattle.rd_commands.specs.declared.words.Unread.TheVariants.{Day, Key, Moment, NoMemory, Place as NoPlace, Zones}
@@ -58,13 +58,13 @@ seen_fault fault (inl apart) = inl apart
 seen_fault fault (inr memory) = inr (inr (inr memory))
 
 -- it is no fault of a day or of a place
-pub beside_no_day : (fault : Unread) → IsApart fault ⊎ (fault ≡ NoMemory) → fault ≡ Day → ⊥
-beside_no_day fault (inl apart) day = no_day_apart fault day apart
-beside_no_day fault (inr memory) day = let no : Day ≡ NoMemory = sym day ∙ memory in absurd (cc no)
+pub options_no_day : (fault : Unread) → IsApart fault ⊎ (fault ≡ NoMemory) → fault ≡ Day → ⊥
+options_no_day fault (inl apart) day = no_day_apart fault day apart
+options_no_day fault (inr memory) day = let no : Day ≡ NoMemory = sym day ∙ memory in absurd (cc no)
 
-pub beside_no_place : (fault : Unread) → IsApart fault ⊎ (fault ≡ NoMemory) → fault ≡ NoPlace → ⊥
-beside_no_place fault (inl apart) place = no_place_apart fault place apart
-beside_no_place fault (inr memory) place = let no : NoPlace ≡ NoMemory = sym place ∙ memory in absurd (cc no)
+pub options_no_place : (fault : Unread) → IsApart fault ⊎ (fault ≡ NoMemory) → fault ≡ NoPlace → ⊥
+options_no_place fault (inl apart) place = no_place_apart fault place apart
+options_no_place fault (inr memory) place = let no : NoPlace ≡ NoMemory = sym place ∙ memory in absurd (cc no)
 
 -- where `show` names this, it names something
 some_named : (shown : Option Shown) (rows : List Row) → IsSomeAnd shown (NamesShown rows) → NamesAny rows
@@ -94,33 +94,33 @@ pub none_named : (told : Option Text) (moment : Option ℤ) → None ≡ told �
 none_named told moment absent named = sym (subst (λ o. IsMomentNamed o moment) (sym absent) named)
 
 -- and they are told
-pub seconds_told : (rows : List Row) (text : Text) (read : Option ℤ) → Some text ≡ first_of (codes "at") rows → IfSome read (IsSeconds text)
-    → IfNone read ((seconds : ℤ) → ¬ IsSeconds text seconds) → AreSecondsTold rows read
-seconds_told rows text (Some seconds) there written none = (text, sym there, written)
-seconds_told rows text None there written none = λ other is seconds. none_of other is seconds
+pub seconds_given : (rows : List Row) (text : Text) (read : Option ℤ) → Some text ≡ first_of (codes "at") rows → IfSome read (IsSeconds text)
+    → IfNone read ((seconds : ℤ) → ¬ IsSeconds text seconds) → AreSecondsGiven rows read
+seconds_given rows text (Some seconds) there written none = (text, sym there, written)
+seconds_given rows text None there written none = λ other is seconds. none_of other is seconds
   where
     none_of : (other : Text) → first_of (codes "at") rows ≡ Some other → (seconds : ℤ) → ¬ IsSeconds other seconds
     none_of other is = let both : Some text ≡ Some other = there ∙ is in
         let same : text ≡ other = cc both in
         subst (λ t. (seconds : ℤ) → ¬ IsSeconds t seconds) same none
 
-pub none_told : (rows : List Row) → None ≡ first_of (codes "at") rows → AreSecondsTold rows None
-none_told rows absent = λ text is seconds. let no : None ≡ Some text = absent ∙ is in absurd (cc no)
+pub none_given : (rows : List Row) → None ≡ first_of (codes "at") rows → AreSecondsGiven rows None
+none_given rows absent = λ text is seconds. let no : None ≡ Some text = absent ∙ is in absurd (cc no)
 
 -- ---- the day in place of a moment
 
 -- where the text writes seconds there is none
-pub no_day : (told : Option Text) (text : Text) (seconds : ℤ) → Some text ≡ told → IsSeconds text seconds → IsDayTold told None
-no_day told text seconds there is = subst (λ o. IsDayTold o None) there (inl ((seconds, is), refl))
+pub no_day : (told : Option Text) (text : Text) (seconds : ℤ) → Some text ≡ told → IsSeconds text seconds → IsDayOfMoment told None
+no_day told text seconds there is = subst (λ o. IsDayOfMoment o None) there (inl ((seconds, is), refl))
 
 -- nor where there is no text
-pub day_absent : (told : Option Text) → None ≡ told → IsDayTold told None
-day_absent told absent = subst (λ o. IsDayTold o None) absent refl
+pub day_absent : (told : Option Text) → None ≡ told → IsDayOfMoment told None
+day_absent told absent = subst (λ o. IsDayOfMoment o None) absent refl
 
 -- of a date it is its day
 pub day_dated : (told : Option Text) (text : Text) (day : ℤ) → Some text ≡ told → ((seconds : ℤ) → ¬ IsSeconds text seconds) → IsDateOf day text
-    → IsDayTold told (Some day)
-day_dated told text day there none is = subst (λ o. IsDayTold o (Some day)) there (inr (none, (day, is, refl)))
+    → IsDayOfMoment told (Some day)
+day_dated told text day there none is = subst (λ o. IsDayOfMoment o (Some day)) there (inr (none, (day, is, refl)))
 
 -- a text that writes seconds, or a date, writes a moment
 pub fits_number : (told : Option Text) (text : Text) (seconds : ℤ) → Some text ≡ told → IsSeconds text seconds → IsMomentText told
@@ -156,9 +156,9 @@ zone_of (Ok zone) o rule is of = subst (λ x. IfSome x (IsZoneOf rule)) (sym is)
 zone_of (Err fault) o rule is of = subst (λ x. IfSome x (IsZoneOf rule)) (sym is) tt
 
 -- a number that is read is that of the accession
-pub accession_told : (rows : List Row) (read : Option ℕ) (acc : ℕ) → read ≡ Some acc → IfSome read (IsCountGiven (one_of (codes "acc") rows)) → IsScope acc
-    → IsAccessionTold rows acc
-accession_told rows read acc is given within =
+pub accession_is_given : (rows : List Row) (read : Option ℕ) (acc : ℕ) → read ≡ Some acc → IfSome read (IsCountGiven (one_of (codes "acc") rows)) → IsScope acc
+    → IsAccessionGiven rows acc
+accession_is_given rows read acc is given within =
     let told : IsCountGiven (one_of (codes "acc") rows) acc = subst (λ x. IfSome x (IsCountGiven (one_of (codes "acc") rows))) is given in
     (told.0, told.1, (told.2, within))
 
@@ -202,12 +202,12 @@ shown_in entered shown what rows naming into is = subst (λ o. IsSomeAnd o (Name
 -- the commands on sheets name no accession, and give visitors no time
 pub sheet_within : (ask : Ask) → TellsInRows ask → IsWithinLimits ask
 sheet_within (Import ask) rows = tt
-sheet_within (Sift ask) rows = tt
+sheet_within (FlaggedImport ask) rows = tt
 sheet_within other rows = absurd rows
 
 pub sheet_timed : (ask : Ask) (entered : Option (Text × List Row)) → TellsInRows ask → EntersTimed entered ask
 sheet_timed (Import ask) entered rows = λ found into. tt
-sheet_timed (Sift ask) entered rows = λ found into. tt
+sheet_timed (FlaggedImport ask) entered rows = λ found into. tt
 sheet_timed other entered rows = absurd rows
 
 -- ---- options that do not go together

@@ -1,26 +1,25 @@
 -- The place and the seconds that the words of `serve` give.
 use Rattle.std.proofs.Common.{◌≡◌, ◌⊎◌, ◌∙◌, ◌==◌, ℕ, IfErr, IfSome, List, [], ◌∷◌, None, Option, Result, Some, Ok, Err, ap, codes, false, inl, inr, refl, subst, sym, true}
-use Rattle.std.specs.Prelude.{IsSomeAnd, find, ok_or, option_and_then, option_map, slice_get, unwrap_or}
-use Rattle.std.specs.Str.{bytes_eq}
+use Rattle.std.specs.Prelude.{IsSomeAnd, ok_or, unwrap_or}
 use Rattle.std.specs.Str.Parse.{ParsesUnsigned}
 use Rattle.std.specs.declared.num.ParseIntError.{ParseIntError}
-use Rattle.clap.specs.Walk.{row_text}
-use Rattle.clap.specs.Words.{App, HasMatchesOf, Row, Text, first_of, one_of, read_as, subcommand_of, subcommand_rows_of}
+use Rattle.clap.specs.Words.{App, HasMatchesOf, Row, Text, first_of, one_of, subcommand_of, subcommand_rows_of}
 use Rattle.clap.specs.Matches.{ReadsOne}
 use Rattle.clap.specs.declared.parser.matches.ArgMatches.{ArgMatches}
 use Rattle.rd_commands.specs.Asks.{EntersAtAPlace, EntersNamed, EntersNamingNone, EntersNoPlace, IsFaultOf, IsForMemory, IsMistake, IsSeenFault}
-use Rattle.rd_commands.specs.Beside.{EntersApart, EntersBeside, EntersTogether, FitsTogether, IsApart, TellsBeside}
-use Rattle.rd_commands.specs.declared.beside.Beside.{Beside}
+use Rattle.rd_commands.specs.CommonOptions.{EntersApart, EntersOptions, EntersTogether, FitsTogether, IsApart, TellsOptions}
+use Rattle.rd_commands.specs.declared.common_options.CommonOptions.{CommonOptions}
 use Rattle.rd_commands.specs.CommandLine.{IsDeskApp}
 use Rattle.rd_commands.specs.Commands.{IsCommand, NamesAPlace, NamesWhatItShows}
-use Rattle.rd_commands.specs.Serving.{AreSeconds, GivesTimeouts, IsCountGiven, IsCountTold, IsNumberTold, IsPortTold, NamesOnePlace, NamesPlace, Place, place_of}
+use Rattle.rd_commands.specs.Serving.{AreSeconds, GivesTimeouts, IsCountGiven, IsCountUsed, IsNumberGiven, IsPortUsed, NamesOnePlace, NamesPlace, Place, place_of}
 use Rattle.rd_commands.specs.Serving.Place.{Port, Socket}
-use Rattle.rd_commands.specs.declared.serving.Place.{Place as Told}
+use Rattle.rd_commands.specs.declared.serving.Place.{Place as Given}
 use Rattle.rd_commands.specs.declared.serving.Timeouts.{Timeouts}
 use Rattle.rd_commands.specs.declared.words.Ask.{Ask}
 use Rattle.rd_commands.specs.declared.words.Unread.{Unread}
 use Rattle.rd_commands.specs.declared.words.Unread.TheVariants.{Day, NoMemory, Place as NoPlace, Usage}
 use Rattle.rd_commands.proofs.GetterLemmas.{ReadsAs, day_mistake, day_no_fault, entered_is, number_is, unnamed}
+use Rattle.rd_commands.proofs.Options.{one_and_absent, there_and_absent}
 use Rattle.rd_commands.proofs.Together.{command_together}
 use Rattle.rd_commands.proofs.CatLine.{gives_cat}
 use Rattle.rd_commands.proofs.ListLine.{gives_list}
@@ -28,11 +27,11 @@ use Rattle.rd_commands.proofs.ListLine.{gives_list}
 -- ---- the port, the socket and the seconds
 
 -- a number that is read is the one that the text of its option writes
-pub number_told : (told : Option Text) (r : Option ℕ) → (told ≡ None → r ≡ None) → ((text : Text) → told ≡ Some text → ReadsOne (ReadsAs 16) text r)
-    → IfSome r (IsNumberTold told)
-number_told None r none value = subst (λ x. IfSome x (IsNumberTold None)) (sym (none refl)) tt
-number_told (Some text) (Some n) none value = (text, refl, (value text refl).0)
-number_told (Some text) None none value = tt
+pub number_given : (told : Option Text) (r : Option ℕ) → (told ≡ None → r ≡ None) → ((text : Text) → told ≡ Some text → ReadsOne (ReadsAs 16) text r)
+    → IfSome r (IsNumberGiven told)
+number_given None r none value = subst (λ x. IfSome x (IsNumberGiven None)) (sym (none refl)) tt
+number_given (Some text) (Some n) none value = (text, refl, (value text refl).0)
+number_given (Some text) None none value = tt
 
 -- the seconds that are read, or the usual ones, are those that the option gives
 pub seconds_are : (told : Option Text) (r : Option ℕ) (usual : ℕ) → (told ≡ None → r ≡ None)
@@ -40,14 +39,10 @@ pub seconds_are : (told : Option Text) (r : Option ℕ) (usual : ℕ) → (told 
 seconds_are None r usual none value = ap (λ o. unwrap_or o usual) (none refl)
 seconds_are (Some text) r usual none value = λ number parses. ap (λ o. unwrap_or o usual) (number_is 16 text number r (value text refl) parses)
 
--- an option is not both there and absent
-pub there_and_absent : (o : Option Text) (text : Text) → Some text ≡ o → o ≡ None → ⊥
-there_and_absent o text there absent = let no : Some text ≡ None = there ∙ absent in absurd (cc no)
-
 -- ---- the place
 
 -- where there is a socket, a place that is named is that socket, and there is no port
-pub socket_is : (rows : List Row) (path : Text) (told : Option Told) (place : Place) → Some path ≡ first_of (codes "socket") rows
+pub socket_is : (rows : List Row) (path : Text) (told : Option Given) (place : Place) → Some path ≡ first_of (codes "socket") rows
     → (first_of (codes "port") rows ≡ None → IsSomeAnd told (λ t. place_of t ≡ Socket path)) → NamesPlace rows place
     → IsSomeAnd told (λ t. place_of t ≡ place)
 socket_is rows path told (Port port) there alone named = absurd (there_and_absent _ path there named.1)
@@ -57,21 +52,21 @@ socket_is rows path told (Socket other) there alone named =
     subst (λ p. IsSomeAnd told (λ t. place_of t ≡ Socket p)) same (alone named.1)
 
 -- and what is given there is named
-pub socket_named : (rows : List Row) (path : Text) (told : Option Told) → Some path ≡ first_of (codes "socket") rows
+pub socket_named : (rows : List Row) (path : Text) (told : Option Given) → Some path ≡ first_of (codes "socket") rows
     → IfSome told (λ t. (place_of t ≡ Socket path) × (first_of (codes "port") rows ≡ None)) → IfSome told (λ t. NamesPlace rows (place_of t))
 socket_named rows path (Some told) there given = subst (NamesPlace rows) (sym given.0) (sym there, given.1)
 socket_named rows path None there given = tt
 
 -- where there is no socket, a place that is named is the port that is read
 pub port_is : (rows : List Row) (read : Option ℕ) (place : Place) → None ≡ first_of (codes "socket") rows
-    → ((port : ℕ) → IsPortTold rows port → read ≡ Some port)
+    → ((port : ℕ) → IsPortUsed rows port → read ≡ Some port)
     → NamesPlace rows place → (port : ℕ) × (place ≡ Port port) × (read ≡ Some port)
 port_is rows read (Port port) absent asked named = (port, refl, asked port named.0)
 port_is rows read (Socket path) absent asked named = absurd (there_and_absent _ path (sym named.0) (sym absent))
 
 -- so none is named where no port is read
 pub no_port : (rows : List Row) (place : Place) → None ≡ first_of (codes "socket") rows
-    → ((port : ℕ) → IsPortTold rows port → None ≡ Some port)
+    → ((port : ℕ) → IsPortUsed rows port → None ≡ Some port)
     → NamesPlace rows place → ⊥
 no_port rows place absent asked named =
     let is = port_is rows None place absent asked named in
@@ -79,7 +74,7 @@ no_port rows place absent asked named =
 
 -- and the one that is read is the place
 pub port_place : (rows : List Row) (port : ℕ) (place : Place) → None ≡ first_of (codes "socket") rows
-    → ((other : ℕ) → IsPortTold rows other → Some port ≡ Some other)
+    → ((other : ℕ) → IsPortUsed rows other → Some port ≡ Some other)
     → NamesPlace rows place → Port port ≡ place
 port_place rows port place absent asked named =
     let is = port_is rows (Some port) place absent asked named in
@@ -89,32 +84,20 @@ port_place rows port place absent asked named =
 
 -- ---- what is told, or absent
 
--- an option of which no text is read first has no text that is read as one
-pub absent_one : (id : Text) (rows : List Row) → first_of id rows ≡ None → one_of id rows ≡ None
-absent_one id rows absent = row (find (λ r. bytes_eq r.id id) rows) absent
-  where
-    row : (found : Option Row) → option_and_then (λ (r : Row). slice_get r.values 0) found ≡ None → option_and_then row_text found ≡ None
-    row (Some r) none = ap (option_map (read_as r.reading)) none
-    row None none = refl
-
--- so one of them is not there where the other is absent
-pub one_and_absent : (id : Text) (rows : List Row) (text : Text) → one_of id rows ≡ Some text → first_of id rows ≡ None → ⊥
-one_and_absent id rows text there absent = there_and_absent (one_of id rows) text (sym there) (absent_one id rows absent)
-
 -- a port that is read is told
-pub port_told : (rows : List Row) (read : Option ℕ) → IfSome read (IsNumberTold (one_of (codes "port") rows)) → IfSome read (IsPortTold rows)
-port_told rows (Some port) told = inl told
-port_told rows None told = tt
+pub port_used : (rows : List Row) (read : Option ℕ) → IfSome read (IsNumberGiven (one_of (codes "port") rows)) → IfSome read (IsPortUsed rows)
+port_used rows (Some port) told = inl told
+port_used rows None told = tt
 
 -- where there is a text, a port that is told is the one that is read
 pub port_read : (rows : List Row) (text : Text) (read : Option ℕ) (port : ℕ) → Some text ≡ first_of (codes "port") rows
     → ((text : Text) (port : ℕ) → one_of (codes "port") rows ≡ Some text → ParsesUnsigned {E = ParseIntError} 16 10 text (Ok port) → read ≡ Some port)
-    → IsPortTold rows port → read ≡ Some port
+    → IsPortUsed rows port → read ≡ Some port
 port_read rows text read port there asked (inl told) = asked told.0 port told.1 told.2
 port_read rows text read port there asked (inr none) = absurd (there_and_absent _ text there none.0)
 
 -- where there is none, it is the usual one
-pub port_usual : (rows : List Row) (port : ℕ) → None ≡ first_of (codes "port") rows → IsPortTold rows port → port ≡ 8_041
+pub port_usual : (rows : List Row) (port : ℕ) → None ≡ first_of (codes "port") rows → IsPortUsed rows port → port ≡ 8_041
 port_usual rows port absent (inl told) = absurd (one_and_absent (codes "port") rows told.0 told.1 (sym absent))
 port_usual rows port absent (inr none) = none.1
 
@@ -133,19 +116,19 @@ slot_given (Some text) (Some n) none value = (text, refl, (value text refl).0)
 slot_given (Some text) None none value = tt
 
 -- so it is told
-pub count_told : (rows : List Row) (read : Option ℕ) → IfSome read (IsCountGiven (one_of (codes "count") rows)) → IfSome read (IsCountTold rows)
-count_told rows (Some count) told = inl told
-count_told rows None told = tt
+pub count_used : (rows : List Row) (read : Option ℕ) → IfSome read (IsCountGiven (one_of (codes "count") rows)) → IfSome read (IsCountUsed rows)
+count_used rows (Some count) told = inl told
+count_used rows None told = tt
 
 -- where there is a text, the number that is told is the one that is read
 pub count_read : (rows : List Row) (text : Text) (read : Option ℕ) (count : ℕ) → Some text ≡ first_of (codes "count") rows
     → ((text : Text) (count : ℕ) → one_of (codes "count") rows ≡ Some text → ParsesUnsigned {E = ParseIntError} 32 10 text (Ok count) → read ≡ Some count)
-    → IsCountTold rows count → read ≡ Some count
+    → IsCountUsed rows count → read ≡ Some count
 count_read rows text read count there asked (inl told) = asked told.0 count told.1 told.2
 count_read rows text read count there asked (inr none) = absurd (there_and_absent _ text there none.0)
 
 -- where there is none, it is the greatest
-pub count_most : (rows : List Row) (count : ℕ) → None ≡ first_of (codes "count") rows → IsCountTold rows count → count ≡ 4_294_967_295
+pub count_most : (rows : List Row) (count : ℕ) → None ≡ first_of (codes "count") rows → IsCountUsed rows count → count ≡ 4_294_967_295
 count_most rows count absent (inl told) = absurd (one_and_absent (codes "count") rows told.0 told.1 (sym absent))
 count_most rows count absent (inr none) = none.1
 
@@ -179,8 +162,8 @@ command_place app words rows desk is (inl (inl cat)) =
     let enters = gives_cat app words cat.0 cat.1 cat.2 desk cat.3 in absurd (no_other _ (codes "cat") enters.rows rows refl enters.into is)
 command_place app words rows desk is (inl (inr (inl files))) =
     absurd (no_other _ (codes "files") files.3.rows rows refl (files.3.enters.into app desk) is)
-command_place app words rows desk is (inl (inr (inr sift))) =
-    absurd (no_other _ (codes "import") sift.7.rows rows refl (sift.7.enters.into app desk) is)
+command_place app words rows desk is (inl (inr (inr flagged_import))) =
+    absurd (no_other _ (codes "import") flagged_import.7.rows rows refl (flagged_import.7.enters.into app desk) is)
 command_place app words rows desk is (inr (inl list)) =
     let enters = gives_list app words list.0 list.1 desk list.2 in absurd (no_other _ (codes "list") enters.rows rows refl enters.into is)
 command_place app words rows desk is (inr (inr (inl init))) =
@@ -250,8 +233,8 @@ module _ (app : App) (words : List Text) (m : ArgMatches) (desk : IsDeskApp app)
   fits_together entered = λ name rows enters. entered name rows (sym same ∙ enters.into app desk)
 
   -- and say what stands beside the operands
-  pub tells_beside : (beside : Beside) → EntersBeside (subcommand_rows_of m) beside → TellsBeside words beside
-  tells_beside beside entered = λ name rows enters. entered name rows (sym same ∙ enters.into app desk)
+  pub tells_options : (options : CommonOptions) → EntersOptions (subcommand_rows_of m) options → TellsOptions words options
+  tells_options options entered = λ name rows enters. entered name rows (sym same ∙ enters.into app desk)
 
   -- words that it takes as `serve` are not those of `show`
   serve_shows : (serving : List Row) → subcommand_rows_of m ≡ Some (codes "serve", serving) → NamesWhatItShows words

@@ -11,29 +11,29 @@ use Rattle.rd_commands.specs.declared.refusal.Refusal.TheVariants.{Usage, Device
 use Rattle.rd_commands.proofs.WriterLemmas.{part_after}
 
 -- Of some words those before these that are left are written.
-pub record HasToldWords (old new : Option (List ℕ)) (all left : List (List ℕ)) : Type 0 where
+pub record HasWrittenWords (old new : Option (List ℕ)) (all left : List (List ℕ)) : Type 0 where
   pub text : List ℕ
   pub spelled : blanked all ≡ text ++ blanked left
   pub gained : Appends old new text
 
-pub told_none : (a : Option (List ℕ)) (all left : List (List ℕ)) → left ≡ all → HasToldWords a a all left
-told_none a all left same = record { text = []; spelled = ap blanked (sym same); gained = Appends-nil a }
+pub written_none : (a : Option (List ℕ)) (all left : List (List ℕ)) → left ≡ all → HasWrittenWords a a all left
+written_none a all left same = record { text = []; spelled = ap blanked (sym same); gained = Appends-nil a }
 
-pub told_next : (old mid new : Option (List ℕ)) (all left rest : List (List ℕ)) (word : List ℕ) → HasToldWords old mid all left → left ≡ word ∷ rest
-    → Appends mid new (codes " " ++ word) → HasToldWords old new all rest
-told_next old mid new all left rest word before steps wrote = record {
+pub written_next : (old mid new : Option (List ℕ)) (all left rest : List (List ℕ)) (word : List ℕ) → HasWrittenWords old mid all left → left ≡ word ∷ rest
+    → Appends mid new (codes " " ++ word) → HasWrittenWords old new all rest
+written_next old mid new all left rest word before steps wrote = record {
   text = before.text ++ (codes " " ++ word);
   spelled = before.spelled ∙ ap (λ l. before.text ++ blanked l) steps ∙ sym (append_assoc before.text (codes " " ++ word) (blanked rest));
   gained = Appends-trans old mid new before.text (codes " " ++ word) before.gained wrote;
 }
 
-pub told_part : (old mid new : Option (List ℕ)) (all left rest : List (List ℕ)) (word : List ℕ) → HasToldWords old mid all left → left ≡ word ∷ rest
+pub written_part : (old mid new : Option (List ℕ)) (all left rest : List (List ℕ)) (word : List ℕ) → HasWrittenWords old mid all left → left ≡ word ∷ rest
     → AppendsPart mid new (codes " " ++ word) → AppendsPart old new (blanked all)
-told_part old mid new all left rest word before steps part =
+written_part old mid new all left rest word before steps part =
     part_after old mid new (blanked all) before.text (codes " " ++ word) (blanked rest) (before.spelled ∙ ap (λ l. before.text ++ blanked l) steps) before.gained part
 
-pub told_all : (old new : Option (List ℕ)) (all left : List (List ℕ)) → HasToldWords old new all left → left ≡ [] → Appends old new (blanked all)
-told_all old new all left before none =
+pub written_all : (old new : Option (List ℕ)) (all left : List (List ℕ)) → HasWrittenWords old new all left → left ≡ [] → Appends old new (blanked all)
+written_all old new all left before none =
     subst (Appends old new) (sym (before.spelled ∙ ap (λ l. before.text ++ blanked l) none ∙ append-nil before.text)) before.gained
 
 -- no word follows the name of a refusal that is of no file's faults

@@ -13,7 +13,7 @@ use Rattle.rd_commands.specs.RefusalLines.{Tells}
 use Rattle.rd_commands.specs.Commands.{AsksOfStore, IsAskOf}
 use Rattle.rd_commands.specs.Words.{AsksOfKind}
 use Rattle.rd_commands.specs.declared.words.Ask.{Ask}
-use Rattle.rd_commands.specs.declared.words.Ask.TheVariants.{Copy, Extract, File, Files, Import, Init, OneQuestion, Serve, Sift, StaffKey}
+use Rattle.rd_commands.specs.declared.words.Ask.TheVariants.{Copy, Extract, File, Files, Import, Init, OneQuestion, Serve, FlaggedImport, StaffKey}
 use Rattle.rd_commands.specs.declared.refusal.Refusal.{Refusal}
 use Rattle.rd_commands.specs.declared.refusal.Refusal.TheVariants.{Usage, Device, NoMemory, WrongSize, NoFile, ListedOnly, Faulty, Exists, NotADesk, Version, Inconsistent, Store, Clock, BadSheet, UnknownKey, StaffOnly, NoAccession}
 use Rattle.rd_commands.specs.declared.words.FileAsk.{FileAsk}
@@ -113,8 +113,8 @@ reads_of_kind words (Import ask) kind is (inl cat) = absurd (is.file kind cat.0 
 reads_of_kind words (Import ask) kind is (inr list) = absurd (is.files kind list.0 list.1)
 reads_of_kind words (OneQuestion ask) kind is (inl cat) = absurd (is.file kind cat.0 cat.1 cat.2)
 reads_of_kind words (OneQuestion ask) kind is (inr list) = absurd (is.files kind list.0 list.1)
-reads_of_kind words (Sift ask) kind is (inl cat) = absurd (is.file kind cat.0 cat.1 cat.2)
-reads_of_kind words (Sift ask) kind is (inr list) = absurd (is.files kind list.0 list.1)
+reads_of_kind words (FlaggedImport ask) kind is (inl cat) = absurd (is.file kind cat.0 cat.1 cat.2)
+reads_of_kind words (FlaggedImport ask) kind is (inr list) = absurd (is.files kind list.0 list.1)
 reads_of_kind words (Extract ask) kind is (inl cat) = absurd (is.file kind cat.0 cat.1 cat.2)
 reads_of_kind words (Extract ask) kind is (inr list) = absurd (is.files kind list.0 list.1)
 reads_of_kind words (StaffKey ask) kind is (inl cat) = absurd (is.file kind cat.0 cat.1 cat.2)
@@ -144,7 +144,7 @@ reads_no_input words (Init ask) is asks = refl
 reads_no_input words (Serve ask) is asks = refl
 reads_no_input words (Import ask) is asks = refl
 reads_no_input words (OneQuestion ask) is asks = refl
-reads_no_input words (Sift ask) is asks = refl
+reads_no_input words (FlaggedImport ask) is asks = refl
 reads_no_input words (Extract ask) is (inl init) = absurd (is.init init.0 init.1 init.2)
 reads_no_input words (Extract ask) is (inr (inl serve)) = absurd (is.serve serve.0 serve.1 serve.2 serve.3 serve.4)
 reads_no_input words (Extract ask) is (inr (inr (inl import))) = absurd (is.import import.0 import.1 import.2 import.3 import.4 import.5)
@@ -164,7 +164,7 @@ reads_few (Init ask) = omega arith
 reads_few (Serve ask) = omega arith
 reads_few (Import ask) = omega arith
 reads_few (OneQuestion ask) = omega arith
-reads_few (Sift ask) = omega arith
+reads_few (FlaggedImport ask) = omega arith
 reads_few (Extract ask) = largest ask.image.kind
 reads_few (StaffKey ask) = omega arith
 reads_few (Copy ask) = omega arith

@@ -1,20 +1,20 @@
 -- What the words of `import` ask for, by its flags.
 use Rattle.std.proofs.Common.{◌≡◌, ◌∙◌, ◌||◌, ℕ, ℤ, Bool, List, Option, codes, false, refl, subst, sym, true}
 use Rattle.clap.specs.Words.{Row, Text}
-use Rattle.rd_commands.specs.Asks.{AreWays, AsksImages, IsImportAsk, IsSiftAsk, TellsInRows, is_trusting}
-use Rattle.rd_commands.specs.Told.{AskFrom, ImportFrom, WaysFrom, command_name}
+use Rattle.rd_commands.specs.Asks.{AreImportFlags, AsksImages, IsImportAsk, IsFlaggedImportAsk, TellsInRows, is_trusting}
+use Rattle.rd_commands.specs.Parsed.{AskFrom, ImportFrom, ImportFlagsFrom, command_name}
 use Rattle.rd_commands.specs.declared.words.Ask.{Ask}
-use Rattle.rd_commands.specs.declared.words.Ask.TheVariants.{Import, Sift}
+use Rattle.rd_commands.specs.declared.words.Ask.TheVariants.{Import, FlaggedImport}
 use Rattle.rd_commands.specs.declared.words.ImportAsk.{ImportAsk}
 
 -- what is asked for with these flags
 abbrev pub sheet_ask : ImportAsk → Bool → Bool → Ask
 sheet_ask import false false = Import import
-sheet_ask import dry_run keep_going = Sift (record { import = import; dry_run = dry_run; keep_going = keep_going })
+sheet_ask import dry_run keep_going = FlaggedImport (record { import = import; dry_run = dry_run; keep_going = keep_going })
 
 -- that is what was made
 pub made : (import : ImportAsk) (dry going : Bool) (ask : Ask) → (dry ≡ false → going ≡ false → ask ≡ Import import)
-    → ((dry || going) ≡ true → ask ≡ Sift (record { import = import; dry_run = dry; keep_going = going })) → ask ≡ sheet_ask import dry going
+    → ((dry || going) ≡ true → ask ≡ FlaggedImport (record { import = import; dry_run = dry; keep_going = going })) → ask ≡ sheet_ask import dry going
 made import false false ask none one = none refl refl
 made import false true ask none one = one refl
 made import true false ask none one = one refl
@@ -51,16 +51,16 @@ named import true true = refl
 pub made_named : (import : ImportAsk) (dry going : Bool) (ask : Ask) → ask ≡ sheet_ask import dry going → command_name ask ≡ codes "import"
 made_named import dry going ask is = subst (λ a. command_name a ≡ codes "import") (sym is) (named import dry going)
 
-from : (rows : List Row) (import : ImportAsk) (dry going : Bool) → ImportFrom rows import → WaysFrom rows dry going → AskFrom rows (sheet_ask import dry going)
-from rows import false false images ways = (images, ways)
-from rows import false true images ways = (images, ways)
-from rows import true false images ways = (images, ways)
-from rows import true true images ways = (images, ways)
+from : (rows : List Row) (import : ImportAsk) (dry going : Bool) → ImportFrom rows import → ImportFlagsFrom rows dry going → AskFrom rows (sheet_ask import dry going)
+from rows import false false images flags = (images, flags)
+from rows import false true images flags = (images, flags)
+from rows import true false images flags = (images, flags)
+from rows import true true images flags = (images, flags)
 
 -- it is what was found
-pub made_from : (rows : List Row) (import : ImportAsk) (dry going : Bool) (ask : Ask) → ask ≡ sheet_ask import dry going → ImportFrom rows import → WaysFrom rows dry going
+pub made_from : (rows : List Row) (import : ImportAsk) (dry going : Bool) (ask : Ask) → ask ≡ sheet_ask import dry going → ImportFrom rows import → ImportFlagsFrom rows dry going
     → AskFrom rows ask
-made_from rows import dry going ask is images ways = subst (AskFrom rows) (sym is) (from rows import dry going images ways)
+made_from rows import dry going ask is images flags = subst (AskFrom rows) (sym is) (from rows import dry going images flags)
 
 -- without flags it takes the images in
 pub made_import : (import : ImportAsk) (dry going : Bool) (ask : Ask) (store key sheet : Text) (moment : Option ℤ) (rule : Text) → ask ≡ sheet_ask import dry going
@@ -73,20 +73,20 @@ made_import import dry going ask store key sheet moment rule is no_try no_more a
     plain true going no_try no_more = absurd (cc no_try)
     plain false true no_try no_more = absurd (cc no_more)
 
-sifted : (import : ImportAsk) (dry going : Bool) (store key sheet : Text) (moment : Option ℤ) (rule : Text) → (dry || going) ≡ true
-    → AsksImages import store key sheet moment rule → IsSiftAsk store key sheet moment rule dry going (sheet_ask import dry going)
-sifted import false false store key sheet moment rule one asks = absurd (cc one)
-sifted import false true store key sheet moment rule one asks = record { images = asks; dry_run_is = refl; keep_going_is = refl }
-sifted import true false store key sheet moment rule one asks = record { images = asks; dry_run_is = refl; keep_going_is = refl }
-sifted import true true store key sheet moment rule one asks = record { images = asks; dry_run_is = refl; keep_going_is = refl }
+flagged : (import : ImportAsk) (dry going : Bool) (store key sheet : Text) (moment : Option ℤ) (rule : Text) → (dry || going) ≡ true
+    → AsksImages import store key sheet moment rule → IsFlaggedImportAsk store key sheet moment rule dry going (sheet_ask import dry going)
+flagged import false false store key sheet moment rule one asks = absurd (cc one)
+flagged import false true store key sheet moment rule one asks = record { images = asks; dry_run_is = refl; keep_going_is = refl }
+flagged import true false store key sheet moment rule one asks = record { images = asks; dry_run_is = refl; keep_going_is = refl }
+flagged import true true store key sheet moment rule one asks = record { images = asks; dry_run_is = refl; keep_going_is = refl }
 
--- with one it takes them in another way
-pub made_sift : (import : ImportAsk) (dry going : Bool) (ask : Ask) (store key sheet : Text) (moment : Option ℤ) (rule : Text) (told_dry told_going : Bool)
-    → ask ≡ sheet_ask import dry going → dry ≡ told_dry → going ≡ told_going → (told_dry || told_going) ≡ true
-    → AsksImages import store key sheet moment rule → IsSiftAsk store key sheet moment rule told_dry told_going ask
-made_sift import dry going ask store key sheet moment rule told_dry told_going is dry_is going_is one asks =
-    subst (λ d. IsSiftAsk store key sheet moment rule d told_going ask) dry_is
-    (subst (λ g. IsSiftAsk store key sheet moment rule dry g ask) going_is
-    (subst (IsSiftAsk store key sheet moment rule dry going) (sym is)
-    (sifted import dry going store key sheet moment rule
-    (subst (λ g. (dry || g) ≡ true) (sym going_is) (subst (λ d. (d || told_going) ≡ true) (sym dry_is) one)) asks)))
+-- with one it is an import with flags
+pub made_flagged_import : (import : ImportAsk) (dry going : Bool) (ask : Ask) (store key sheet : Text) (moment : Option ℤ) (rule : Text) (flag_dry flag_going : Bool)
+    → ask ≡ sheet_ask import dry going → dry ≡ flag_dry → going ≡ flag_going → (flag_dry || flag_going) ≡ true
+    → AsksImages import store key sheet moment rule → IsFlaggedImportAsk store key sheet moment rule flag_dry flag_going ask
+made_flagged_import import dry going ask store key sheet moment rule flag_dry flag_going is dry_is going_is one asks =
+    subst (λ d. IsFlaggedImportAsk store key sheet moment rule d flag_going ask) dry_is
+    (subst (λ g. IsFlaggedImportAsk store key sheet moment rule dry g ask) going_is
+    (subst (IsFlaggedImportAsk store key sheet moment rule dry going) (sym is)
+    (flagged import dry going store key sheet moment rule
+    (subst (λ g. (dry || g) ≡ true) (sym going_is) (subst (λ d. (d || flag_going) ≡ true) (sym dry_is) one)) asks)))

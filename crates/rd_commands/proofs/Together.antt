@@ -4,8 +4,8 @@ use Rattle.std.specs.Prelude.{⊤, IsSome}
 use Rattle.clap.specs.Words.{App, Row, Text, first_of, subcommand_name_of, subcommand_of, subcommand_rows_of}
 use Rattle.clap.specs.declared.parser.matches.ArgMatches.{ArgMatches}
 use Rattle.rd_commands.specs.Asks.{AreCheckRows, AreExportRows, AreImportRows, AreInitRows, AreServeRows, AreShowRows, AreStaffKeyRows, IsMomentNamed}
-use Rattle.rd_commands.specs.Beside.{EntersApart, EntersBeside, EntersTogether, GoTogether, HasMoment, IsApart, IsBeside, IsMomentText, NeedsKey, TakesKey}
-use Rattle.rd_commands.specs.declared.beside.Beside.{Beside}
+use Rattle.rd_commands.specs.CommonOptions.{EntersApart, EntersOptions, EntersTogether, GoTogether, HasMoment, IsApart, GivesOptions, IsMomentText, NeedsKey, TakesKey}
+use Rattle.rd_commands.specs.declared.common_options.CommonOptions.{CommonOptions}
 use Rattle.rd_commands.specs.declared.words.Unread.{Unread}
 use Rattle.rd_commands.specs.CommandLine.{IsDeskApp}
 use Rattle.rd_commands.specs.Commands.{IsCommand}
@@ -168,8 +168,8 @@ command_together app words name rows desk is (inl (inl cat)) =
     subst FitEntered (sym enters.into ∙ is) (no_options (codes "cat") enters.rows refl refl)
 command_together app words name rows desk is (inl (inr (inl files))) =
     subst FitEntered (sym (files.3.enters.into app desk) ∙ is) (no_options (codes "files") files.3.rows refl refl)
-command_together app words name rows desk is (inl (inr (inr sift))) =
-    subst FitEntered (sym (sift.7.enters.into app desk) ∙ is) (import_together sift.7.rows sift.0 sift.1 sift.2 sift.3 sift.4 sift.7.found)
+command_together app words name rows desk is (inl (inr (inr flagged_import))) =
+    subst FitEntered (sym (flagged_import.7.enters.into app desk) ∙ is) (import_together flagged_import.7.rows flagged_import.0 flagged_import.1 flagged_import.2 flagged_import.3 flagged_import.4 flagged_import.7.found)
 command_together app words name rows desk is (inr (inl list)) =
     let enters = gives_list app words list.0 list.1 desk list.2 in
     subst FitEntered (sym enters.into ∙ is) (no_options (codes "list") enters.rows refl refl)
@@ -202,18 +202,18 @@ module _ (m : ArgMatches) (name : Text) (rows : List Row) (is : Some name ≡ su
       (subst (λ n. P n rows) (sym (name_met m other name others rows into is are)) holds)
 
   -- what stands beside is said of it
-  pub if_ok_met : (r : Result Beside Unread) → IfOk r (IsBeside name rows) → IfOk r (EntersBeside (subcommand_rows_of m))
-  if_ok_met (Ok beside) says = λ other others into. meets (λ n rs. IsBeside n rs beside) says other others into
+  pub if_ok_met : (r : Result CommonOptions Unread) → IfOk r (GivesOptions name rows) → IfOk r (EntersOptions (subcommand_rows_of m))
+  if_ok_met (Ok options) says = λ other others into. meets (λ n rs. GivesOptions n rs options) says other others into
   if_ok_met (Err fault) says = tt
 
   -- its options go together
-  pub on_ok_met : (r : Result Beside Unread) → OnOk r (GoTogether name rows) → OnOk r (EntersTogether (subcommand_rows_of m))
-  on_ok_met (Ok beside) fits = λ other others into. meets GoTogether fits other others into
+  pub on_ok_met : (r : Result CommonOptions Unread) → OnOk r (GoTogether name rows) → OnOk r (EntersTogether (subcommand_rows_of m))
+  on_ok_met (Ok options) fits = λ other others into. meets GoTogether fits other others into
   on_ok_met (Err fault) fits = tt
 
   -- or they do not
-  pub if_err_met : (r : Result Beside Unread) → IfErr r (λ fault. IsApart fault → ¬ GoTogether name rows) → IfErr r (λ fault. IsApart fault → EntersApart (subcommand_rows_of m))
-  if_err_met (Ok beside) apart = tt
+  pub if_err_met : (r : Result CommonOptions Unread) → IfErr r (λ fault. IsApart fault → ¬ GoTogether name rows) → IfErr r (λ fault. IsApart fault → EntersApart (subcommand_rows_of m))
+  if_err_met (Ok options) apart = tt
   if_err_met (Err fault) apart = λ is_apart. (name, rows, entered_here m name rows is are, apart is_apart)
 
 -- where a parse went into no command, there is none

@@ -12,7 +12,7 @@ use Rattle.rd_geometry.specs.Kinds.{size_of, word_of}
 use Rattle.rd_policy.specs.Zones.{IsZoneOf}
 use Rattle.rd_policy.specs.Rules.{IsScope}
 use Rattle.rd_commands.specs.declared.words.Ask.{Ask}
-use Rattle.rd_commands.specs.declared.words.Ask.TheVariants.{Copy, Extract, File, Files, Import, Init, OneQuestion, Serve, Sift, StaffKey}
+use Rattle.rd_commands.specs.declared.words.Ask.TheVariants.{Copy, Extract, File, Files, Import, Init, OneQuestion, Serve, FlaggedImport, StaffKey}
 use Rattle.rd_commands.specs.declared.words.ExtractAsk.{ExtractAsk}
 use Rattle.rd_commands.specs.declared.words.CopyAsk.{CopyAsk}
 use Rattle.rd_commands.specs.declared.words.FileAsk.{FileAsk}
@@ -24,17 +24,17 @@ use Rattle.rd_commands.specs.declared.words.Question.{Question}
 use Rattle.rd_commands.specs.declared.words.Question.TheVariants as question
 use Rattle.rd_commands.specs.declared.words.ServeAsk.{ServeAsk}
 use Rattle.rd_commands.specs.declared.words.Shown.{Shown}
-use Rattle.rd_commands.specs.declared.words.SiftAsk.{SiftAsk}
+use Rattle.rd_commands.specs.declared.words.FlaggedImportAsk.{FlaggedImportAsk}
 use Rattle.rd_commands.specs.declared.words.StaffKeyAsk.{StaffKeyAsk}
 use Rattle.rd_commands.specs.declared.words.Unread.{Unread}
 use Rattle.rd_commands.specs.declared.words.WhenAsk.{WhenAsk}
 use Rattle.rd_commands.specs.declared.words.Unread.TheVariants.{Day, Key, Moment, Place as NoPlace, Clap, Usage, NoMemory, Zones}
-use Rattle.rd_commands.specs.Beside.{IsApart, IsSeconds}
+use Rattle.rd_commands.specs.CommonOptions.{IsApart, IsSeconds}
 use Rattle.rd_commands.specs.CommandLine.{HasFault}
-use Rattle.rd_commands.specs.Serving.{GivesTimeouts, IsCountTold, NamesOnePlace, NamesPlace, Place, place_of}
+use Rattle.rd_commands.specs.Serving.{GivesTimeouts, IsCountUsed, NamesOnePlace, NamesPlace, Place, place_of}
 use Rattle.rd_commands.specs.Shown.{IsShowable, NamesAny, NamesShown}
 use Rattle.rd_commands.specs.Words.{IsSlotText}
-use Rattle.rd_commands.specs.Zones.{HasClocks, HasZoneRule, IsFlagTold, IsRuleNamed, TellsTrust}
+use Rattle.rd_commands.specs.Zones.{HasClocks, HasZoneRule, IsFlagGiven, IsRuleNamed, TellsTrust}
 
 -- it asks for the file at the slot of the image of the kind
 pub record AsksFile (ask : FileAsk) (kind : Kind) (image : List ℕ) (slot : ℕ) : Type 0 where
@@ -75,7 +75,7 @@ pub record AsksImages (ask : ImportAsk) (store key sheet : List ℕ) (moment : O
   pub when_is : AsksWhen ask.when moment rule
 
 -- it asks so, and whether nothing is taken in, and whether it goes past files that cannot be read
-pub record AsksSifted (ask : SiftAsk) (store key sheet : List ℕ) (moment : Option ℤ) (rule : List ℕ) (dry_run keep_going : Bool) : Type 0 where
+pub record AsksFlaggedImages (ask : FlaggedImportAsk) (store key sheet : List ℕ) (moment : Option ℤ) (rule : List ℕ) (dry_run keep_going : Bool) : Type 0 where
   pub images : AsksImages ask.import store key sheet moment rule
   pub dry_run_is : ask.dry_run ≡ dry_run
   pub keep_going_is : ask.keep_going ≡ keep_going
@@ -137,10 +137,10 @@ abbrev pub IsImportAsk : List ℕ → List ℕ → List ℕ → Option ℤ → L
 IsImportAsk store key sheet moment rule (Import ask) = AsksImages ask store key sheet moment rule
 IsImportAsk store key sheet moment rule _ = ⊥
 
--- the command asks for that in another way
-abbrev pub IsSiftAsk : List ℕ → List ℕ → List ℕ → Option ℤ → List ℕ → Bool → Bool → Ask → Type 0
-IsSiftAsk store key sheet moment rule dry_run keep_going (Sift ask) = AsksSifted ask store key sheet moment rule dry_run keep_going
-IsSiftAsk store key sheet moment rule dry_run keep_going _ = ⊥
+-- the command asks for that with a flag
+abbrev pub IsFlaggedImportAsk : List ℕ → List ℕ → List ℕ → Option ℤ → List ℕ → Bool → Bool → Ask → Type 0
+IsFlaggedImportAsk store key sheet moment rule dry_run keep_going (FlaggedImport ask) = AsksFlaggedImages ask store key sheet moment rule dry_run keep_going
+IsFlaggedImportAsk store key sheet moment rule dry_run keep_going _ = ⊥
 
 -- the command asks for the sound files of the image of the kind, in the folder
 abbrev pub IsExtractAsk : Kind → List ℕ → List ℕ → Ask → Type 0
@@ -191,14 +191,14 @@ IsAskable other = ⊤
 -- if not all is well, the output says so: what became of a row, or that an image is changed
 abbrev pub TellsOnOutput : Ask → Type 0
 TellsOnOutput (Import ask) = ⊤
-TellsOnOutput (Sift ask) = ⊤
+TellsOnOutput (FlaggedImport ask) = ⊤
 TellsOnOutput (OneQuestion ask) = IsCheck ask.question
 TellsOnOutput _ = ⊥
 
 -- the command goes row by row, and a line for each row says what became of it
 abbrev pub TellsInRows : Ask → Type 0
 TellsInRows (Import ask) = ⊤
-TellsInRows (Sift ask) = ⊤
+TellsInRows (FlaggedImport ask) = ⊤
 TellsInRows _ = ⊥
 
 -- the command makes a file for each sound one of an image, and a line for each says so
@@ -221,7 +221,7 @@ has_sums ask = false
 abbrev pub is_trusting : Ask → Bool
 is_trusting (Serve ask) = ask.is_trusting
 is_trusting (Import ask) = ask.when.is_trusting
-is_trusting (Sift ask) = ask.import.when.is_trusting
+is_trusting (FlaggedImport ask) = ask.import.when.is_trusting
 is_trusting (OneQuestion ask) = ask.when.is_trusting
 is_trusting ask = false
 
@@ -234,7 +234,7 @@ most_read (Init ask) = 0
 most_read (Serve ask) = 0
 most_read (Import ask) = 0
 most_read (OneQuestion ask) = 0
-most_read (Sift ask) = 0
+most_read (FlaggedImport ask) = 0
 most_read (Extract ask) = size_of ask.image.kind + 1
 most_read (StaffKey ask) = 0
 most_read (Copy ask) = 0
@@ -273,9 +273,9 @@ IsForMemory NoMemory = ⊤
 IsForMemory other = ⊥
 
 -- `clap` says why
-abbrev pub IsTold : Unread → Type 0
-IsTold (Clap error) = ⊤
-IsTold other = ⊥
+abbrev pub IsOfClap : Unread → Type 0
+IsOfClap (Clap error) = ⊤
+IsOfClap other = ⊥
 
 -- what `clap` says is a fault that it finds in the words, or that memory ran out
 abbrev pub IsFaultOf : List Text → Unread → Type 0
@@ -329,13 +329,13 @@ pub record EntersInit (entered : Option (Text × List Row)) (store key : List �
 
 -- the parse went into `init`, which tells whether the pages end in sums
 abbrev pub EntersSumming : Option (Text × List Row) → Bool → Type 0
-EntersSumming entered summed = (rows : List Row) × (entered ≡ Some (codes "init", rows)) × IsFlagTold (one_of (codes "sums") rows) summed
+EntersSumming entered summed = (rows : List Row) × (entered ≡ Some (codes "init", rows)) × IsFlagGiven (one_of (codes "sums") rows) summed
 
 -- the options that `clap` found for `serve`: of the numbers the texts, and of the zone one that may be absent
 pub record AreServeRows (rows : List Row) (store : List ℕ) (place : Place) (count : ℕ) (rule : List ℕ) : Type 0 where
   pub store_found : first_of (codes "store") rows ≡ Some store
   pub place_named : NamesPlace rows place
-  pub count_told : IsCountTold rows count
+  pub count_used : IsCountUsed rows count
   pub rule_named : IsRuleNamed (first_of (codes "zone") rows) rule
   pub no_zone_file : first_of (codes "zone-file") rows ≡ None
 
@@ -374,9 +374,9 @@ pub record AreImportRows (rows : List Row) (store key sheet : List ℕ) (moment 
   pub no_zone_file : first_of (codes "zone-file") rows ≡ None
 
 -- the flags that `clap` found for `import`
-pub record AreWays (rows : List Row) (dry_run keep_going : Bool) : Type 0 where
-  pub dry_run_told : IsFlagTold (one_of (codes "dry-run") rows) dry_run
-  pub keep_going_told : IsFlagTold (one_of (codes "keep-going") rows) keep_going
+pub record AreImportFlags (rows : List Row) (dry_run keep_going : Bool) : Type 0 where
+  pub dry_run_given : IsFlagGiven (one_of (codes "dry-run") rows) dry_run
+  pub keep_going_given : IsFlagGiven (one_of (codes "keep-going") rows) keep_going
 
 -- the parse went into `import`, found its options, and neither of these flags
 pub record EntersImport (entered : Option (Text × List Row)) (store key sheet : List ℕ) (moment : Option ℤ) (rule : List ℕ)
@@ -384,15 +384,15 @@ pub record EntersImport (entered : Option (Text × List Row)) (store key sheet :
   pub rows : List Row
   pub into : entered ≡ Some (codes "import", rows)
   pub found : AreImportRows rows store key sheet moment rule
-  pub ways : AreWays rows false false
+  pub flags : AreImportFlags rows false false
 
 -- the parse went into `import`, found its options, and these flags, of which one is set
-pub record EntersSift (entered : Option (Text × List Row)) (store key sheet : List ℕ) (moment : Option ℤ) (rule : List ℕ) (dry_run keep_going : Bool)
+pub record EntersFlaggedImport (entered : Option (Text × List Row)) (store key sheet : List ℕ) (moment : Option ℤ) (rule : List ℕ) (dry_run keep_going : Bool)
     : Type 0 where
   pub rows : List Row
   pub into : entered ≡ Some (codes "import", rows)
   pub found : AreImportRows rows store key sheet moment rule
-  pub ways : AreWays rows dry_run keep_going
+  pub flags : AreImportFlags rows dry_run keep_going
   pub one : (dry_run || keep_going) ≡ true
 
 -- the operands that `clap` found for `files`
@@ -486,7 +486,7 @@ pub record EntersStaffKey (entered : Option (Text × List Row)) (store key : Lis
 pub record AreCopyRows (rows : List Row) (store target : List ℕ) (summed : Bool) : Type 0 where
   pub store_found : first_of (codes "store") rows ≡ Some store
   pub target_found : first_of (codes "to") rows ≡ Some target
-  pub sums_told : IsFlagTold (one_of (codes "sums") rows) summed
+  pub sums_given : IsFlagGiven (one_of (codes "sums") rows) summed
 
 -- the parse went into `copy`, and found its options
 pub record EntersCopy (entered : Option (Text × List Row)) (store target : List ℕ) (summed : Bool) : Type 0 where

@@ -100,7 +100,7 @@ sheet_rule = required_option (codes "sheet")
 abbrev pub moment_rule : Rule
 moment_rule = option (codes "at")
 
--- the flag that has the lines of an import told and nothing taken in
+-- the flag of a dry run: the lines of an import are written, and nothing is taken in
 abbrev pub dry_run_rule : Rule
 dry_run_rule = flag (codes "dry-run")
 
@@ -198,11 +198,15 @@ what_rule names = required_by (codes "WHAT") (Names names)
 abbrev pub day_rule : Rule
 day_rule = record (new_rule (codes "on")) { long = Some (codes "on"); value_names = 1 }
 
+-- the option for the accession of verdicts, a number from 1 to 999,999, which may be absent
+abbrev pub one_accession_rule : Rule
+one_accession_rule = record (option (codes "acc")) { parser = Some (Signed (pos 1) (pos LAST_SCOPE)) }
+
 -- the command `show`
 abbrev pub show_app : NameList → App
 show_app names =
-    explained (with_moment (with_rule (with_caller (with_rule (with_rule (new_app (codes "show")) (what_rule names)) store_rule))
-    day_rule))
+    explained (with_moment (with_rule (with_rule (with_caller (with_rule (with_rule (new_app (codes "show")) (what_rule names)) store_rule))
+    day_rule) one_accession_rule))
 
 -- the command `staff-key`
 abbrev pub staff_key_app : App

@@ -5,12 +5,12 @@ use Rattle.rd_geometry.specs.declared.kind.Kind.{Kind}
 use Rattle.rd_commands.specs.declared.words.Ask.{Ask}
 use Rattle.rd_commands.specs.declared.words.Question.TheVariants.{Catalogue, Check, Show}
 use Rattle.rd_commands.specs.declared.words.Shown.{Shown}
-use Rattle.rd_commands.specs.Asks.{AreCheckRows, AreCopyRows, AreExportRows, AreFilesRows, AreImportRows, AreInitRows, AreServeRows, AreShowRows, AreStaffKeyRows, AreWays, HasTimeouts, IsCopyAsk, IsExtractAsk, IsFileAsk, IsFilesAsk, IsImportAsk, IsInitAsk, IsOneQuestionAsk, IsServeAsk, IsSiftAsk, IsStaffKeyAsk}
+use Rattle.rd_commands.specs.Asks.{AreCheckRows, AreCopyRows, AreExportRows, AreFilesRows, AreImportRows, AreInitRows, AreServeRows, AreShowRows, AreStaffKeyRows, AreImportFlags, HasTimeouts, IsCopyAsk, IsExtractAsk, IsFileAsk, IsFilesAsk, IsImportAsk, IsInitAsk, IsOneQuestionAsk, IsServeAsk, IsFlaggedImportAsk, IsStaffKeyAsk}
 use Rattle.rd_commands.specs.CommandLine.{Enters, IsTakenAs}
 use Rattle.rd_commands.specs.Serving.{NamesOnePlace, Place}
 use Rattle.rd_commands.specs.Shown.{NamesAny, NamesShown}
 use Rattle.rd_commands.specs.Words.{AsksCat, AsksList}
-use Rattle.rd_commands.specs.Zones.{HasClocks, HasZoneRule, IsFlagTold, TellsTrust}
+use Rattle.rd_commands.specs.Zones.{HasClocks, HasZoneRule, IsFlagGiven, TellsTrust}
 
 -- The words ask for a desk in the file of a store, with a key: they are those of `init`, as `clap` takes them.
 pub record AsksInit (words : List Text) (store key : List ℕ) : Type 0 where
@@ -32,7 +32,7 @@ pub record AsksImport (words : List Text) (store key sheet : List ℕ) (moment :
   pub rows : List Row
   pub enters : Enters words (codes "import") rows
   pub found : AreImportRows rows store key sheet moment rule
-  pub ways : AreWays rows false false
+  pub flags : AreImportFlags rows false false
 
 -- they ask for it with some options
 abbrev pub IsImport : List Text → Type 0
@@ -40,17 +40,17 @@ IsImport words = (store : List ℕ) × (key : List ℕ) × (sheet : List ℕ) ×
     × AsksImport words store key sheet moment rule
 
 -- The words ask for that with one of the flags --dry-run and --keep-going, or both: they have these.
-pub record AsksSift (words : List Text) (store key sheet : List ℕ) (moment : Option ℤ) (rule : List ℕ) (dry_run keep_going : Bool) : Type 0 where
+pub record AsksFlaggedImport (words : List Text) (store key sheet : List ℕ) (moment : Option ℤ) (rule : List ℕ) (dry_run keep_going : Bool) : Type 0 where
   pub rows : List Row
   pub enters : Enters words (codes "import") rows
   pub found : AreImportRows rows store key sheet moment rule
-  pub ways : AreWays rows dry_run keep_going
+  pub flags : AreImportFlags rows dry_run keep_going
   pub one : (dry_run || keep_going) ≡ true
 
 -- they ask for it with some options
-abbrev pub IsSift : List Text → Type 0
-IsSift words = (store : List ℕ) × (key : List ℕ) × (sheet : List ℕ) × (moment : Option ℤ) × (rule : List ℕ) × (dry_run : Bool) × (keep_going : Bool)
-    × AsksSift words store key sheet moment rule dry_run keep_going
+abbrev pub IsFlaggedImport : List Text → Type 0
+IsFlaggedImport words = (store : List ℕ) × (key : List ℕ) × (sheet : List ℕ) × (moment : Option ℤ) × (rule : List ℕ) × (dry_run : Bool) × (keep_going : Bool)
+    × AsksFlaggedImport words store key sheet moment rule dry_run keep_going
 
 -- The words ask for the sound files of an image of a kind, in a folder: they are those of `files`, as `clap` takes them.
 pub record AsksFiles (words : List Text) (kind : Kind) (image folder : List ℕ) : Type 0 where
@@ -130,7 +130,7 @@ AsksOfStore words = ((store : List ℕ) × (key : List ℕ) × AsksInit words st
 -- the words are a command of the program: a plain form of `cat` or `list`, or any form of the others in which no key and no
 -- rule for clocks is in a file, and no date stands in place of a moment
 abbrev pub IsCommand : List Text → Type 0
-IsCommand words = (((kind : Kind) × (image : List ℕ) × (slot : ℕ) × AsksCat words kind image slot) ⊎ (IsFiles words ⊎ IsSift words))
+IsCommand words = (((kind : Kind) × (image : List ℕ) × (slot : ℕ) × AsksCat words kind image slot) ⊎ (IsFiles words ⊎ IsFlaggedImport words))
     ⊎ (((kind : Kind) × (image : List ℕ) × AsksList words kind image) ⊎ AsksOfStore words)
 
 -- if `clap` takes the words as a command that has clocks, they give a rule for these
@@ -159,7 +159,7 @@ Trusts words trusted = (name : List ℕ) × (rows : List Row) × Enters words na
 
 -- `clap` takes the words as `init`, and they tell whether the pages of the new store end in sums
 abbrev pub Sums : List Text → Bool → Type 0
-Sums words summed = (rows : List Row) × Enters words (codes "init") rows × IsFlagTold (one_of (codes "sums") rows) summed
+Sums words summed = (rows : List Row) × Enters words (codes "init") rows × IsFlagGiven (one_of (codes "sums") rows) summed
 
 -- the program asks for what the words ask for
 pub record IsAskOf (words : List Text) (ask : Ask) : Type 0 where
@@ -169,8 +169,8 @@ pub record IsAskOf (words : List Text) (ask : Ask) : Type 0 where
   pub serve : (store : List ℕ) (place : Place) (count : ℕ) (rule : List ℕ) → AsksServe words store place count rule
       → IsServeAsk store place count rule ask
   pub timeouts : (rows : List Row) → Enters words (codes "serve") rows → HasTimeouts rows ask
-  pub sift : (store key sheet : List ℕ) (moment : Option ℤ) (rule : List ℕ) (dry_run keep_going : Bool)
-      → AsksSift words store key sheet moment rule dry_run keep_going → IsSiftAsk store key sheet moment rule dry_run keep_going ask
+  pub flagged_import : (store key sheet : List ℕ) (moment : Option ℤ) (rule : List ℕ) (dry_run keep_going : Bool)
+      → AsksFlaggedImport words store key sheet moment rule dry_run keep_going → IsFlaggedImportAsk store key sheet moment rule dry_run keep_going ask
   pub extract : (kind : Kind) (image folder : List ℕ) → AsksFiles words kind image folder → IsExtractAsk kind image folder ask
   pub import : (store key sheet : List ℕ) (moment : Option ℤ) (rule : List ℕ)
       → AsksImport words store key sheet moment rule → IsImportAsk store key sheet moment rule ask

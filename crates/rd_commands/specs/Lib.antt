@@ -5,11 +5,11 @@ pub mod Words
 pub mod CommandLine
 pub mod OneCommand
 pub mod Zones
-pub mod Beside
+pub mod CommonOptions
 pub mod Serving
 pub mod Shown
 pub mod Asks
-pub mod Told
+pub mod Parsed
 pub mod Commands
 pub mod Refusals
 pub mod Output

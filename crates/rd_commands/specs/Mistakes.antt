@@ -10,9 +10,9 @@ help_hint = line_feed ++ (line_feed ++ (codes "For more information, try '--help
 abbrev pub zone_mistake : List ℕ
 zone_mistake = codes "error: --zone takes a rule as POSIX writes it, as in UTC0 or CET-1CEST,M3.5.0,M10.5.0/3; for a place, --zone-file /usr/share/zoneinfo/Europe/Prague" ++ help_hint
 
--- the day does not go with what `show` shows
+-- the day or the accession does not go with what `show` shows
 abbrev pub day_mistake : List ℕ
-day_mistake = codes "error: --on takes a date, as in 2030-01-01; 'show verdicts' needs it, and nothing else takes it" ++ help_hint
+day_mistake = codes "error: --on takes a date, as in 2030-01-01; 'show verdicts' needs it, and nothing else takes it or --acc" ++ help_hint
 
 -- the words of `serve` name two places
 abbrev pub place_mistake : List ℕ

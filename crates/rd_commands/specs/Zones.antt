@@ -10,7 +10,7 @@ rule_text None = codes "UTC0"
 
 -- the text, or its absence, gives this rule
 abbrev pub IsRuleNamed : Option (List ℕ) → List ℕ → Type 0
-IsRuleNamed told rule = (rule ≡ rule_text told) × IsZoneRule rule
+IsRuleNamed given rule = (rule ≡ rule_text given) × IsZoneRule rule
 
 -- what `clap` found for a command has a rule for its clocks
 abbrev pub HasZoneRule : List Row → Type 0
@@ -22,11 +22,11 @@ abbrev pub HasClocks : List ℕ → Type 0
 HasClocks name = (name ≡ codes "serve") ⊎ ((name ≡ codes "import") ⊎ ((name ≡ codes "export") ⊎ ((name ≡ codes "check") ⊎ (name ≡ codes "show"))))
 
 -- what a flag tells: its text is that of the truth value, and without a text it is not set
-abbrev pub IsFlagTold : Option (List ℕ) → Bool → Type 0
-IsFlagTold (Some text) true = text ≡ codes "true"
-IsFlagTold (Some text) false = text ≡ codes "false"
-IsFlagTold None flag = flag ≡ false
+abbrev pub IsFlagGiven : Option (List ℕ) → Bool → Type 0
+IsFlagGiven (Some text) true = text ≡ codes "true"
+IsFlagGiven (Some text) false = text ≡ codes "false"
+IsFlagGiven None flag = flag ≡ false
 
 -- what `clap` found for a command tells whether the clock is trusted
 abbrev pub TellsTrust : List Row → Bool → Type 0
-TellsTrust rows trusted = IsFlagTold (one_of (codes "trust-clock") rows) trusted
+TellsTrust rows trusted = IsFlagGiven (one_of (codes "trust-clock") rows) trusted

@@ -7,23 +7,23 @@ ghost use Rattle.clap.specs.Words.{first_of, found_of, one_of, rows_of};
 ghost use Rattle.httparse.specs.Grammar.{trim_ows};
 ghost use Rattle.rd_policy.specs.Rules.{IsScope};
 ghost use Rattle.rd_policy.specs.Zones.{IsZoneOf};
-ghost use Rattle.rd_commands.specs.Asks.{AreCatRows, AreCheckRows, AreExportRows, AreFilesRows, AreImportRows, AreInitRows, AreListRows, AreServeRows, AreShowRows, AreWays, IsMomentNamed};
+ghost use Rattle.rd_commands.specs.Asks.{AreCatRows, AreCheckRows, AreExportRows, AreFilesRows, AreImportRows, AreInitRows, AreListRows, AreServeRows, AreShowRows, AreImportFlags, IsMomentNamed};
 ghost use Rattle.rd_commands.specs.Asks.{AsksExtracted, AsksFile, AsksFiles, AsksImages, AsksNew, AsksOneQuestion, AsksVisits, AsksWhen, IsAskable};
-ghost use Rattle.rd_commands.specs.Asks.{IsCheck, IsImportAsk, IsSiftAsk, TellsInRows, is_trusting};
+ghost use Rattle.rd_commands.specs.Asks.{IsCheck, IsImportAsk, IsFlaggedImportAsk, TellsInRows, is_trusting};
 ghost use Rattle.rd_commands.specs.Asks.{AreCopyRows, AreStaffKeyRows, AsksCopying, AsksStaff};
 ghost use Rattle.rd_commands.specs.Serving.{GivesTimeouts};
 ghost use Rattle.rd_commands.specs.Serving as spec;
-ghost use Rattle.rd_commands.specs.Shown.{NamesShown};
+ghost use Rattle.rd_commands.specs.Shown.{IsAccessionGiven, NamesShown};
 ghost use Rattle.rd_commands.specs.Words.{IsSlotText};
-ghost use Rattle.rd_commands.specs.Told.{AreSecondsTold, AskFrom, CopyFrom, ExtractFrom, FileFrom, ImageFrom, ImportFrom, InitFrom, IsAccessionTold, IsKeyTold, IsKindTold, IsSlotTold, OneFrom, ServeFrom, StaffKeyFrom, WhenFrom, command_name};
-ghost use Rattle.rd_commands.specs.Zones.{HasZoneRule, IsFlagTold, IsRuleNamed, TellsTrust, rule_text};
+ghost use Rattle.rd_commands.specs.Parsed.{AreSecondsGiven, AskFrom, CopyFrom, ExtractFrom, FileFrom, ImageFrom, ImportFrom, InitFrom, IsKeyGiven, IsKindGiven, IsSlotGiven, OneFrom, ServeFrom, StaffKeyFrom, WhenFrom, command_name};
+ghost use Rattle.rd_commands.specs.Zones.{HasZoneRule, IsFlagGiven, IsRuleNamed, TellsTrust, rule_text};
 ghost use Rattle.rd_commands.specs.declared.words.Ask.TheVariants as ask;
 
-use crate::beside::{is_set, seconds_read};
+use crate::common_options::{is_set, seconds_read};
 use crate::serving::{count_asked, place_asked, timeouts_asked};
 use crate::words::{
-    Ask, CopyAsk, ExtractAsk, FileAsk, ImageAsk, ImportAsk, InitAsk, OneQuestionAsk, Question,
-    ServeAsk, Shown, SiftAsk, StaffKeyAsk, WhenAsk,
+    Ask, CopyAsk, ExtractAsk, FileAsk, FlaggedImportAsk, ImageAsk, ImportAsk, InitAsk,
+    OneQuestionAsk, Question, ServeAsk, Shown, StaffKeyAsk, WhenAsk,
 };
 use clap::ArgMatches;
 use rd_operands::trimmed;
@@ -32,8 +32,8 @@ use rd_volume::Kind;
 
 /// The kind that the operand for a kind names, `None` if there is none.
 fn kind_asked(found: &ArgMatches) -> Option<Kind>
-    ensures asked { (kind : Kind) → IsKindTold (rows_of (found_of found.now)) kind → result ≡ Some kind }
-    ensures from { IfSome result (IsKindTold (rows_of (found_of found.now))) }
+    ensures asked { (kind : Kind) → IsKindGiven (rows_of (found_of found.now)) kind → result ≡ Some kind }
+    ensures from { IfSome result (IsKindGiven (rows_of (found_of found.now))) }
 {
     Kind::from_word(found.get_str("KIND")?)
 }
@@ -43,7 +43,7 @@ fn slot_asked(found: &ArgMatches) -> Option<u16>
     ensures asked { (text : List ℕ) (slot : ℕ)
         → one_of (codes "SLOT") (rows_of (found_of found.now)) ≡ Some text
         → IsSlotText text slot → result ≡ Some slot }
-    ensures from { IfSome result (IsSlotTold (rows_of (found_of found.now))) }
+    ensures from { IfSome result (IsSlotGiven (rows_of (found_of found.now))) }
 {
     found.get_one::<u16>("SLOT")
 }
@@ -81,7 +81,7 @@ fn key_asked<'a>(found: &ArgMatches<'a>) -> Option<&'a [u8]>
     ensures asked { (key : List ℕ)
         → first_of (codes "key") (rows_of (found_of found.now)) ≡ Some key
         → IsSomeAnd result (λ trimmed. trimmed.now ≡ trim_ows key) }
-    ensures from { IfSome result (λ key. IsKeyTold (rows_of (found_of found.now)) key.now) }
+    ensures from { IfSome result (λ key. IsKeyGiven (rows_of (found_of found.now)) key.now) }
 {
     let Some(key) = found.get_str("key") else {
         found.get_str("key-file")?;
@@ -92,7 +92,7 @@ fn key_asked<'a>(found: &ArgMatches<'a>) -> Option<&'a [u8]>
 
 /// Whether its flag says that the pages of a new store end in sums.
 fn sums_asked(found: &ArgMatches) -> bool
-    ensures { (summed : Bool) → IsFlagTold (one_of (codes "sums") (rows_of (found_of found.now))) summed → result ≡ summed }
+    ensures { (summed : Bool) → IsFlagGiven (one_of (codes "sums") (rows_of (found_of found.now))) summed → result ≡ summed }
 {
     found.get_flag("sums")
 }
@@ -102,7 +102,7 @@ pub(crate) fn init_asked<'a>(found: &ArgMatches<'a>) -> Option<InitAsk<'a>>
     ensures asked { (store : List ℕ) (key : List ℕ)
         → AreInitRows (rows_of (found_of found.now)) store key
         → IsSomeAnd result (λ ask. AsksNew ask store key) }
-    ensures sums { (summed : Bool) → IsFlagTold (one_of (codes "sums") (rows_of (found_of found.now))) summed
+    ensures sums { (summed : Bool) → IsFlagGiven (one_of (codes "sums") (rows_of (found_of found.now))) summed
         → IfSome result (λ ask. ask.has_sums ≡ summed) }
     ensures from { IfSome result (InitFrom (rows_of (found_of found.now))) }
 {
@@ -150,7 +150,7 @@ pub(crate) fn serve_asked<'a>(found: &ArgMatches<'a>) -> Option<ServeAsk<'a>>
 fn moment_asked(found: &ArgMatches) -> Option<i64>
     ensures asked { (moment : Option ℤ)
         → IsMomentNamed (first_of (codes "at") (rows_of (found_of found.now))) moment → result ≡ moment }
-    ensures from { AreSecondsTold (rows_of (found_of found.now)) result }
+    ensures from { AreSecondsGiven (rows_of (found_of found.now)) result }
 {
     seconds_read(found.get_str("at")?)
 }
@@ -199,12 +199,12 @@ fn import_asked<'a>(found: &ArgMatches<'a>) -> Option<ImportAsk<'a>>
 /// What is asked for with these flags.
 fn sheet_ask<'a>(import: ImportAsk<'a>, dry_run: bool, keep_going: bool) -> Ask<'a>
     ensures import { dry_run ≡ false → keep_going ≡ false → result ≡ ask.Import import.entry }
-    ensures sift { (dry_run || keep_going) ≡ true
-        → result ≡ ask.Sift (record { import = import.entry; dry_run = dry_run; keep_going = keep_going }) }
+    ensures flagged_import { (dry_run || keep_going) ≡ true
+        → result ≡ ask.FlaggedImport (record { import = import.entry; dry_run = dry_run; keep_going = keep_going }) }
 {
     match (dry_run, keep_going) {
         (false, false) => Ask::Import(import),
-        _ => Ask::Sift(SiftAsk {
+        _ => Ask::FlaggedImport(FlaggedImportAsk {
             import,
             dry_run,
             keep_going,
@@ -212,17 +212,16 @@ fn sheet_ask<'a>(import: ImportAsk<'a>, dry_run: bool, keep_going: bool) -> Ask<
     }
 }
 
-/// What the options of `import` ask for, with the flags that say in which way; `None` if one is missing or badly
-/// written.
+/// What the options and flags of `import` ask for; `None` if one is missing or badly written.
 pub(crate) fn sheet_asked<'a>(found: &ArgMatches<'a>) -> Option<Ask<'a>>
     ensures import { (store key sheet : List ℕ) (moment : Option ℤ) (rule : List ℕ)
         → AreImportRows (rows_of (found_of found.now)) store key sheet moment rule
-        → AreWays (rows_of (found_of found.now)) false false
+        → AreImportFlags (rows_of (found_of found.now)) false false
         → IsSomeAnd result (IsImportAsk store key sheet moment rule) }
-    ensures sift { (store key sheet : List ℕ) (moment : Option ℤ) (rule : List ℕ) (dry_run keep_going : Bool)
+    ensures flagged_import { (store key sheet : List ℕ) (moment : Option ℤ) (rule : List ℕ) (dry_run keep_going : Bool)
         → AreImportRows (rows_of (found_of found.now)) store key sheet moment rule
-        → AreWays (rows_of (found_of found.now)) dry_run keep_going → (dry_run || keep_going) ≡ true
-        → IsSomeAnd result (IsSiftAsk store key sheet moment rule dry_run keep_going) }
+        → AreImportFlags (rows_of (found_of found.now)) dry_run keep_going → (dry_run || keep_going) ≡ true
+        → IsSomeAnd result (IsFlaggedImportAsk store key sheet moment rule dry_run keep_going) }
     ensures zone { OnSome result (HasZoneRule (rows_of (found_of found.now))) }
     ensures trust { (trusted : Bool) → TellsTrust (rows_of (found_of found.now)) trusted → IfSome result (λ ask. is_trusting ask ≡ trusted) }
     ensures rows { IfSome result TellsInRows }
@@ -261,12 +260,12 @@ fn key_operand<'a>(found: &ArgMatches<'a>) -> Option<&'a [u8]>
 }
 
 /// The accession that its option gives; `None` if it gives none.
-fn accession_asked(found: &ArgMatches) -> Option<u32>
+pub(crate) fn accession_asked(found: &ArgMatches) -> Option<u32>
     ensures number { (text : List ℕ) (acc : ℕ)
         → one_of (codes "acc") (rows_of (found_of found.now)) ≡ Some text
         → ParsesUnsigned {E = ParseIntError} 32 10 text (Ok acc) → IsScope acc → result ≡ Some acc }
     ensures within { IfSome result IsScope }
-    ensures from { IfSome result (IsAccessionTold (rows_of (found_of found.now))) }
+    ensures from { IfSome result (IsAccessionGiven (rows_of (found_of found.now))) }
 {
     let acc = found.get_one::<u32>("acc")?;
     if is_scope(acc) { Some(acc) } else { None }

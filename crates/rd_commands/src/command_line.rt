@@ -1,7 +1,7 @@
 ghost use Rattle.std.specs.Prelude.{◌≡◌, IfOk, IfSome, codes, false, map};
 ghost use Rattle.clap.specs.Words.{app_of, rule_of};
 ghost use Rattle.clap.specs.declared.builder.command.Command.TheViews.{out-Command as fields_of};
-ghost use Rattle.rd_commands.specs.CommandLine.{IsCatApp, IsDeskApp, IsFilesApp, IsKindRule, IsListApp, IsShowApp, IsWhatRule, accession_rule, bare_app, check_app, copy_app, count_rule, day_rule, dry_run_rule, explain_rule, explained, export_app, folder_rule, image_rule, import_app, init_app, keep_going_rule, key_file_rule, key_rule, moment_rule, port_rule, serve_app, sheet_rule, slot_rule, socket_rule, staff_key_app, store_rule, sums_rule, target_rule, timeout_rule, untimed_app, with_caller, with_clocks, with_moment, zone_file_rule, zone_rule, trust_rule};
+ghost use Rattle.rd_commands.specs.CommandLine.{IsCatApp, IsDeskApp, IsFilesApp, IsKindRule, IsListApp, IsShowApp, IsWhatRule, accession_rule, bare_app, check_app, copy_app, count_rule, day_rule, dry_run_rule, explain_rule, explained, export_app, folder_rule, image_rule, import_app, init_app, keep_going_rule, key_file_rule, key_rule, moment_rule, one_accession_rule, port_rule, serve_app, sheet_rule, slot_rule, socket_rule, staff_key_app, store_rule, sums_rule, target_rule, timeout_rule, untimed_app, with_caller, with_clocks, with_moment, zone_file_rule, zone_rule, trust_rule};
 ghost use Rattle.rd_commands.specs.OneCommand.{IsNamed, ReadsAsDesk};
 
 use crate::version::VERSION;
@@ -245,7 +245,7 @@ fn moment_option<'a>(alloc: Global) -> Arg<'a>
     )
 }
 
-/// The flag that has the lines of an import told, and nothing taken in.
+/// The flag of a dry run: the lines of an import are written, and nothing is taken in.
 fn dry_run_flag<'a>(alloc: Global) -> Arg<'a>
     ensures rule { rule_of result ≡ dry_run_rule }
     ensures local { result.global ≡ false }
@@ -448,6 +448,20 @@ fn day_option<'a>(alloc: Global) -> Arg<'a>
     )
 }
 
+/// The option for the accession whose verdicts are shown.
+fn one_accession_option<'a>(alloc: Global) -> Arg<'a>
+    ensures rule { rule_of result ≡ one_accession_rule }
+    ensures local { result.global ≡ false }
+{
+    Arg::new(alloc, "acc")
+        .long("acc")
+        .value_name("ACCESSION")
+        .help(
+            "The accession of the verdicts, 1 to 999999, all without it; nothing but `verdicts` takes it",
+        )
+        .value_parser(value_parser!(u32).range(1..=i64::from(LAST_SCOPE)))
+}
+
 fn show_command<'a>(alloc: Global) -> Result<Command<'a>, AllocError>
     ensures shape { IfOk result (λ show. IsShowApp (app_of show)) }
     ensures local { IfOk result (λ show. (fields_of show).has_globals ≡ false) }
@@ -458,11 +472,13 @@ fn show_command<'a>(alloc: Global) -> Result<Command<'a>, AllocError>
         )
         .override_usage("desk show [OPTIONS] --store <FILE> --key <KEY> <WHAT>")
         .after_help(
-            "Examples:\n  desk show deeds --store museum.sqlite --key 'a long phrase'\n  desk show verdicts --on 2030-01-01 --store museum.sqlite --key 'a long phrase'",
+            "Examples:\n  desk show deeds --store museum.sqlite --key 'a long phrase'\n  desk show verdicts --on 2030-01-01 --acc 12 --store museum.sqlite --key 'a long phrase'",
         )
         .arg(what_operand(alloc))?
         .arg(store_option(alloc))?;
-    let given = add_caller(alloc, begun)?.arg(day_option(alloc))?;
+    let given = add_caller(alloc, begun)?
+        .arg(day_option(alloc))?
+        .arg(one_accession_option(alloc))?;
     add_moment(alloc, given)?.arg(explain_flag(alloc))
 }
 

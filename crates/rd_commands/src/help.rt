@@ -233,6 +233,7 @@ Options:
       --key <KEY>         A desk key, without blanks and tabs at both ends; other users of this machine can read it here
       --key-file <FILE>   A file with the desk key as its first line, or - for standard input
       --on <DATE>         The day of the verdicts, such as 2030-01-01; `verdicts` needs it, and nothing else takes it
+      --acc <ACCESSION>   The accession of the verdicts, 1 to 999999, all without it; nothing but `verdicts` takes it
       --at <MOMENT>       The moment, in seconds since 1970-01-01 of UTC, or a date, such as 2030-01-01, for the first second of that day; that of the clock where it is not given
       --zone <ZONE>       The rule of the desk's clocks as POSIX writes it, such as CET-1CEST,M3.5.0,M10.5.0/3; UTC0 where it is not given
       --zone-file <FILE>  A file of the time zone database, in whose last line the rule of the desk's clocks is, in place of --zone
@@ -242,7 +243,7 @@ Options:
 
 Examples:
   desk show deeds --store museum.sqlite --key 'a long phrase'
-  desk show verdicts --on 2030-01-01 --store museum.sqlite --key 'a long phrase'
+  desk show verdicts --on 2030-01-01 --acc 12 --store museum.sqlite --key 'a long phrase'
 ";
 
 /// The help of `staff-key`.

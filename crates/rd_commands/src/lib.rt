@@ -3,9 +3,9 @@
 #![tactic(auto)]
 
 mod asked;
-mod beside;
 pub mod cat;
 mod command_line;
+mod common_options;
 mod done;
 mod explaining;
 mod files;
@@ -23,7 +23,7 @@ mod tell;
 mod version;
 mod words;
 
-pub use beside::{Beside, Told};
+pub use common_options::{CommonOptions, Parsed};
 pub use done::{Done, whole};
 pub use explaining::tell_notes;
 pub use files::{Files, MachineFault};
@@ -36,6 +36,6 @@ pub use sheet::{SheetRow, bad_column, is_header, next_row, row_of};
 pub use source::read_image;
 pub use tell::{exit_code, tell_refusal, tell_unread};
 pub use words::{
-    Ask, CopyAsk, ExtractAsk, FileAsk, ImageAsk, ImportAsk, InitAsk, OneQuestionAsk, Question,
-    ServeAsk, Shown, SiftAsk, StaffKeyAsk, Unread, WhenAsk, read_words,
+    Ask, CopyAsk, ExtractAsk, FileAsk, FlaggedImportAsk, ImageAsk, ImportAsk, InitAsk,
+    OneQuestionAsk, Question, ServeAsk, Shown, StaffKeyAsk, Unread, WhenAsk, read_words,
 };

@@ -5,7 +5,7 @@ ghost use Rattle.std.specs.Str.Parse.{ParsesUnsigned};
 ghost use Rattle.std.specs.declared.num.ParseIntError.{ParseIntError};
 ghost use Rattle.clap.specs.Words.{first_of, found_of, one_of, rows_of, subcommand_rows_of};
 ghost use Rattle.rd_commands.specs.Asks.{EntersAtAPlace, EntersNoPlace};
-ghost use Rattle.rd_commands.specs.Serving.{AreSeconds, GivesTimeouts, IsCountGiven, IsCountTold, IsNumberTold, IsPortTold, NamesOnePlace, NamesPlace, place_of};
+ghost use Rattle.rd_commands.specs.Serving.{AreSeconds, GivesTimeouts, IsCountGiven, IsCountUsed, IsNumberGiven, IsPortUsed, NamesOnePlace, NamesPlace, place_of};
 ghost use Rattle.rd_commands.specs.Serving.Place.{Socket};
 ghost use Rattle.rd_commands.specs.Serving as spec;
 ghost use Rattle.rd_commands.specs.declared.words.Unread.TheVariants as Unread;
@@ -38,7 +38,7 @@ fn port_asked(found: &ArgMatches) -> Option<u16>
     ensures asked { (text : List ℕ) (port : ℕ)
         → one_of (codes "port") (rows_of (found_of found.now)) ≡ Some text
         → ParsesUnsigned {E = ParseIntError} 16 10 text (Ok port) → result ≡ Some port }
-    ensures told { IfSome result (IsNumberTold (one_of (codes "port") (rows_of (found_of found.now)))) }
+    ensures given { IfSome result (IsNumberGiven (one_of (codes "port") (rows_of (found_of found.now)))) }
 {
     found.get_one::<u16>("port")
 }
@@ -46,8 +46,8 @@ fn port_asked(found: &ArgMatches) -> Option<u16>
 /// The Unix socket at a path, as the place; `None` if there is a port as well.
 fn socket_alone<'a>(found: &ArgMatches, path: &'a str) -> Option<Place<'a>>
     ensures alone { first_of (codes "port") (rows_of (found_of found.now)) ≡ None
-        → IsSomeAnd result (λ told. place_of told ≡ Socket path.now) }
-    ensures named { IfSome result (λ told. (place_of told ≡ Socket path.now)
+        → IsSomeAnd result (λ one. place_of one ≡ Socket path.now) }
+    ensures named { IfSome result (λ one. (place_of one ≡ Socket path.now)
         × (first_of (codes "port") (rows_of (found_of found.now)) ≡ None)) }
 {
     match found.get_str("port") {
@@ -60,9 +60,9 @@ fn socket_alone<'a>(found: &ArgMatches, path: &'a str) -> Option<Place<'a>>
 const USUAL_PORT: u16 = 8_041;
 
 /// The port that its option gives, 8041 if it is absent; `None` if its text is no port.
-fn port_told(found: &ArgMatches) -> Option<u16>
-    ensures asked { (port : ℕ) → IsPortTold (rows_of (found_of found.now)) port → result ≡ Some port }
-    ensures told { IfSome result (IsPortTold (rows_of (found_of found.now))) }
+fn port_used(found: &ArgMatches) -> Option<u16>
+    ensures asked { (port : ℕ) → IsPortUsed (rows_of (found_of found.now)) port → result ≡ Some port }
+    ensures given { IfSome result (IsPortUsed (rows_of (found_of found.now))) }
 {
     match found.get_str("port") {
         Some(_) => port_asked(found),
@@ -75,15 +75,15 @@ fn count_given(found: &ArgMatches) -> Option<u32>
     ensures asked { (text : List ℕ) (count : ℕ)
         → one_of (codes "count") (rows_of (found_of found.now)) ≡ Some text
         → ParsesUnsigned {E = ParseIntError} 32 10 text (Ok count) → result ≡ Some count }
-    ensures told { IfSome result (IsCountGiven (one_of (codes "count") (rows_of (found_of found.now)))) }
+    ensures given { IfSome result (IsCountGiven (one_of (codes "count") (rows_of (found_of found.now)))) }
 {
     found.get_one::<u32>("count")
 }
 
 /// How many visits its option gives, the most that one run serves if it is absent; `None` if its text is no number.
 pub(crate) fn count_asked(found: &ArgMatches) -> Option<u32>
-    ensures asked { (count : ℕ) → IsCountTold (rows_of (found_of found.now)) count → result ≡ Some count }
-    ensures told { IfSome result (IsCountTold (rows_of (found_of found.now))) }
+    ensures asked { (count : ℕ) → IsCountUsed (rows_of (found_of found.now)) count → result ≡ Some count }
+    ensures given { IfSome result (IsCountUsed (rows_of (found_of found.now))) }
 {
     match found.get_str("count") {
         Some(_) => count_given(found),
@@ -94,12 +94,12 @@ pub(crate) fn count_asked(found: &ArgMatches) -> Option<u32>
 /// The place that one of its two options gives, and the port 8041 if neither does; `None` if both do.
 pub(crate) fn place_asked<'a>(found: &ArgMatches<'a>) -> Option<Place<'a>>
     ensures asked { (place : spec.Place) → NamesPlace (rows_of (found_of found.now)) place
-        → IsSomeAnd result (λ told. place_of told ≡ place) }
-    ensures named { IfSome result (λ told. NamesPlace (rows_of (found_of found.now)) (place_of told)) }
+        → IsSomeAnd result (λ one. place_of one ≡ place) }
+    ensures named { IfSome result (λ one. NamesPlace (rows_of (found_of found.now)) (place_of one)) }
 {
     match found.get_str("socket") {
         Some(path) => socket_alone(found, path),
-        None => Some(Place::Port(port_told(found)?)),
+        None => Some(Place::Port(port_used(found)?)),
     }
 }
 

@@ -33,9 +33,9 @@ use std::process::ExitCode;
 const ZONE_MISTAKE: &[u8] =
     b"error: --zone takes a rule as POSIX writes it, as in UTC0 or CET-1CEST,M3.5.0,M10.5.0/3; for a place, --zone-file /usr/share/zoneinfo/Europe/Prague\n\nFor more information, try '--help'.\n";
 
-/// What it says about a day that does not go with what `show` shows.
+/// What it says about a day or an accession that does not go with what `show` shows.
 const DAY_MISTAKE: &[u8] =
-    b"error: --on takes a date, as in 2030-01-01; 'show verdicts' needs it, and nothing else takes it\n\nFor more information, try '--help'.\n";
+    b"error: --on takes a date, as in 2030-01-01; 'show verdicts' needs it, and nothing else takes it or --acc\n\nFor more information, try '--help'.\n";
 
 /// What it says about words of `serve` that name two places.
 const PLACE_MISTAKE: &[u8] =

@@ -2,26 +2,26 @@ ghost use Rattle.std.specs.Option.{ForSome};
 ghost use Rattle.std.specs.Prelude.{◌≡◌, ◌⊎◌, Bool, IfErr, IfNone, IfOk, IfSome, IsSomeAnd, List, Ok, OnOk, OnSome, Option, Some, codes, map, ℕ, ℤ};
 ghost use Rattle.clap.specs.Words.{app_of, first_of, found_of, rows_of};
 ghost use Rattle.clap.specs.Words.{subcommand_rows_of};
-ghost use Rattle.rd_commands.specs.Asks.{EntersAtAPlace, EntersFiles, EntersNamed, EntersNoPlace, EntersSift, EntersTimed};
+ghost use Rattle.rd_commands.specs.Asks.{EntersAtAPlace, EntersFiles, EntersNamed, EntersNoPlace, EntersFlaggedImport, EntersTimed};
 ghost use Rattle.rd_commands.specs.Asks.{EntersByRule, EntersCat, EntersCheck, EntersExport, EntersImport, EntersInit, EntersList, EntersNaming, EntersNamingNone, EntersServe, EntersShow, EntersTelling, EntersTrusting};
-ghost use Rattle.rd_commands.specs.Asks.{IsExtractAsk, IsSeenFault, IsSiftAsk, IsWithinLimits, IsFaultOf, IsFileAsk, IsFilesAsk, IsForMemory, IsHelp, IsImportAsk, IsInitAsk, IsMistake, IsOneQuestionAsk, IsServeAsk, IsTold, IsVersion, TellsOnOutput};
+ghost use Rattle.rd_commands.specs.Asks.{IsExtractAsk, IsSeenFault, IsFlaggedImportAsk, IsWithinLimits, IsFaultOf, IsFileAsk, IsFilesAsk, IsForMemory, IsHelp, IsImportAsk, IsInitAsk, IsMistake, IsOneQuestionAsk, IsServeAsk, IsOfClap, IsVersion, TellsOnOutput};
 ghost use Rattle.rd_commands.specs.Asks.{EntersCopy, EntersStaffKey, EntersSumming, IsCopyAsk, IsStaffKeyAsk, has_sums, is_trusting};
-ghost use Rattle.rd_commands.specs.Beside.{EntersApart, EntersBeside, EntersTogether, FitsTogether, IsApart, IsTakenApart, TellsBeside};
+ghost use Rattle.rd_commands.specs.CommonOptions.{EntersApart, EntersOptions, EntersTogether, FitsTogether, IsApart, IsTakenApart, TellsOptions};
 ghost use Rattle.rd_commands.specs.CommandLine.{IsTaken, IsTakenTelling};
 ghost use Rattle.rd_commands.specs.OneCommand.{ReadsAsDesk};
 ghost use Rattle.rd_commands.specs.Commands.{IsAskOf, IsCommand, IsTakenServingNowhere, IsTakenShowingNothing, NamesAPlace, NamesWhatItShows, Sums, TellsARule, Trusts};
 ghost use Rattle.rd_commands.specs.Serving as spec;
-ghost use Rattle.rd_commands.specs.Shown.{IsDayGiven, IsShowable, IsShownAs, NamesAny, NamesShown};
+ghost use Rattle.rd_commands.specs.Shown.{GivesAccession, IsDayGiven, IsShowable, IsShownAs, NamesAny, NamesShown};
 ghost use Rattle.rd_commands.specs.Words.{AsksHelp, AsksVersion};
-ghost use Rattle.rd_commands.specs.Told.{EntersFrom, TellsAll};
+ghost use Rattle.rd_commands.specs.Parsed.{EntersFrom, TellsAll};
 ghost use Rattle.rd_commands.specs.declared.words.Unread.TheVariants as Unread;
 
 use crate::asked::{
-    check_asked, copy_asked, export_asked, extract_asked, file_asked, files_asked, init_asked,
-    serve_asked, sheet_asked, show_asked, staff_key_asked,
+    accession_asked, check_asked, copy_asked, export_asked, extract_asked, file_asked, files_asked,
+    init_asked, serve_asked, sheet_asked, show_asked, staff_key_asked,
 };
-use crate::beside::{Beside, Told, beside_found};
 use crate::command_line::desk_for;
+use crate::common_options::{CommonOptions, Parsed, options_found};
 use crate::serving::{Place, Timeouts, check_place};
 use clap::{ArgMatches, Command, Error};
 use rd_policy::{DateFault, Zone, date_read};
@@ -101,9 +101,9 @@ pub struct ImportAsk<'a> {
     pub when: WhenAsk,
 }
 
-/// The images that `import` takes in, or would take in, in another way.
+/// The images that `import` takes in, or would take in, with one of its flags.
 #[derive(Clone, Copy, Debug)]
-pub struct SiftAsk<'a> {
+pub struct FlaggedImportAsk<'a> {
     /// The images.
     pub import: ImportAsk<'a>,
     /// Whether none is taken in, and the lines say what would become of them.
@@ -145,6 +145,8 @@ pub enum Shown {
     Checks,
     /// What the rules say of each file to each audience on a day, of the years 1 to 9999, counted from 1970-01-01.
     Verdicts(i32),
+    /// The same of the files of one accession alone: the day, and the accession, 1 to 999,999.
+    VerdictsOf(i32, u32),
 }
 
 /// One question to the desk in the file of a store, and who asks it.
@@ -195,8 +197,8 @@ pub enum Ask<'a> {
     Import(ImportAsk<'a>),
     /// One question to a desk, by `export`, `check` or `show`.
     OneQuestion(OneQuestionAsk<'a>),
-    /// Images to take in, in another way.
-    Sift(SiftAsk<'a>),
+    /// Images to take in, with a flag.
+    FlaggedImport(FlaggedImportAsk<'a>),
     /// The sound files of an image, in a folder.
     Extract(ExtractAsk<'a>),
     /// A key of the staff in a desk that stands.
@@ -214,7 +216,7 @@ pub enum Unread {
     /// The words are no command, although `clap` accepts them: the text of `--zone` is no rule.
     Usage,
     /// The words are no command, although `clap` accepts them: the text of `--on` is no date, `show verdicts` has no
-    /// `--on`, or `show` of anything else has one.
+    /// `--on`, or `show` of anything else has one, or an `--acc`.
     Day,
     /// The words are no command, although `clap` accepts them: `serve` has both a port and a socket.
     Place,
@@ -257,22 +259,40 @@ fn day_asked(alloc: Global, found: &ArgMatches) -> Result<Option<i32>, Unread>
     }
 }
 
-/// What a word and a day name to show; `None` if they name nothing.
-fn shown_as(what: &str, on: Option<i32>) -> Option<Shown>
-    ensures shown { IfSome result (IsShownAs what.now on) }
-    ensures none { IfNone result ((shown : Shown) → ¬ IsShownAs what.now on shown) }
+/// The accession that its option gives; `None` if it is absent.
+///
+/// It fails with `Day` when the text is no number of an accession.
+fn accession_given(found: &ArgMatches) -> Result<Option<u32>, Unread>
+    ensures given { IfOk result (GivesAccession (rows_of (found_of found.now))) }
+    ensures none { IfErr result (λ _. (acc : Option ℕ) → ¬ GivesAccession (rows_of (found_of found.now)) acc) }
+    ensures failed { IfErr result (λ fault. fault ≡ Unread.Day) }
 {
-    match (what, on) {
-        ("deeds", None) => Some(Shown::Deeds),
-        ("takedowns", None) => Some(Shown::Takedowns),
-        ("keys", None) => Some(Shown::Keys),
-        ("checks", None) => Some(Shown::Checks),
-        ("verdicts", Some(day)) => Some(Shown::Verdicts(day)),
+    let Some(_) = found.get_str("acc") else {
+        return Ok(None);
+    };
+    match accession_asked(found) {
+        Some(acc) => Ok(Some(acc)),
+        None => Err(Unread::Day),
+    }
+}
+
+/// What a word, a day and an accession name to show; `None` if they name nothing.
+fn shown_as(what: &str, on: Option<i32>, acc: Option<u32>) -> Option<Shown>
+    ensures shown { IfSome result (IsShownAs what.now on acc) }
+    ensures none { IfNone result ((shown : Shown) → ¬ IsShownAs what.now on acc shown) }
+{
+    match (what, on, acc) {
+        ("deeds", None, None) => Some(Shown::Deeds),
+        ("takedowns", None, None) => Some(Shown::Takedowns),
+        ("keys", None, None) => Some(Shown::Keys),
+        ("checks", None, None) => Some(Shown::Checks),
+        ("verdicts", Some(day), None) => Some(Shown::Verdicts(day)),
+        ("verdicts", Some(day), Some(acc)) => Some(Shown::VerdictsOf(day, acc)),
         _ => None,
     }
 }
 
-/// What the operand and `--on` of `show` name.
+/// What the operand, `--on` and `--acc` of `show` name.
 ///
 /// It fails with `Day` when they name nothing, and with `NoMemory`.
 fn shown_found(alloc: Global, found: &ArgMatches) -> Result<Shown, Unread>
@@ -281,10 +301,11 @@ fn shown_found(alloc: Global, found: &ArgMatches) -> Result<Shown, Unread>
     ensures failed { IfErr result (λ fault. (fault ≡ Unread.Day) ⊎ (fault ≡ Unread.NoMemory)) }
 {
     let on = day_asked(alloc, found)?;
+    let acc = accession_given(found)?;
     let Some(what) = found.get_str("WHAT") else {
         return Err(Unread::Day);
     };
-    shown_as(what, on).ok_or(Unread::Day)
+    shown_as(what, on, acc).ok_or(Unread::Day)
 }
 
 /// What `show` shows, from a parse of the words; `None` if they are of another command.
@@ -302,23 +323,23 @@ fn shown_asked(alloc: Global, matches: &ArgMatches) -> Result<Option<Shown>, Unr
     }
 }
 
-/// What was seen of the words beside what they ask for.
+/// What was seen of the words, apart from what they ask for.
 #[derive(Clone, Copy)]
 struct Seen<'a> {
     /// What `show` shows; `None` if the words are not of `show`.
     shown: Option<Shown>,
-    /// What stands beside the operands.
-    beside: Beside<'a>,
+    /// The options that commands have in common.
+    options: CommonOptions<'a>,
 }
 
 /// Looks at what `clap` does not look at: whether `serve` has one place, which options go together, and what `show`
 /// shows.
 ///
-/// It fails with `Place` when `serve` has two places, as `beside_found` does, and as `shown_found` does.
+/// It fails with `Place` when `serve` has two places, as `options_found` does, and as `shown_found` does.
 fn look<'a>(alloc: Global, matches: &ArgMatches<'a>) -> Result<Seen<'a>, Unread>
     ensures named { IfOk result (λ seen. EntersNaming (subcommand_rows_of matches.now) seen.shown) }
     ensures within { IfOk result (λ seen. ForSome seen.shown IsShowable) }
-    ensures beside { IfOk result (λ seen. EntersBeside (subcommand_rows_of matches.now) seen.beside) }
+    ensures options { IfOk result (λ seen. EntersOptions (subcommand_rows_of matches.now) seen.options) }
     ensures place { OnOk result (EntersAtAPlace (subcommand_rows_of matches.now)) }
     ensures together { OnOk result (EntersTogether (subcommand_rows_of matches.now)) }
     ensures none { IfErr result (λ fault. fault ≡ Unread.Day → EntersNamingNone (subcommand_rows_of matches.now)) }
@@ -330,8 +351,8 @@ fn look<'a>(alloc: Global, matches: &ArgMatches<'a>) -> Result<Seen<'a>, Unread>
 {
     check_place(matches)?;
     let shown = shown_asked(alloc, matches)?;
-    let beside = beside_found(alloc, matches)?;
-    Ok(Seen { shown, beside })
+    let options = options_found(alloc, matches)?;
+    Ok(Seen { shown, options })
 }
 
 /// What a command asks for, from a parse of the words, and what `show` shows; `None` if the parse found no command.
@@ -361,9 +382,9 @@ fn ask_found<'a>(matches: &ArgMatches<'a>, shown: Option<Shown>) -> Option<Ask<'
     ensures show { (store key : List ℕ) (what : Shown) (moment : Option ℤ) (rule : List ℕ) → shown ≡ Some what
         → EntersShow (subcommand_rows_of matches.now) store key moment rule
         → IsSomeAnd result (IsOneQuestionAsk store (Some key) (Question.Show what) moment rule) }
-    ensures sift { (store key sheet : List ℕ) (moment : Option ℤ) (rule : List ℕ) (dry_run keep_going : Bool)
-        → EntersSift (subcommand_rows_of matches.now) store key sheet moment rule dry_run keep_going
-        → IsSomeAnd result (IsSiftAsk store key sheet moment rule dry_run keep_going) }
+    ensures flagged_import { (store key sheet : List ℕ) (moment : Option ℤ) (rule : List ℕ) (dry_run keep_going : Bool)
+        → EntersFlaggedImport (subcommand_rows_of matches.now) store key sheet moment rule dry_run keep_going
+        → IsSomeAnd result (IsFlaggedImportAsk store key sheet moment rule dry_run keep_going) }
     ensures extract { (kind : Kind) (image folder : List ℕ)
         → EntersFiles (subcommand_rows_of matches.now) kind image folder
         → IsSomeAnd result (IsExtractAsk kind image folder) }
@@ -402,14 +423,14 @@ fn ask_found<'a>(matches: &ArgMatches<'a>, shown: Option<Shown>) -> Option<Ask<'
 ///
 /// It fails as `read_words` does, but says `NoMemory` of no words in which `clap` finds a fault: of these it gives what
 /// `clap` says.
-fn read_by<'a>(alloc: Global, desk: Command<'a>, words: &'a [&'a str]) -> Result<Told<'a>, Unread>
+fn read_by<'a>(alloc: Global, desk: Command<'a>, words: &'a [&'a str]) -> Result<Parsed<'a>, Unread>
     requires { ReadsAsDesk (app_of desk) (map (λ word. word.now) words.now) }
-    ensures read { IfOk result (λ told. IsAskOf (map (λ word. word.now) words.entry.now) told.ask) }
-    ensures written_on_output { IfOk result (λ told. TellsOnOutput told.ask → IsTakenTelling (map (λ word. word.now) words.entry.now)) }
-    ensures accession { IfOk result (λ told. IsWithinLimits told.ask) }
+    ensures read { IfOk result (λ parsed. IsAskOf (map (λ word. word.now) words.entry.now) parsed.ask) }
+    ensures written_on_output { IfOk result (λ parsed. TellsOnOutput parsed.ask → IsTakenTelling (map (λ word. word.now) words.entry.now)) }
+    ensures accession { IfOk result (λ parsed. IsWithinLimits parsed.ask) }
     ensures zone { OnOk result (TellsARule (map (λ word. word.now) words.entry.now)) }
-    ensures trust { (trusted : Bool) → Trusts (map (λ word. word.now) words.entry.now) trusted → IfOk result (λ told. is_trusting told.ask ≡ trusted) }
-    ensures sums { (summed : Bool) → Sums (map (λ word. word.now) words.entry.now) summed → IfOk result (λ told. has_sums told.ask ≡ summed) }
+    ensures trust { (trusted : Bool) → Trusts (map (λ word. word.now) words.entry.now) trusted → IfOk result (λ parsed. is_trusting parsed.ask ≡ trusted) }
+    ensures sums { (summed : Bool) → Sums (map (λ word. word.now) words.entry.now) summed → IfOk result (λ parsed. has_sums parsed.ask ≡ summed) }
     ensures shown { OnOk result (NamesWhatItShows (map (λ word. word.now) words.entry.now)) }
     ensures no_rule { IfErr result (λ fault. ¬ TellsARule (map (λ word. word.now) words.entry.now)
         → IsMistake fault ⊎ (IsForMemory fault)) }
@@ -420,7 +441,7 @@ fn read_by<'a>(alloc: Global, desk: Command<'a>, words: &'a [&'a str]) -> Result
     ensures no_place { IfErr result (λ fault. ¬ NamesAPlace (map (λ word. word.now) words.entry.now)
         → (fault ≡ Unread.Place) ⊎ (IsForMemory fault)) }
     ensures placeless { IfErr result (λ fault. fault ≡ Unread.Place → IsTakenServingNowhere (map (λ word. word.now) words.entry.now)) }
-    ensures beside { IfOk result (λ told. TellsBeside (map (λ word. word.now) words.entry.now) told.beside) }
+    ensures options { IfOk result (λ parsed. TellsOptions (map (λ word. word.now) words.entry.now) parsed.options) }
     ensures all { IfOk result (TellsAll (map (λ word. word.now) words.entry.now)) }
     ensures together { OnOk result (FitsTogether (map (λ word. word.now) words.entry.now)) }
     ensures apart { IfErr result (λ fault. ¬ FitsTogether (map (λ word. word.now) words.entry.now)
@@ -434,15 +455,15 @@ fn read_by<'a>(alloc: Global, desk: Command<'a>, words: &'a [&'a str]) -> Result
         → (IsForMemory fault) ⊎ IsVersion fault) }
     ensures help { IfErr result (λ fault. AsksHelp (map (λ word. word.now) words.entry.now)
         → (IsForMemory fault) ⊎ IsHelp fault) }
-    ensures of_clap { IfErr result (λ fault. ¬ IsTaken (map (λ word. word.now) words.entry.now) → IsTold fault) }
+    ensures of_clap { IfErr result (λ fault. ¬ IsTaken (map (λ word. word.now) words.entry.now) → IsOfClap fault) }
 {
     match desk.try_get_matches_from(words) {
         Ok(matches) => {
             let seen = look(alloc, &matches)?;
             match ask_found(&matches, seen.shown) {
-                Some(ask) => Ok(Told {
+                Some(ask) => Ok(Parsed {
                     ask,
-                    beside: seen.beside,
+                    options: seen.options,
                 }),
                 None => Err(Unread::Usage),
             }
@@ -454,17 +475,17 @@ fn read_by<'a>(alloc: Global, desk: Command<'a>, words: &'a [&'a str]) -> Result
 /// Reads the words of a command, without the program's name.
 ///
 /// It fails with `Clap` when they ask for help or the version or are no command, and when memory runs out while `clap`
-/// reads them; with `Place` when `serve` has both a port and a socket; with `Day` when the operand of `show` and the text of
-/// `--on` name nothing that it shows; with `Key` when there is not one key, on the command line or in a file, and with
+/// reads them; with `Place` when `serve` has both a port and a socket; with `Day` when the operand of `show` and the texts of
+/// `--on` and `--acc` name nothing that it shows; with `Key` when there is not one key, on the command line or in a file, and with
 /// `Zones` when there are two rules for clocks; with `Moment` when the text of `--at` is no moment; with `Usage` when the
 /// parse gives no command or not all its operands, or the text of `--zone` is no rule; and with `NoMemory`.
-pub fn read_words<'a>(alloc: Global, words: &'a [&'a str]) -> Result<Told<'a>, Unread>
-    ensures read { IfOk result (λ told. IsAskOf (map (λ word. word.now) words.entry.now) told.ask) }
-    ensures written_on_output { IfOk result (λ told. TellsOnOutput told.ask → IsTakenTelling (map (λ word. word.now) words.entry.now)) }
-    ensures accession { IfOk result (λ told. IsWithinLimits told.ask) }
+pub fn read_words<'a>(alloc: Global, words: &'a [&'a str]) -> Result<Parsed<'a>, Unread>
+    ensures read { IfOk result (λ parsed. IsAskOf (map (λ word. word.now) words.entry.now) parsed.ask) }
+    ensures written_on_output { IfOk result (λ parsed. TellsOnOutput parsed.ask → IsTakenTelling (map (λ word. word.now) words.entry.now)) }
+    ensures accession { IfOk result (λ parsed. IsWithinLimits parsed.ask) }
     ensures zone { OnOk result (TellsARule (map (λ word. word.now) words.entry.now)) }
-    ensures trust { (trusted : Bool) → Trusts (map (λ word. word.now) words.entry.now) trusted → IfOk result (λ told. is_trusting told.ask ≡ trusted) }
-    ensures sums { (summed : Bool) → Sums (map (λ word. word.now) words.entry.now) summed → IfOk result (λ told. has_sums told.ask ≡ summed) }
+    ensures trust { (trusted : Bool) → Trusts (map (λ word. word.now) words.entry.now) trusted → IfOk result (λ parsed. is_trusting parsed.ask ≡ trusted) }
+    ensures sums { (summed : Bool) → Sums (map (λ word. word.now) words.entry.now) summed → IfOk result (λ parsed. has_sums parsed.ask ≡ summed) }
     ensures shown { OnOk result (NamesWhatItShows (map (λ word. word.now) words.entry.now)) }
     ensures no_rule { IfErr result (λ fault. ¬ TellsARule (map (λ word. word.now) words.entry.now)
         → IsMistake fault ⊎ (IsForMemory fault)) }
@@ -475,7 +496,7 @@ pub fn read_words<'a>(alloc: Global, words: &'a [&'a str]) -> Result<Told<'a>, U
     ensures no_place { IfErr result (λ fault. ¬ NamesAPlace (map (λ word. word.now) words.entry.now)
         → (fault ≡ Unread.Place) ⊎ (IsForMemory fault)) }
     ensures placeless { IfErr result (λ fault. fault ≡ Unread.Place → IsTakenServingNowhere (map (λ word. word.now) words.entry.now)) }
-    ensures beside { IfOk result (λ told. TellsBeside (map (λ word. word.now) words.entry.now) told.beside) }
+    ensures options { IfOk result (λ parsed. TellsOptions (map (λ word. word.now) words.entry.now) parsed.options) }
     ensures all { IfOk result (TellsAll (map (λ word. word.now) words.entry.now)) }
     ensures together { OnOk result (FitsTogether (map (λ word. word.now) words.entry.now)) }
     ensures apart { IfErr result (λ fault. ¬ FitsTogether (map (λ word. word.now) words.entry.now)

@@ -9,11 +9,12 @@ use Rattle.rd_store.specs.Held.{IsAtRest, IsClean, IsLeft, IsOpen, Keeps, Leaves
 use Rattle.rd_holdings.specs.Lawful.{IsLawful}
 use Rattle.rd_holdings.specs.State.{Desk}
 use Rattle.rd_store.proofs.Laws.{lasts_still, lasts_then}
-use Rattle.rd_desk.specs.Calls.{Carries, HasItsDigest, IsCarriedOut, IsResponse, IsResponseTo, MakesResponse}
+use Rattle.rd_desk.specs.Calls.{Carries, DoesAsAsked, HasItsDigest, IsCarriedOut, IsResponse, IsResponseTo, MakesResponse}
 use Rattle.rd_protocol.specs.Judged.{IsAccepted, audience_of}
 use Rattle.rd_protocol.specs.Replies.{IsAnswered, IsDone, IsStep, Tells, carried_out}
 use Rattle.rd_protocol.specs.Requests.{IsForStaff}
 use Rattle.rd_protocol.specs.declared.request.Request.{Request}
+use Rattle.rd_protocol.specs.declared.request.What.{What}
 use Rattle.rd_protocol.specs.declared.response.Response.{Response}
 use Rattle.rd_protocol.specs.declared.response.Response.TheVariants as response
 use Rattle.rd_protocol.proofs.StaffRefusals.{nothing_asked, is_unread}
@@ -108,6 +109,14 @@ module _ {S : Type 0} (g : Ghosts S) where
       durable = carries.durable;
     }
 
+    -- what was done as a caller of this audience asked it, as a request
+    pub does_respond : (a b : Held S) (audience : Audience) → (IsOpen g a → audience_of (desk g a) request.badge ≡ Some audience)
+        → (IsForStaff request.what → audience ≡ Staff) → IsAtRest g a
+        → DoesAsAsked g a b audience day request.what result → MakesResponse g a b day request result
+    does_respond a b audience known may rests (inl question) = reads_respond a b audience known question.1
+    does_respond a b audience known may rests (inr command) =
+        carries_respond a b command.0 (λ o. known o ∙ ap Some (may command.0)) rests command.1
+
     -- a request after reading calls
     pub keeps_respond : (a b c : Held S) → Keeps g a b → (IsOpen g a → IsClean g b → IsOpen g b) → MakesResponse g b c day request result → MakesResponse g a c day request result
     keeps_respond a b c keeps opens responds = record {
@@ -118,3 +127,11 @@ module _ {S : Type 0} (g : Ghosts S) where
           subst (λ d. IsLeft d left ⊎ ((after : Desk) × IsStep d day request after × IsLeft after left)) (keeps.same mid) (responds.crash mid clean left may);
       durable = responds.durable;
     }
+
+  -- what a question is answered with, and what is carried out, is what is asked
+  module _ {X : Type 0} (a b : Held S) (audience : Audience) (day : ℤ) (what asked : What) (is : asked ≡ what) (result : Result Response X) where
+    pub does_read : ¬ IsForStaff asked → Reads g a b result (IsResponseTo (desk g a) audience day asked) → DoesAsAsked g a b audience day what result
+    does_read question reads = subst (λ w. DoesAsAsked g a b audience day w result) is (inl (question, reads))
+
+    pub does_carry : IsForStaff asked → Carries g a b day asked result → DoesAsAsked g a b audience day what result
+    does_carry command carries = subst (λ w. DoesAsAsked g a b audience day w result) is (inr (command, carries))

@@ -10,7 +10,7 @@ use Rattle.rd_policy.specs.declared.audience.Audience.TheVariants.{Staff}
 use Rattle.rd_policy.specs.declared.rule.Band.{Band}
 use Rattle.rd_policy.specs.declared.rule.Band.TheVariants.{Takedown, Deed}
 use Rattle.rd_store.specs.Batched.{IsIndexed}
-use Rattle.rd_store.specs.Held.{Changes, IsClean, IsLeft, IsOpen, Keeps, Lasts, LeavesOnly, LeavesOpen, desk}
+use Rattle.rd_store.specs.Held.{Changes, IsClean, IsLeft, IsOpen, Keeps, Lasts, LeavesOnly, LeavesOpen, Reads, desk}
 use Rattle.rd_policy.specs.declared.rule.Rule.{Rule}
 use Rattle.rd_holdings.specs.State.{Desk, all_rules, rules_for, accession_of}
 use Rattle.rd_store.specs.declared.faults.StoreFault.{StoreFault}
@@ -19,7 +19,8 @@ use Rattle.rd_holdings.specs.declared.rows.ImageRow.{ImageRow}
 use Rattle.rd_holdings.specs.declared.rows.Indexed.{Indexed}
 use Rattle.rd_protocol.specs.Judged.{IsAccepted, IsRefused, audience_of, image_of}
 use Rattle.rd_protocol.specs.Replies.{IsAnswered, IsStep, IsSurvey, Tells, carried_out}
-use Rattle.rd_protocol.specs.Requests.{MayChange}
+use Rattle.rd_protocol.specs.Requests.{IsForStaff, MayChange}
+use Rattle.rd_protocol.specs.Verdicts.{IsVerdictsOf}
 use Rattle.rd_desk.specs.declared.asking.AccessionRules.{AccessionRules}
 use Rattle.rd_protocol.specs.declared.refusal.Refusal.{Refusal}
 use Rattle.rd_protocol.specs.declared.refusal.Refusal.TheVariants.{NoAccession, NoDeed}
@@ -29,6 +30,7 @@ use Rattle.rd_protocol.specs.Texts.{UNAVAILABLE, reply_of}
 use Rattle.rd_protocol.specs.declared.response.Reply.{Reply}
 use Rattle.rd_protocol.specs.declared.response.Response.{Response}
 use Rattle.rd_protocol.specs.declared.response.Survey.{Survey}
+use Rattle.rd_protocol.specs.declared.response.Verdicts.{Verdicts}
 use Rattle.rd_protocol.specs.declared.response.Response.TheVariants.{Refused, Done, Checked}
 
 -- the accession stands, and its image is of this kind and came by this deed
@@ -89,6 +91,16 @@ pub record Carries {S X : Type 0} (g : Ghosts S) (old new : Held S) (day : ℤ) 
   pub crash : IsOpen g old → IsClean g new → (left : Trees) → g.recovers new.store left
       → IsLeft (desk g old) left ⊎ (HasItsDigest what × IsLeft (carried_out day what (desk g old)) left)
   pub durable : IsOpen g new → LeavesOnly g new (desk g new)
+
+-- what a caller of an audience asks on a day: a question is answered, and what only the staff may ask is carried out
+abbrev pub DoesAsAsked : {S X : Type 0} → Ghosts S → Held S → Held S → Audience → ℤ → What → Result Response X → Type 0
+DoesAsAsked g old new audience day what result =
+    (¬ IsForStaff what × Reads g old new result (IsResponseTo (desk g old) audience day what))
+    ⊎ (IsForStaff what × Carries g old new day what result)
+
+-- the verdicts on the files of an accession on a day, or nothing if it does not stand
+abbrev pub AreVerdictsAt : Desk → ℤ → ℕ → Option Verdicts → Type 0
+AreVerdictsAt desk day acc found = MatchOption found (get desk.images acc ≡ None) (IsVerdictsOf desk day acc)
 
 -- an answer, or none and the desk as before
 abbrev pub IsResponse : {X : Type 0} → Desk → ℤ → Request → Result Response X → Desk → Type 0

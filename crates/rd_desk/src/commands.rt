@@ -1,5 +1,5 @@
-//! What only the staff may do: `respond` calls `command` only for the staff. Each function calls the
-//! store to change it at most once, as its last step, and says that it is done only after Ok.
+//! The commands of the staff, and checks. Each function calls the store to change it at most once, as its last step, and
+//! says that it is done only after Ok.
 
 ghost use Rattle.std.specs.Prelude.{◌≡◌, ◌≢◌, length, ℤ};
 ghost use Rattle.sha2.specs.Sha256.{sha256};
@@ -8,13 +8,8 @@ ghost use Rattle.rd_policy.specs.Days.{IsDay};
 ghost use Rattle.rd_policy.specs.Rules.{IsRule, IsScope};
 ghost use Rattle.rd_holdings.specs.Lawful.{IsDeed};
 ghost use Rattle.rd_desk.specs.Calls.{Carries, IsOneChange, IsResponseAfter, MakesOneChange, missing_of};
-ghost use Rattle.rd_protocol.specs.Requests.{IsForStaff, IsRequest};
 
 use crate::asking::{Unavailable, has_deed};
-use crate::rehearsals::{rehearse_drop, rehearse_rule};
-use crate::staff_lists::{checks, deeds, keys, takedowns};
-use crate::surveys::survey;
-use crate::verdicts::verdicts;
 use rd_geometry::{Items, Kind, Text};
 use rd_policy::{Audience, Band, Rule};
 use rd_protocol::{Refusal, Response, What, check_row, has_digest};
@@ -33,7 +28,7 @@ pub(crate) fn missing(band: Band) -> Refusal
 }
 
 /// Puts a deed; it replaces the one that has its number.
-fn put_deed<S: Alter>(
+pub(crate) fn put_deed<S: Alter>(
     store: &mut Store<S>,
     num: u32,
     donor: &Text,
@@ -49,7 +44,7 @@ fn put_deed<S: Alter>(
 
 /// Puts a rule; it replaces the one of the same accession or deed at its rank. A takedown is refused if there is no such
 /// accession, a rule of a deed if there is no such deed.
-fn put_rule<S: Alter>(store: &mut Store<S>, rule: &Rule) -> Result<Response, Unavailable>
+pub(crate) fn put_rule<S: Alter>(store: &mut Store<S>, rule: &Rule) -> Result<Response, Unavailable>
     requires rule { IsRule rule.now }
     ensures carries { (day : ℤ) → Carries S.Store store.old store.new day (What.PutRule rule.now) result }
     ensures change { (day : ℤ) → IsOneChange S.Store store.old store.new day (What.PutRule rule.now) (λ stored. IsResponseAfter stored result) }
@@ -62,7 +57,7 @@ fn put_rule<S: Alter>(store: &mut Store<S>, rule: &Rule) -> Result<Response, Una
 }
 
 /// Takes a rule away.
-fn drop_rule<S: Alter>(
+pub(crate) fn drop_rule<S: Alter>(
     store: &mut Store<S>,
     band: Band,
     scope: u32,
@@ -79,7 +74,7 @@ fn drop_rule<S: Alter>(
 }
 
 /// Puts a desk key.
-fn put_key<S: Alter>(
+pub(crate) fn put_key<S: Alter>(
     store: &mut Store<S>,
     digest: &[u8; 32],
     audience: Audience,
@@ -96,7 +91,10 @@ fn put_key<S: Alter>(
 }
 
 /// Takes a desk key away.
-fn drop_key<S: Alter>(store: &mut Store<S>, digest: &[u8; 32]) -> Result<Response, Unavailable>
+pub(crate) fn drop_key<S: Alter>(
+    store: &mut Store<S>,
+    digest: &[u8; 32],
+) -> Result<Response, Unavailable>
     ensures carries { (day : ℤ) → Carries S.Store store.old store.new day (What.DropKey digest.now) result }
     ensures change { (day : ℤ) → IsOneChange S.Store store.old store.new day (What.DropKey digest.now) (λ stored. IsResponseAfter stored result) }
 {
@@ -133,7 +131,7 @@ fn commit_image<S: Alter>(
 
 /// Puts an image. It computes the SHA-256 of the bytes at most once, and asks for the deed once: the store asks as it
 /// puts the image, or the desk asks here where the bytes are wrong, because `no-deed` comes before `wrong-size` and `digest-differs`.
-fn put_image<S: Alter>(
+pub(crate) fn put_image<S: Alter>(
     store: &mut Store<S>,
     alloc: Global,
     acc: u32,
@@ -164,7 +162,7 @@ fn put_image<S: Alter>(
 }
 
 /// Checks the image of an accession, and records the finding under the day.
-fn check<S: Alter>(
+pub(crate) fn check<S: Alter>(
     store: &mut Store<S>,
     alloc: Global,
     day: i32,
@@ -181,52 +179,5 @@ fn check<S: Alter>(
     match store.put_check(acc, day, outcome) {
         Ok(()) => Ok(Response::Checked(outcome)),
         Err(_) => Err(Unavailable),
-    }
-}
-
-/// Does what the staff asks on a day.
-pub(crate) fn command<S: Alter>(
-    store: &mut Store<S>,
-    alloc: Global,
-    day: i32,
-    what: &What,
-) -> Result<Response, Unavailable>
-    requires day { IsDay day }
-    requires fits { IsRequest what.now }
-    requires staff { IsForStaff what.now }
-    ensures carries { Carries S.Store store.old store.new day what.now result }
-    ensures one_change { MakesOneChange S.Store store.old store.new day what.now (λ stored. IsResponseAfter stored result) }
-{
-    // Here the desk is a lawful one, and a crash before the first call leaves it.
-    store.between_calls();
-    match what {
-        What::Survey(acc) => survey(store, alloc, *acc),
-        What::Deeds => deeds(store, alloc),
-        What::Takedowns => takedowns(store, alloc),
-        What::Keys => keys(store, alloc),
-        What::Checks => checks(store, alloc),
-        What::Verdicts(day) => verdicts(store, alloc, *day),
-        What::RehearseRule(day, rule) => rehearse_rule(store, alloc, *day, rule),
-        What::RehearseDrop {
-            day,
-            band,
-            scope,
-            rank,
-        } => rehearse_drop(store, alloc, *day, *band, *scope, *rank),
-        What::Check(acc) => check(store, alloc, day, *acc),
-        What::PutImage {
-            acc,
-            kind,
-            deed,
-            digest,
-            bytes,
-        } => put_image(store, alloc, *acc, *kind, *deed, digest, bytes),
-        What::PutDeed { num, donor, signed } => put_deed(store, *num, donor, *signed),
-        What::PutRule(rule) => put_rule(store, rule),
-        What::DropRule { band, scope, rank } => drop_rule(store, *band, *scope, *rank),
-        What::PutKey { digest, audience } => put_key(store, digest, *audience),
-        What::DropKey { digest } => drop_key(store, digest),
-        What::Unread => Ok(Response::Refused(Refusal::BadBody)),
-        What::Images | What::Listing(_) | What::Bytes(_, _) | What::Catalogue => unreachable!(),
     }
 }

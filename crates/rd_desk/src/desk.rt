@@ -10,11 +10,11 @@ ghost use Rattle.rd_protocol.specs.Requests.{IsForStaff, IsRequest};
 ghost use Rattle.rd_desk.specs.Served.{Responds, Serves};
 ghost use Rattle.rd_desk.specs.Shelving.{WouldAnswer};
 
+use crate::answers::{answer, may_ask};
 use crate::asking::{Unavailable, audience};
-use crate::commands::command;
-use crate::queries::{Caller, query};
+use crate::queries::Caller;
 use crate::would_take::{Shelf, Shelved, would_take};
-use rd_policy::{Audience, DayFault, Zone, day_of};
+use rd_policy::{DayFault, Zone, day_of};
 use rd_protocol::{Refusal, Reply, Request, Response, reply_text};
 use rd_store::Store;
 use sqlite::Alter;
@@ -38,16 +38,12 @@ fn response_to<S: Alter>(
     let Some(audience) = audience(store, &request.badge)? else {
         return Ok(Response::Refused(Refusal::UnknownKey));
     };
-    let caller = Caller { audience, day };
-    if !request.what.is_for_staff() {
-        return query(store, alloc, &caller, &request.what);
-    }
-    // If the caller is refused below, a crash leaves the desk as it is here.
+    // Whatever is answered, a crash before the next call leaves the desk as it is here.
     store.between_calls();
-    if caller.audience != Audience::Staff {
+    if !may_ask(audience, &request.what) {
         return Ok(Response::Refused(Refusal::StaffOnly));
     }
-    command(store, alloc, day, &request.what)
+    answer(store, alloc, &Caller { audience, day }, &request.what)
 }
 
 /// The reply that gives an answer; if there is no answer, or no memory for the reply, it says that

@@ -1,6 +1,7 @@
 //! The desk over its store: what it answers to a request, and what it changes.
 #![tactic(auto)]
 
+mod answers;
 mod asking;
 mod commands;
 mod desk;

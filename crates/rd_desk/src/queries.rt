@@ -9,11 +9,9 @@ ghost use Rattle.rd_volume.specs.Volumes.{IsFound};
 ghost use Rattle.rd_desk.specs.Calls.{IsRegistered, IsResponseTo};
 ghost use Rattle.rd_protocol.specs.Queries.{AreLinesOf, IsRead, IsWithheld};
 ghost use Rattle.rd_protocol.specs.Replies.{AreLines, IsListing};
-ghost use Rattle.rd_protocol.specs.Requests.{IsForStaff};
 
 use crate::asking::{AccessionRules, Unavailable, files, load_rules};
 use crate::files::contents;
-use crate::overviews::{catalogue, images};
 use rd_geometry::Items;
 use rd_policy::{Audience, Effect, Label, Rule, Verdict, decide};
 use rd_protocol::{Line, Listing, Refusal, Response, What};
@@ -118,7 +116,7 @@ fn read<S: Alter>(
 }
 
 /// The bytes of the file at a slot of an accession.
-fn bytes<S: Alter>(
+pub(crate) fn bytes<S: Alter>(
     store: &mut Store<S>,
     alloc: Global,
     caller: &Caller,
@@ -197,7 +195,7 @@ fn listed_at<S: Alter>(
 }
 
 /// The requested accession, with its listed files.
-fn listing<S: Alter>(
+pub(crate) fn listing<S: Alter>(
     store: &mut Store<S>,
     alloc: Global,
     caller: &Caller,
@@ -209,38 +207,4 @@ fn listing<S: Alter>(
         return Ok(Response::Refused(Refusal::NoAccession));
     };
     Ok(Response::Listed(listed_at(store, alloc, caller, acc, accession)?))
-}
-
-/// Answers a query of a caller.
-pub(crate) fn query<S: Alter>(
-    store: &mut Store<S>,
-    alloc: Global,
-    caller: &Caller,
-    what: &What,
-) -> Result<Response, Unavailable>
-    requires query { ¬ IsForStaff what.now }
-    ensures { Reads S.Store store.old store.new result (IsResponseTo (desk S.Store store.old) caller.now.audience caller.now.day what.now) }
-{
-    match what {
-        What::Images => images(store, alloc, caller),
-        What::Listing(acc) => listing(store, alloc, caller, *acc),
-        What::Bytes(acc, slot) => bytes(store, alloc, caller, *acc, *slot),
-        What::Catalogue => catalogue(store, alloc, caller),
-        What::Survey(_)
-        | What::Check(_)
-        | What::Deeds
-        | What::Takedowns
-        | What::Keys
-        | What::Checks
-        | What::Verdicts(_)
-        | What::RehearseRule(_, _)
-        | What::RehearseDrop { .. }
-        | What::PutImage { .. }
-        | What::PutDeed { .. }
-        | What::PutRule(_)
-        | What::DropRule { .. }
-        | What::PutKey { .. }
-        | What::DropKey { .. }
-        | What::Unread => unreachable!(),
-    }
 }

@@ -4,18 +4,18 @@
 ghost use Rattle.std.specs.Prelude.{◌≡◌, ◌++◌, ℤ, All, IfOk, map};
 ghost use Rattle.std.specs.List.{AllZip};
 ghost use Rattle.rd_policy.specs.Verdicts.{AreInOrder};
-ghost use Rattle.rd_store.specs.Held.{Keeps};
+ghost use Rattle.rd_store.specs.Held.{Keeps, Reads, desk};
 ghost use Rattle.rd_holdings.specs.State.{Desk, all_rules};
 ghost use Rattle.rd_protocol.specs.Verdicts.{IsDecided, IsVerdictsOf};
-ghost use Rattle.rd_desk.specs.Calls.{Carries, SaysMore, StandsAs};
+ghost use Rattle.rd_desk.specs.Calls.{AreVerdictsAt, Carries, SaysMore, StandsAs};
 ghost use Rattle.rd_desk.specs.Rehearsing.{with_verdicts_on};
 
-use crate::asking::Unavailable;
+use crate::asking::{Unavailable, files, load_rules};
 use crate::overviews::{Overview, over_all, with_line};
 use crate::queries::{Caller, judge_in_turn};
 use rd_geometry::Items;
 use rd_policy::{Audience, Rule, Verdict};
-use rd_protocol::{FileVerdicts, Response, Verdicts, What};
+use rd_protocol::{FileVerdicts, Refusal, Response, Verdicts, What};
 use rd_store::{Indexed, Rulebook, Store};
 use rd_volume::Found;
 use sqlite::Alter;
@@ -100,6 +100,45 @@ fn verdicts_of(
         kind: indexed.kind,
         files,
     })
+}
+
+/// The verdicts on the files of an accession on a day; `None` if it does not stand.
+fn verdicts_at<S: Alter>(
+    store: &mut Store<S>,
+    alloc: Global,
+    day: i32,
+    acc: u32,
+) -> Result<Option<Verdicts>, Unavailable>
+    ensures { Reads S.Store store.old store.new result (AreVerdictsAt (desk S.Store store.old) day acc) }
+{
+    let Some(accession) = store.accession(acc)? else {
+        return Ok(None);
+    };
+    let loaded = load_rules(store, alloc, acc, accession)?;
+    let found = files(store, alloc, acc)?;
+    let files = decided(alloc, &[], loaded.rules.as_slice(), day, found)?;
+    Ok(Some(Verdicts {
+        accession: acc,
+        deed: loaded.deed,
+        kind: loaded.kind,
+        files,
+    }))
+}
+
+/// The answer to the staff that gives the verdicts on the files of one accession on a day.
+pub(crate) fn verdicts_of_one<S: Alter>(
+    store: &mut Store<S>,
+    alloc: Global,
+    day: i32,
+    acc: u32,
+) -> Result<Response, Unavailable>
+    ensures carries { (visited : ℤ) → Carries S.Store store.old store.new visited (What.VerdictsOf day acc) result }
+    ensures keeps { Keeps S.Store store.old store.new }
+{
+    let Some(one) = verdicts_at(store, alloc, day, acc)? else {
+        return Ok(Response::Refused(Refusal::NoAccession));
+    };
+    Ok(Response::Verdicts(Items::of(with_line(Vec::new(alloc), one)?)))
 }
 
 /// All accessions, each with the verdicts on its files on a day.

@@ -4,4 +4,4 @@ pub mod Words
 pub mod Faults
 pub mod Lines
 pub mod Explained
-pub mod Noted
+pub mod Notes

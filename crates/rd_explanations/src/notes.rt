@@ -1,7 +1,7 @@
 //! What a command notes while it runs, for an explanation.
 
 ghost use Rattle.std.specs.Prelude.{◌≡◌, [], IfErr, OnOk, false, true};
-ghost use Rattle.rd_explanations.specs.Noted.{AddsAtMost, IsQuiet};
+ghost use Rattle.rd_explanations.specs.Notes.{AddsAtMost, IsQuiet};
 
 use crate::line::Line;
 use std::alloc::Global;

@@ -137,7 +137,7 @@ impl<'a> Visitors<'a> {
 impl<'a> Door for Visitors<'a> {
     type Conn = Fragile<'a>;
 
-    ghost told = { λ _. None };
+    ghost so_far = { λ _. None };
 
     ghost coming = { λ _. None };
 

@@ -503,12 +503,12 @@ impl<'a, D: Door + Drop, P: Places<D> + Drop> Machine for Host<'a, D, P> {
 
 /// A writer, and what the system said when it last did not take what was written.
 #[derive(Drop)]
-struct Noted<W: Write + Drop> {
+struct RecordingWriter<W: Write + Drop> {
     inner: W,
     said: Option<Said>,
 }
 
-impl<W: Write + Drop> Noted<W> {
+impl<W: Write + Drop> RecordingWriter<W> {
     /// Keeps what the system said of a call that failed. One that was interrupted is made again, and is no fault.
     fn note(&mut self, error: &io::Error) {
         if error.kind() != ErrorKind::Interrupted {
@@ -517,7 +517,7 @@ impl<W: Write + Drop> Noted<W> {
     }
 }
 
-impl<W: Write + Drop> Write for Noted<W> {
+impl<W: Write + Drop> Write for RecordingWriter<W> {
     fn write(&mut self, buf: &[u8]) -> io::Result<usize> {
         let written = self.inner.write(buf);
         if let Err(error) = &written {
@@ -578,7 +578,7 @@ fn run_on<M: Machine + Hears>(
     words: &[&str],
     machine: &mut M,
 ) -> Result<u8, Refusal> {
-    let mut stdout = Noted {
+    let mut stdout = RecordingWriter {
         inner: rt.stdout(),
         said: None,
     };

@@ -15,7 +15,9 @@ pub use Rattle.rd_messages.specs.Framing
 pub use Rattle.rd_messages.specs.Heads
 pub use Rattle.rd_messages.specs.Taken
 pub use Rattle.rd_messages.specs.PathDays
-pub use Rattle.rd_messages.specs.Patterns
+pub use Rattle.rd_messages.specs.PathValues
+pub use Rattle.rd_messages.specs.Methods
+pub use Rattle.rd_messages.specs.Table
 pub use Rattle.rd_messages.specs.Routes
 pub use Rattle.rd_messages.specs.Objects
 pub use Rattle.rd_messages.specs.RequestBodies

@@ -92,25 +92,25 @@ module _ {State : Type 0} (Answers : List ℕ → State → State → ℤ → Li
 -- ended, that its faults are at most its visits, and that the door shuts only where the run says so, and else is as open
 -- as it was; if it shows its visits, had not shut before and has none under way, none is left when it shuts.
 pub record IsRunOf {S D C : Type 0} (g : Ghosts S) (d : DoorGhosts D C) (most : ℕ) (zone : Zone) (before after : D) (old new : Held S) (served : Served) : Type 0 where
-  pub run : IfSome (d.told before) (λ told. HasRun (IsAnswer g) zone told (d.told after) (d.coming before) (d.coming after) served old new)
+  pub run : IfSome (d.so_far before) (λ told. HasRun (IsAnswer g) zone told (d.so_far after) (d.coming before) (d.coming after) served old new)
   pub count : (served.ended ≡ Count) ↔ (served.visits ≡ most)
   pub within : served.visits ≤ most
   pub faults : served.read_faults + served.write_faults ≤ served.visits
   pub shut : served.ended ≡ Shut → d.has_shut after ≡ true
   pub stays : served.ended ≢ Shut → d.has_shut after ≡ d.has_shut before
-  pub last : served.ended ≡ Shut → d.has_shut before ≡ false → IfSome (d.told before) (λ told. told.under_way ≡ None → NoneLeft (d.coming after))
+  pub last : served.ended ≡ Shut → d.has_shut before ≡ false → IfSome (d.so_far before) (λ told. told.under_way ≡ None → NoneLeft (d.coming after))
   pub lasts : Lasts g old new
 
 -- ---- inside
 
 -- One visit more of a run that goes on, or its end.
 pub record IsNext {S D C : Type 0} (g : Ghosts S) (d : DoorGhosts D C) (zone : Zone) (before after : D) (old new : Held S) (served next : Served) : Type 0 where
-  pub run : (told : VisitsSoFar) (coming : Option (List Coming)) (start : Held S) → HasRun (IsAnswer g) zone told (d.told before) coming (d.coming before) served start old
-      → HasRun (IsAnswer g) zone told (d.told after) coming (d.coming after) next start new
+  pub run : (told : VisitsSoFar) (coming : Option (List Coming)) (start : Held S) → HasRun (IsAnswer g) zone told (d.so_far before) coming (d.coming before) served start old
+      → HasRun (IsAnswer g) zone told (d.so_far after) coming (d.coming after) next start new
   pub more : next.ended ≡ Count → next.visits ≡ served.visits + 1
   pub over : next.ended ≢ Count → next.visits ≡ served.visits
   pub faults : next.read_faults + next.write_faults ≤ next.visits
   pub shut : next.ended ≡ Shut → d.has_shut after ≡ true
   pub stays : next.ended ≢ Shut → d.has_shut after ≡ d.has_shut before
-  pub last : next.ended ≡ Shut → d.has_shut before ≡ false → NoneToCome (d.told before) (d.coming before) × (d.coming after ≡ d.coming before)
+  pub last : next.ended ≡ Shut → d.has_shut before ≡ false → NoneToCome (d.so_far before) (d.coming before) × (d.coming after ≡ d.coming before)
   pub lasts : Lasts g old new

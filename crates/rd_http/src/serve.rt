@@ -117,10 +117,10 @@ pub fn serve_many<S: Alter, D: Door>(
     count: u32,
 ) -> Served
     ensures run { IsRunOf S.Store D.Door count desk.old.zone door.old door.new desk.old.store desk.new.store result }
-    ensures replied { IsOpen S.Store desk.new.store → IfSome (D.told door.old) (λ begun.
-        HasRun IsReplied desk.old.zone begun (D.told door.new) (D.coming door.old) (D.coming door.new) result (tables S.Store desk.old.store) (tables S.Store desk.new.store)) }
-    ensures hidden { IsOpen S.Store desk.new.store → IfSome (D.told door.old) (λ begun.
-        HasRun RepliesAndHides desk.old.zone begun (D.told door.new) (D.coming door.old) (D.coming door.new) result (tables S.Store desk.old.store) (tables S.Store desk.new.store)) }
+    ensures replied { IsOpen S.Store desk.new.store → IfSome (D.so_far door.old) (λ begun.
+        HasRun IsReplied desk.old.zone begun (D.so_far door.new) (D.coming door.old) (D.coming door.new) result (tables S.Store desk.old.store) (tables S.Store desk.new.store)) }
+    ensures hidden { IsOpen S.Store desk.new.store → IfSome (D.so_far door.old) (λ begun.
+        HasRun RepliesAndHides desk.old.zone begun (D.so_far door.new) (D.coming door.old) (D.coming door.new) result (tables S.Store desk.old.store) (tables S.Store desk.new.store)) }
     ensures heard { ((conn : _) → D.Conn.read_failed conn ≡ false) → result.read_faults ≡ 0 }
     ensures zone { desk.new.zone ≡ desk.old.zone }
 {
@@ -140,10 +140,10 @@ pub fn serve_in_memory<D: Door>(
     count: u32,
 ) -> Served
     ensures run { IsRunOf over_memory D.Door count desk.old.zone door.old door.new desk.old.store desk.new.store result }
-    ensures replied { IfSome (D.told door.old) (λ begun.
-        HasRun IsReplied desk.old.zone begun (D.told door.new) (D.coming door.old) (D.coming door.new) result (tables over_memory desk.old.store) (tables over_memory desk.new.store)) }
-    ensures hidden { IfSome (D.told door.old) (λ begun.
-        HasRun RepliesAndHides desk.old.zone begun (D.told door.new) (D.coming door.old) (D.coming door.new) result (tables over_memory desk.old.store) (tables over_memory desk.new.store)) }
+    ensures replied { IfSome (D.so_far door.old) (λ begun.
+        HasRun IsReplied desk.old.zone begun (D.so_far door.new) (D.coming door.old) (D.coming door.new) result (tables over_memory desk.old.store) (tables over_memory desk.new.store)) }
+    ensures hidden { IfSome (D.so_far door.old) (λ begun.
+        HasRun RepliesAndHides desk.old.zone begun (D.so_far door.new) (D.coming door.old) (D.coming door.new) result (tables over_memory desk.old.store) (tables over_memory desk.new.store)) }
     ensures heard { ((conn : _) → D.Conn.read_failed conn ≡ false) → result.read_faults ≡ 0 }
     ensures zone { desk.new.zone ≡ desk.old.zone }
 {

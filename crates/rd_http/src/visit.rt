@@ -11,7 +11,7 @@ ghost use Rattle.rd_http.specs.Visits.{IsAnswer, IsServed, Visits};
 
 use rd_desk::{Desk, Reply, unavailable};
 use rd_messages::read_request::{Reading, read_request};
-use rd_messages::{Broken, Wire, Workspace, of_desk, send};
+use rd_messages::{Broken, Wire, Workspace, send, with_challenge};
 use sqlite::Alter;
 use std::alloc::Global;
 
@@ -44,9 +44,9 @@ fn answer_to<S: Alter>(
     ensures zone { desk.new.zone ≡ desk.old.zone }
 {
     match reading {
-        Reading::Request(request) => of_desk(desk.answer_on(alloc, day, &request)),
+        Reading::Request(request) => with_challenge(desk.answer_on(alloc, day, &request)),
         Reading::Fault(fault) => (fault.line(), fault.reply()),
-        Reading::NoMemory => of_desk(unavailable()),
+        Reading::NoMemory => with_challenge(unavailable()),
     }
 }
 

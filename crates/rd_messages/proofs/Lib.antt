@@ -5,8 +5,8 @@ pub mod FramingLemmas
 pub mod HeadLemmas
 pub mod TakenLemmas
 pub mod WholeLemmas
-pub mod PatternLemmas
 pub mod RouteLemmas
+pub mod PartTexts
 pub mod JsonValues
 pub mod AudienceWords
 pub mod BodyUniqueness

@@ -1,5 +1,5 @@
 -- From the parts that were read of a visit to what it asks.
-use Rattle.std.proofs.Common.{◌≡◌, ℕ, ◌+◌, ◌<◌, ◌≤◌, ◌&&◌, List, [], ◌∷◌, ◌++◌, Bool, true, false, cond, nat_le, nat_lt, Option, None, Some, IsSomeAnd, codes, length, take, drop, map, arith, refl, sym, ap, append_assoc, length-append, subst, ◌∙◌}
+use Rattle.std.proofs.Common.{◌≡◌, ℕ, ◌+◌, ◌<◌, ◌≤◌, ◌&&◌, List, [], ◌∷◌, ◌++◌, Bool, true, false, cond, nat_le, nat_lt, Option, None, Some, IsSomeAnd, codes, length, take, drop, map, option_map, arith, refl, sym, ap, append_assoc, length-append, subst, ◌∙◌}
 use Rattle.std.proofs.lemmas.Grind.{common_steps}
 use Rattle.std.specs.Str.{all_ascii_digits}
 use Rattle.std.specs.Str.Parse.{digits_value}
@@ -8,19 +8,23 @@ use Rattle.httparse.specs.Grammar.{RequestHead}
 use Rattle.httparse.specs.Spans.{header_bytes, span_bytes}
 use Rattle.httparse.specs.declared.spans.HeaderSpan.{HeaderSpan}
 use Rattle.httparse.specs.declared.spans.RequestSpans.{RequestSpans}
-use Rattle.rd_messages.specs.Asked.{Fails, HasFramedHead, Holds, IsFaultOf}
+use Rattle.sha2.specs.Sha256.{sha256}
+use Rattle.rd_protocol.specs.declared.request.Request.{Request}
+use Rattle.rd_messages.specs.Asked.{Fails, HasFramedHead, Holds, IsFaultOf, IsRequestOf, IsWhat}
 use Rattle.rd_messages.specs.Faults.{number_of}
 use Rattle.rd_messages.specs.Fields.{fields_of, values_named}
 use Rattle.rd_messages.specs.Framing.{IsFramed, IsMisframed, IsWhole, length_in_values}
 use Rattle.rd_messages.specs.Heads.{BeginsWith, HasHead, HasNoHead}
+use Rattle.rd_messages.specs.Methods.{method_named}
 use Rattle.rd_messages.specs.Readings.{IsReading, Reads}
-use Rattle.rd_messages.specs.Routes.{method_named, methods_of, route_of}
+use Rattle.rd_messages.specs.Routes.{route_of}
 use Rattle.rd_messages.specs.Taken.{EndsEarly, IsBodyTaken, TakesUpTo}
 use Rattle.rd_messages.specs.declared.fault.RequestFault.{RequestFault}
-use Rattle.rd_messages.specs.declared.fault.RequestFault.TheVariants.{BadHead, Framing, NoRoute, Method}
+use Rattle.rd_messages.specs.declared.fault.RequestFault.TheVariants.{BadHead, Framing, NoRoute, Method as OtherMethod}
+use Rattle.rd_messages.specs.declared.method.Method.{Method}
+use Rattle.rd_messages.specs.declared.method.Methods.{Methods}
 use Rattle.rd_messages.specs.declared.read_request.Reading.{Reading}
-use Rattle.rd_messages.specs.declared.read_request.Reading.TheVariants.{Request, Fault, NoMemory}
-use Rattle.rd_messages.specs.declared.route.Methods.{Methods}
+use Rattle.rd_messages.specs.declared.read_request.Reading.TheVariants.{Request as Read, Fault, NoMemory}
 use Rattle.rd_messages.specs.declared.route.Route.{Route}
 use Rattle.rd_messages.proofs.RequestUniqueness.{fails_of}
 use Rattle.rd_messages.proofs.WholeLemmas.{behind_head, cut_is_never_whole, misframed_is_never_whole, whole_taken}
@@ -35,7 +39,7 @@ no_head stream none = record { holds = none; lowest = λ other below holds. firs
     first BadHead below = omega (arith, below)
     first Framing below = omega (arith, below)
     first NoRoute below = omega (arith, below)
-    first (Method methods) below = omega (arith, below)
+    first (OtherMethod methods) below = omega (arith, below)
 
 module _ (stream : List ℕ) (head : RequestHead) (rest : List ℕ) (begins : BeginsWith stream head rest) where
   -- where there is a head, the framing is the first reason
@@ -46,7 +50,7 @@ module _ (stream : List ℕ) (head : RequestHead) (rest : List ℕ) (begins : Be
       before BadHead below none = none head rest begins
       before Framing below holds = omega (arith, below)
       before NoRoute below holds = omega (arith, below)
-      before (Method methods) below holds = omega (arith, below)
+      before (OtherMethod methods) below holds = omega (arith, below)
 
   module _ (key : Option (List ℕ)) (body : List ℕ) (whole : IsWhole head rest key body) where
     unframed : ¬ Holds stream Framing
@@ -59,12 +63,12 @@ module _ (stream : List ℕ) (head : RequestHead) (rest : List ℕ) (begins : Be
         before BadHead below none = none head rest begins
         before Framing below holds = unframed holds
         before NoRoute below holds = omega (arith, below)
-        before (Method methods) below holds = omega (arith, below)
+        before (OtherMethod methods) below holds = omega (arith, below)
 
-    pub methodless : (methods : Methods) → Fails head rest (Method methods) → IsFaultOf stream (Method methods)
+    pub methodless : (methods : Methods) → Fails head rest (OtherMethod methods) → IsFaultOf stream (OtherMethod methods)
     methodless methods fails = record { holds = (head, rest, begins, fails); lowest = before }
       where
-        routed : (found : Option Route) → IsSomeAnd found (λ r. (methods_of r ≡ methods) × (method_named methods head.method ≡ None)) → ¬ (found ≡ None)
+        routed : (found : Option Route) → IsSomeAnd found (λ r. (r.served.methods ≡ methods) × (method_named methods head.method ≡ None)) → ¬ (found ≡ None)
         routed None some none = some
         routed (Some route) some none = cc none
 
@@ -72,11 +76,13 @@ module _ (stream : List ℕ) (head : RequestHead) (rest : List ℕ) (begins : Be
         before BadHead below none = none head rest begins
         before Framing below holds = unframed holds
         before NoRoute below holds = routed (route_of head.target) fails (fails_of stream head rest NoRoute begins holds)
-        before (Method others) below holds = omega (arith, below)
+        before (OtherMethod others) below holds = omega (arith, below)
 
-    -- what was read of a whole request is what the bytes ask
-    pub asks : (reading : Reading) → Reads head.method head.target key body reading → IsReading stream reading
-    asks (Request asked) (route, method, to, by, badge, what) = record {
+    -- a request, by its route, its method and what they ask
+    pub is_request : (asked : Request) (route : Route) (method : Method) → route_of head.target ≡ Some route
+        → method_named route.served.methods head.method ≡ Some method → asked.badge ≡ option_map sha256 key
+        → IsWhat route.served.subject route.values method body asked.what → IsRequestOf stream asked
+    is_request asked route method to by badge what = record {
       head = head;
       rest = rest;
       key = key;
@@ -90,8 +96,12 @@ module _ (stream : List ℕ) (head : RequestHead) (rest : List ℕ) (begins : Be
       badge = badge;
       what = what;
     }
+
+    -- what was read of a whole request is what the bytes ask
+    pub asks : (reading : Reading) → Reads head.method head.target key body reading → IsReading stream reading
+    asks (Read asked) (route, method, to, by, badge, what) = is_request asked route method to by badge what
     asks (Fault NoRoute) none = routeless none
-    asks (Fault (Method methods)) other = methodless methods other
+    asks (Fault (OtherMethod methods)) other = methodless methods other
     asks (Fault BadHead) none = absurd none
     asks (Fault Framing) none = absurd none
     asks NoMemory any = (head, rest, length body, key, begins, whole.framed)

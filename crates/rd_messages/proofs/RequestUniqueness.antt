@@ -13,51 +13,47 @@ use Rattle.rd_messages.specs.Framing.{IsWhole}
 use Rattle.rd_messages.specs.Heads.{BeginsWith}
 use Rattle.rd_messages.specs.Readings.{IsParsed}
 use Rattle.rd_messages.specs.RequestBodies.{IsNoKeyBody}
-use Rattle.rd_messages.specs.Routes.{method_named, methods_of, route_of}
+use Rattle.rd_messages.specs.Methods.{method_named}
+use Rattle.rd_messages.specs.PathValues.{scope_in}
+use Rattle.rd_messages.specs.Routes.{route_of}
 use Rattle.rd_messages.specs.declared.fault.RequestFault.{RequestFault}
 use Rattle.rd_messages.specs.declared.fault.RequestFault.TheVariants.{BadHead, Framing, NoRoute, Method as OtherMethod}
-use Rattle.rd_messages.specs.declared.route.Method.{Method}
-use Rattle.rd_messages.specs.declared.route.Method.TheVariants.{Put, Delete}
-use Rattle.rd_messages.specs.declared.route.Methods.{Methods}
+use Rattle.rd_messages.specs.declared.method.Method.{Method}
+use Rattle.rd_messages.specs.declared.method.Method.TheVariants.{Put, Delete}
+use Rattle.rd_messages.specs.declared.method.Methods.{Methods}
 use Rattle.rd_messages.specs.declared.route.Route.{Route}
-use Rattle.rd_messages.specs.declared.route.Route.TheVariants.{Images, Listing, Bytes, Survey, Check, Accession, Deed, Rule, Badge, Catalogue, Deeds, Takedowns, Keys, Checks, Verdicts, Rehearsal}
+use Rattle.rd_messages.specs.declared.table.Subject.{Subject}
+use Rattle.rd_messages.specs.declared.table.Subject.TheVariants.{ByPath, Image, Deed, Rule, Badge, Rehearsal}
+use Rattle.rd_messages.specs.declared.values.Values.{Values}
 use Rattle.rd_messages.proofs.BodyUniqueness.{one_deed, one_key, one_rule}
 use Rattle.rd_messages.proofs.WholeLemmas.{whole_once}
 
--- ---- what a route asks
+-- ---- what a path asks
 
-pub one_asks : (route : Route) (method : Method) (body : List ℕ) (one other : What) → Asks route method body one → Asks route method body other → one ≡ other
-one_asks (Deed num) method body one other (donor, signed, is, told) (donor2, signed2, is2, told2) =
+pub one_asks : (subject : Subject) (values : Values) (method : Method) (body : List ℕ) (one other : What)
+    → Asks subject values method body one → Asks subject values method body other → one ≡ other
+one_asks (ByPath enquiry) values method body one other is same = is ∙ sym same
+one_asks Image values method body one other is same = is ∙ sym same
+one_asks Deed values method body one other (donor, signed, is, told) (donor2, signed2, is2, told2) =
     let same = one_deed body donor donor2 signed signed2 told told2 in
-    is ∙ (λ i. what.PutDeed num (same.donors i) (same.days i)) ∙ sym is2
-one_asks (Rule band scope rank) Delete body one other is same = is ∙ sym same
-one_asks (Rule band scope rank) Put body one other (rule, is, told) (rule2, is2, told2) =
-    is ∙ ap what.PutRule (one_rule band scope rank body rule rule2 told told2) ∙ sym is2
-one_asks (Badge digest) Delete body one other is same = is ∙ sym same
-one_asks (Badge digest) Put body one other (audience, is, told) (audience2, is2, told2) =
-    is ∙ ap (what.PutKey digest) (one_key body audience audience2 told told2) ∙ sym is2
-one_asks (Rehearsal day band scope rank) Delete body one other is same = is ∙ sym same
-one_asks (Rehearsal day band scope rank) Put body one other (rule, is, told) (rule2, is2, told2) =
-    is ∙ ap (what.RehearseRule day) (one_rule band scope rank body rule rule2 told told2) ∙ sym is2
-one_asks Images method body one other is same = is ∙ sym same
-one_asks (Listing acc) method body one other is same = is ∙ sym same
-one_asks (Bytes acc slot) method body one other is same = is ∙ sym same
-one_asks (Survey acc) method body one other is same = is ∙ sym same
-one_asks (Check acc) method body one other is same = is ∙ sym same
-one_asks (Accession acc kind deed digest) method body one other is same = is ∙ sym same
-one_asks Catalogue method body one other is same = is ∙ sym same
-one_asks Deeds method body one other is same = is ∙ sym same
-one_asks Takedowns method body one other is same = is ∙ sym same
-one_asks Keys method body one other is same = is ∙ sym same
-one_asks Checks method body one other is same = is ∙ sym same
-one_asks (Verdicts day) method body one other is same = is ∙ sym same
-one_asks route method body one other none same = absurd none
+    is ∙ (λ i. what.PutDeed values.deed (same.donors i) (same.days i)) ∙ sym is2
+one_asks (Rule band) values Delete body one other is same = is ∙ sym same
+one_asks (Rule band) values Put body one other (rule, is, told) (rule2, is2, told2) =
+    is ∙ ap what.PutRule (one_rule band (scope_in band values) values.rank body rule rule2 told told2) ∙ sym is2
+one_asks Badge values Delete body one other is same = is ∙ sym same
+one_asks Badge values Put body one other (audience, is, told) (audience2, is2, told2) =
+    is ∙ ap (what.PutKey values.digest) (one_key body audience audience2 told told2) ∙ sym is2
+one_asks (Rehearsal band) values Delete body one other is same = is ∙ sym same
+one_asks (Rehearsal band) values Put body one other (rule, is, told) (rule2, is2, told2) =
+    is ∙ ap (what.RehearseRule values.day) (one_rule band (scope_in band values) values.rank body rule rule2 told told2) ∙ sym is2
+one_asks subject values method body one other none same = absurd none
 
-pub one_what : (route : Route) (method : Method) (body : List ℕ) (one other : What) → IsWhat route method body one → IsWhat route method body other → one ≡ other
-one_what route method body one other (inl (asks, fits)) (inl (also, fit)) = one_asks route method body one other asks also
-one_what route method body one other (inl (asks, fits)) (inr (unread, none)) = absurd (none one asks fits)
-one_what route method body one other (inr (unread, none)) (inl (asks, fits)) = absurd (none other asks fits)
-one_what route method body one other (inr (unread, none)) (inr (same, nothing)) = unread ∙ sym same
+pub one_what : (subject : Subject) (values : Values) (method : Method) (body : List ℕ) (one other : What)
+    → IsWhat subject values method body one → IsWhat subject values method body other → one ≡ other
+one_what subject values method body one other (inl (asks, fits)) (inl (also, fit)) = one_asks subject values method body one other asks also
+one_what subject values method body one other (inl (asks, fits)) (inr (unread, none)) = absurd (none one asks fits)
+one_what subject values method body one other (inr (unread, none)) (inl (asks, fits)) = absurd (none other asks fits)
+one_what subject values method body one other (inr (unread, none)) (inr (same, nothing)) = unread ∙ sym same
 
 -- ---- a head and what follows it
 
@@ -76,8 +72,8 @@ fails_of stream head rest (OtherMethod methods) begins (h, r, b, fails) =
     let same = same_head stream h head r rest b begins in subst (λ t. Fails head t (OtherMethod methods)) same.1 (subst (λ k. Fails k r (OtherMethod methods)) same.0 fails)
 
 -- what is at a route with a method is refused for neither
-to_a_route : (found : Option Route) (route : Route) (method : Method) (name : List ℕ) (methods : Methods) → found ≡ Some route → method_named (methods_of route) name ≡ Some method
-    → ¬ IsSomeAnd found (λ r. (methods_of r ≡ methods) × (method_named methods name ≡ None))
+to_a_route : (found : Option Route) (route : Route) (method : Method) (name : List ℕ) (methods : Methods) → found ≡ Some route → method_named route.served.methods name ≡ Some method
+    → ¬ IsSomeAnd found (λ r. (r.served.methods ≡ methods) × (method_named methods name ≡ None))
 to_a_route None route method name methods to by none = cc to
 to_a_route (Some r) route method name methods to by (same, none) = cc (to, by, same, none)
 
@@ -105,24 +101,21 @@ module _ (stream : List ℕ) (one other : Request) (x : IsRequestOf stream one) 
 
   same_method : x.method ≡ y.method
   same_method =
-      let same : method_named (methods_of x.route) x.head.method ≡ method_named (methods_of y.route) y.head.method =
-      (λ i. method_named (methods_of (routes i)) (heads.0 i).method) in
+      let same : method_named x.route.served.methods x.head.method ≡ method_named y.route.served.methods y.head.method =
+      (λ i. method_named (routes i).served.methods (heads.0 i).method) in
       cc (same, x.by, y.by)
 
   pub one_request : one ≡ other
   one_request =
       let badge : one.badge ≡ other.badge = x.badge ∙ ap (option_map sha256) wholes.0 ∙ sym y.badge in
-      let asks = subst (λ b. IsWhat y.route y.method b one.what) wholes.1 (subst (λ v. IsWhat y.route v x.body one.what) same_method
-      (subst (λ r. IsWhat r x.method x.body one.what) routes x.what)) in
-      let what = one_what y.route y.method y.body one.what other.what asks y.what in
+      let Asked : Route → Method → List ℕ → Type 0 = λ route method body. IsWhat route.served.subject route.values method body one.what in
+      let asks = subst (λ b. Asked y.route y.method b) wholes.1 (subst (λ v. Asked y.route v x.body) same_method
+      (subst (λ r. Asked r x.method x.body) routes x.what)) in
+      let what = one_what y.route.served.subject y.route.values y.method y.body one.what other.what asks y.what in
       λ i. record { badge = badge i; what = what i }
 
-methods_in : Option Route → Option Methods
-methods_in None = None
-methods_in (Some route) = Some (methods_of route)
-
 one_method : (found : Option Route) (name : List ℕ) (one other : Methods)
-    → IsSomeAnd found (λ r. (methods_of r ≡ one) × (method_named one name ≡ None)) → IsSomeAnd found (λ r. (methods_of r ≡ other) × (method_named other name ≡ None)) → one ≡ other
+    → IsSomeAnd found (λ r. (r.served.methods ≡ one) × (method_named one name ≡ None)) → IsSomeAnd found (λ r. (r.served.methods ≡ other) × (method_named other name ≡ None)) → one ≡ other
 one_method None name one other x y = absurd x
 one_method (Some route) name one other x y = sym x.0 ∙ y.0
 
@@ -150,16 +143,19 @@ one_asked stream (request one) (fault reason) x y = absurd (holds_not stream one
 one_asked stream (fault reason) (request other) x y = absurd (holds_not stream other reason y x.holds)
 one_asked stream (fault one) (fault other) x y = ap fault (one_fault stream one other x y)
 
--- what was told, where it is within its limits; else a command that cannot be read
-pub what_asked : (route : Route) (method : Method) (body : List ℕ) (told : Option What) (asked : What) → IsParsed route method body told
-    → MatchOption told (asked ≡ what.Unread) (λ one. (IsRequest one × (asked ≡ one)) ⊎ ((¬ IsRequest one) × (asked ≡ what.Unread))) → IsWhat route method body asked
-what_asked route method body None asked none is = inr (is, none)
-what_asked route method body (Some one) asked asks (inl (fits, is)) = inl (subst (Asks route method body) (sym is) asks, subst IsRequest (sym is) fits)
-what_asked route method body (Some one) asked asks (inr (unfit, is)) =
-    inr (is, λ other also fits. unfit (subst IsRequest (one_asks route method body other one also asks) fits))
+-- what was parsed, where it is within its limits; else a command that cannot be read
+pub what_asked : (subject : Subject) (values : Values) (method : Method) (body : List ℕ) (parsed : Option What) (asked : What)
+    → IsParsed subject values method body parsed
+    → MatchOption parsed (asked ≡ what.Unread) (λ one. (IsRequest one × (asked ≡ one)) ⊎ ((¬ IsRequest one) × (asked ≡ what.Unread)))
+    → IsWhat subject values method body asked
+what_asked subject values method body None asked none is = inr (is, none)
+what_asked subject values method body (Some one) asked asks (inl (fits, is)) =
+    inl (subst (Asks subject values method body) (sym is) asks, subst IsRequest (sym is) fits)
+what_asked subject values method body (Some one) asked asks (inr (unfit, is)) =
+    inr (is, λ other also fits. unfit (subst IsRequest (one_asks subject values method body other one also asks) fits))
 
--- a body that names no audience that has keys tells no command on a key
-pub no_key_told : (digest : List ℕ) (method : Method) (body : List ℕ) → method ≡ Put → IsNoKeyBody body → IsParsed (Badge digest) method body None
-no_key_told digest method body is none =
-    let Told : Method → Type 0 = λ m. IsParsed (Badge digest) m body None in
-    subst Told (sym is) (λ asked (audience, same, told) fits. none audience told)
+-- a body that names no audience that has keys asks no command on a key
+pub no_key_asked : (values : Values) (method : Method) (body : List ℕ) → method ≡ Put → IsNoKeyBody body → IsParsed Badge values method body None
+no_key_asked values method body is none =
+    let Parsed : Method → Type 0 = λ m. IsParsed Badge values m body None in
+    subst Parsed (sym is) (λ asked (audience, same, told) fits. none audience told)

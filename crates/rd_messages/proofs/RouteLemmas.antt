@@ -1,25 +1,26 @@
--- What a target names: its path, and the limits of its numbers.
-use Rattle.std.proofs.Common.{◌≡◌, ◌==◌, ◌≤◌, ℕ, ℤ, List, [], ◌∷◌, true, false, refl, ap, ⊎_elim, ◌⊎◌, inl, inr, Option, Some, None, IfSome, if◌then◌else◌, IsAscii, IsUtf8, length, nat_lt, position, take, take_all}
+-- What a target names: its path, its parts, and the limits of their values.
+use Rattle.std.proofs.Common.{◌≡◌, ◌==◌, ◌≤◌, ℕ, ℤ, pos, List, [], ◌∷◌, true, false, refl, ap, ⊎_elim, Option, Some, None, IfSome, if◌then◌else◌, IsAscii, IsUtf8, length, nat_lt, position, take, take_all, codes, replicate, rules}
 use Rattle.std.specs.Char.{is_ascii}
 use Rattle.std.specs.List.{list_all, position_or_len}
 use Rattle.std.proofs.lemmas.Bool.{and_parts, cases_lt, cond-true, lt-ltb, ltb-true}
 use Rattle.std.proofs.lemmas.Option.{cond_some}
 use Rattle.std.proofs.lemmas.Str.{IsUtf8-from_ascii}
 use Rattle.std.proofs.lemmas.Str.Ascii.{IsAscii-nil, IsAscii-cons}
+use Rattle.matchit.specs.Params.{named}
 use Rattle.matchit.specs.Router.{RouteOf}
 use Rattle.matchit.specs.Seek.{first}
+use Rattle.rd_geometry.specs.declared.kind.Kind.TheVariants.{D64}
 use Rattle.rd_policy.specs.Days.{IsDay}
 use Rattle.rd_policy.specs.Rules.{IsScope, IsRank}
 use Rattle.rd_policy.specs.declared.limits.TheConstants.{LAST_SLOT}
-use Rattle.rd_policy.specs.declared.rule.Band.{Band}
-use Rattle.rd_policy.specs.declared.rule.Band.TheVariants as band
 use Rattle.rd_protocol.specs.Parts.{digest_of, kind_of, rank_of, scope_of, slot_of}
-use Rattle.rd_messages.specs.PathDays.{Dates, dated_by, day_of_date}
-use Rattle.rd_messages.specs.Patterns.{matched, parts_of, pattern_rows}
-use Rattle.rd_messages.specs.Routes.{◌>>=◌, IsWithin, day_with, path_of, rehearsal_of, route_of, route_of_match, route_of_path, route_with, rule_of}
-use Rattle.rd_messages.specs.declared.pattern.Pattern.{Pattern}
-use Rattle.rd_messages.specs.declared.pattern.Pattern.TheVariants as pattern
 use Rattle.rd_protocol.proofs.PartLemmas.{rank_within, scope_within, slot_within}
+use Rattle.rd_messages.specs.PathDays.{Dates, dated_by, day_of_date}
+use Rattle.rd_messages.specs.PathValues.{◌>>=◌, AreWithin, NamedParts, day_in, value_at, values_in}
+use Rattle.rd_messages.specs.Routes.{matched, parts_of, path_of, route_of, route_of_match, route_of_path}
+use Rattle.rd_messages.specs.Table.{router_rows}
+use Rattle.rd_messages.specs.declared.route.Route.{Route}
+use Rattle.rd_messages.specs.declared.table.Served.{Served}
 
 -- ---- paths
 
@@ -46,14 +47,14 @@ ascii_from_test (byte ∷ rest) test =
 pub text_from_test : (bytes : List ℕ) → list_all is_ascii bytes ≡ true → IsUtf8 bytes
 text_from_test bytes test = IsUtf8-from_ascii bytes (ascii_from_test bytes test)
 
--- what a path names that has a pattern
-pub path_names : (path : List ℕ) (route : RouteOf Pattern) → list_all is_ascii path ≡ true → first pattern_rows path ≡ Some route
-    → route_of_path path ≡ route_of_match (route.value, parts_of route path)
+-- what a path names that has a row
+pub path_names : (path : List ℕ) (row : RouteOf Served) → list_all is_ascii path ≡ true → first router_rows path ≡ Some row
+    → route_of_path path ≡ route_of_match (row.value, parts_of row path)
 unfolding matched
-path_names path route ascii found = rw (ascii, found) refl
+path_names path row ascii found = rw (ascii, found) refl
 
--- a path that has no pattern names nothing
-pub path_names_nothing : (path : List ℕ) → list_all is_ascii path ≡ true → first pattern_rows path ≡ None → route_of_path path ≡ None
+-- a path that has no row names nothing
+pub path_names_nothing : (path : List ℕ) → list_all is_ascii path ≡ true → first router_rows path ≡ None → route_of_path path ≡ None
 unfolding matched
 path_names_nothing path ascii missing = rw (ascii, missing) refl
 
@@ -71,10 +72,11 @@ module _ {A B : Type 0} (Q : B → Type 0) where
   step_free None next follows = tt
   step_free (Some value) next follows = follows value
 
-rule_within : (band : Band) (one two : List ℕ) → IfSome (rule_of band one two) IsWithin
-rule_within band one two =
-    step_within IsWithin IsScope (scope_of one) _ (scope_within one)
-    (λ scope in_scope. step_within IsWithin IsRank (rank_of two) _ (rank_within two) (λ rank in_rank. (in_scope, in_rank)))
+-- what holds of each value that a part writes, and of the least, holds of the value of a name
+at_within : {A : Type 0} (P : A → Type 0) (part : Option (List ℕ)) (read : List ℕ → Option A) (least : A)
+    → ((text : List ℕ) → IfSome (read text) P) → P least → IfSome (value_at part read least) P
+at_within P None read least each is = is
+at_within P (Some text) read least each is = each text
 
 -- each day that a date names has a date
 day_within : (text : List ℕ) → IfSome (day_of_date text) IsDay
@@ -84,54 +86,22 @@ day_within text = in_range (day_of_date text) (dated_by text).1
     in_range None none = tt
     in_range (Some day) is = is.in_range
 
-rehearsal_within : (band : Band) (one two three : List ℕ) → IfSome (day_of_date one >>= (λ day. rehearsal_of day band two three)) IsWithin
-rehearsal_within band one two three =
-    step_within IsWithin IsDay (day_of_date one) _ (day_within one)
-    (λ day in_range. step_within IsWithin IsScope (scope_of two) _ (scope_within two)
-    (λ scope in_scope. step_within IsWithin IsRank (rank_of three) _ (rank_within three) (λ rank in_rank. (in_range, in_scope, in_rank))))
+values_within : (parts : NamedParts) → IfSome (values_in parts) AreWithin
+values_within parts =
+    step_within AreWithin IsDay (day_in parts) _ (at_within IsDay (named (codes "date") parts) day_of_date (pos 0) day_within (search rules))
+    (λ day of_day. step_within AreWithin IsScope _ _ (at_within IsScope (named (codes "acc") parts) scope_of 1 scope_within (search rules))
+    (λ acc of_acc. step_within AreWithin (λ slot. slot ≤ LAST_SLOT) _ _ (at_within (λ slot. slot ≤ LAST_SLOT) (named (codes "slot") parts) slot_of 0 slot_within (search rules))
+    (λ slot of_slot. step_within AreWithin IsRank _ _ (at_within IsRank (named (codes "rank") parts) rank_of 1 rank_within (search rules))
+    (λ rank of_rank. step_free AreWithin (value_at (named (codes "kind") parts) kind_of D64) _
+    (λ kind. step_within AreWithin IsScope _ _ (at_within IsScope (named (codes "deed") parts) scope_of 1 scope_within (search rules))
+    (λ deed of_deed. step_free AreWithin (value_at (named (codes "digest") parts) digest_of (replicate 32 0)) _
+    (λ digest. record { acc = of_acc; slot = of_slot; rank = of_rank; day = of_day; deed = of_deed })))))))
 
-with_within : (pattern : Pattern) (one two three four : List ℕ) → IfSome (route_with pattern one two three four) IsWithin
-with_within pattern.Images one two three four = tt
-with_within pattern.Listing one two three four = step_within IsWithin IsScope (scope_of one) _ (scope_within one) (λ acc in_scope. in_scope)
-with_within pattern.Bytes one two three four =
-    step_within IsWithin IsScope (scope_of one) _ (scope_within one)
-    (λ acc in_scope. step_within IsWithin (λ slot. slot ≤ LAST_SLOT) (slot_of two) _ (slot_within two) (λ slot few. (in_scope, few)))
-with_within pattern.Survey one two three four = step_within IsWithin IsScope (scope_of one) _ (scope_within one) (λ acc in_scope. in_scope)
-with_within pattern.Check one two three four = step_within IsWithin IsScope (scope_of one) _ (scope_within one) (λ acc in_scope. in_scope)
-with_within pattern.TakedownRule one two three four = rule_within band.Takedown one two
-with_within pattern.Accession one two three four =
-    step_within IsWithin IsScope (scope_of one) _ (scope_within one)
-    (λ acc acc_in. step_free IsWithin (kind_of two) _
-    (λ kind. step_within IsWithin IsScope (scope_of three) _ (scope_within three)
-    (λ deed deed_in. step_free IsWithin (digest_of four) _ (λ digest. (acc_in, deed_in)))))
-with_within pattern.Deed one two three four = step_within IsWithin IsScope (scope_of one) _ (scope_within one) (λ deed in_scope. in_scope)
-with_within pattern.DeedRule one two three four = rule_within band.Deed one two
-with_within pattern.Badge one two three four = step_free IsWithin (digest_of one) _ (λ digest. tt)
-with_within pattern.Catalogue one two three four = tt
-with_within pattern.Deeds one two three four = tt
-with_within pattern.Takedowns one two three four = tt
-with_within pattern.Keys one two three four = tt
-with_within pattern.Checks one two three four = tt
-with_within pattern.Verdicts one two three four = step_within IsWithin IsDay (day_of_date one) _ (day_within one) (λ day in_range. in_range)
-with_within pattern.DeedRehearsal one two three four = rehearsal_within band.Deed one two three
-with_within pattern.TakedownRehearsal one two three four = rehearsal_within band.Takedown one two three
-
-match_within : (found : Pattern × List (List ℕ)) → IfSome (route_of_match found) IsWithin
-match_within (pattern, parts) = with_within pattern _ _ _ _
-
-pub route_within : (target : List ℕ) → IfSome (route_of target) IsWithin
+pub route_within : (target : List ℕ) → IfSome (route_of target) (λ route. AreWithin route.values)
 route_within target =
-    elim (list_all is_ascii (path_of target)) as (λ test. IfSome (if test then matched (path_of target) >>= route_of_match else None) IsWithin) [
-      | true ↦ step_free IsWithin (matched (path_of target)) route_of_match match_within
+    let Fits : Route → Type 0 = λ route. AreWithin route.values in
+    elim (list_all is_ascii (path_of target)) as (λ test. IfSome (if test then matched (path_of target) >>= route_of_match else None) Fits) [
+      | true ↦ step_free Fits (matched (path_of target)) route_of_match
+          (λ found. step_within Fits AreWithin (values_in found.1) _ (values_within found.1) (λ values within. within))
       | false ↦ tt
     ]
-
--- ---- days
-
--- a pattern that begins with a date names its day
-pub with_date : (one : Pattern) (first : List ℕ)
-    → (one ≡ pattern.Verdicts) ⊎ ((one ≡ pattern.DeedRehearsal) ⊎ (one ≡ pattern.TakedownRehearsal))
-    → day_with one first ≡ day_of_date first
-with_date one first (inl is) = ap (λ p. day_with p first) is
-with_date one first (inr (inl is)) = ap (λ p. day_with p first) is
-with_date one first (inr (inr is)) = ap (λ p. day_with p first) is

@@ -30,15 +30,17 @@ use Rattle.rd_policy.specs.declared.select.Select.TheVariants.{All as AllFiles, 
 use Rattle.rd_protocol.specs.DayTexts.{day_text}
 use Rattle.rd_protocol.specs.RuleTexts.{rule_body}
 use Rattle.rd_protocol.specs.Texts.{audience_words, day_or_null, select_data, word_if}
+use Rattle.rd_protocol.specs.declared.request.What.{What}
 use Rattle.rd_protocol.specs.declared.request.What.TheVariants as what
 use Rattle.rd_protocol.proofs.DayTextLemmas.{has_text}
 use Rattle.rd_protocol.proofs.RuleTextLemmas.{rules_are_read_back}
 use Rattle.rd_messages.specs.Asked.{IsWhat}
 use Rattle.rd_messages.specs.RequestBodies.{HasDayAt, IsRuleBody, NameAudiences, TellsRule}
-use Rattle.rd_messages.specs.ShownRules.{ShownRulesArePut, ShownRulesAreRehearsed, shown_text}
-use Rattle.rd_messages.specs.declared.route.Method.TheVariants.{Put}
-use Rattle.rd_messages.specs.declared.route.Route.{Route}
-use Rattle.rd_messages.specs.declared.route.Route.TheVariants.{Rule, Rehearsal}
+use Rattle.rd_messages.specs.PathValues.{scope_in}
+use Rattle.rd_messages.specs.ShownRules.{NamePlace, ShownRulesArePut, ShownRulesAreRehearsed, shown_text}
+use Rattle.rd_messages.specs.declared.method.Method.TheVariants.{Put}
+use Rattle.rd_messages.specs.declared.table.Subject.TheVariants.{Rule, Rehearsal}
+use Rattle.rd_messages.specs.declared.values.Values.{Values}
 use Rattle.rd_messages.proofs.AudienceWords.{NOBODY, Names, names_all, names_more, names_none, word}
 use Rattle.rd_messages.proofs.RequestUniqueness.{one_what}
 use Rattle.rd_messages.proofs.RouteLemmas.{ascii_from_test, text_from_test}
@@ -247,28 +249,29 @@ tells_rule rule is = record {
   effect = refl;
 }
 
-shown_body : (rule : NewRule) → IsRule rule → IsRuleBody rule.band rule.scope rule.rank (shown_text rule) rule
-shown_body rule is = record {
+shown_body : (rule : NewRule) → IsRule rule → (values : Values) → NamePlace rule values
+    → IsRuleBody rule.band (scope_in rule.band values) values.rank (shown_text rule) rule
+shown_body rule is values at = record {
   value = rule_body rule;
   json = record { utf8 = utf8_text (rule_body rule) (rule_has_texts rule is); reads = (rules_are_read_back rule is).1 };
   tells = tells_rule rule is;
-  at = record { of_band = refl; of_scope = refl; of_rank = refl };
+  at = record { of_band = refl; of_scope = sym at.0; of_rank = sym at.1 };
 }
 
 -- ---- what it asks
 
 pub shown_rules_are_put : ShownRulesArePut
-shown_rules_are_put rule is asked =
-    let place : Route = Rule rule.band rule.scope rule.rank in
-    let asks : IsWhat place Put (shown_text rule) (what.PutRule rule) = inl ((rule, refl, shown_body rule is), is) in (
-      λ also. one_what place Put (shown_text rule) asked (what.PutRule rule) also asks,
-      λ same. subst (IsWhat place Put (shown_text rule)) (sym same) asks,
+shown_rules_are_put rule is values at asked =
+    let Asked : What → Type 0 = IsWhat (Rule rule.band) values Put (shown_text rule) in
+    let asks : Asked (what.PutRule rule) = inl ((rule, refl, shown_body rule is values at), is) in (
+      λ also. one_what (Rule rule.band) values Put (shown_text rule) asked (what.PutRule rule) also asks,
+      λ same. subst Asked (sym same) asks,
     )
 
 pub shown_rules_are_rehearsed : ShownRulesAreRehearsed
-shown_rules_are_rehearsed day in_range rule is asked =
-    let place : Route = Rehearsal day rule.band rule.scope rule.rank in
-    let asks : IsWhat place Put (shown_text rule) (what.RehearseRule day rule) = inl ((rule, refl, shown_body rule is), (in_range, is)) in (
-      λ also. one_what place Put (shown_text rule) asked (what.RehearseRule day rule) also asks,
-      λ same. subst (IsWhat place Put (shown_text rule)) (sym same) asks,
+shown_rules_are_rehearsed rule is values at in_range asked =
+    let Asked : What → Type 0 = IsWhat (Rehearsal rule.band) values Put (shown_text rule) in
+    let asks : Asked (what.RehearseRule values.day rule) = inl ((rule, refl, shown_body rule is values at), (in_range, is)) in (
+      λ also. one_what (Rehearsal rule.band) values Put (shown_text rule) asked (what.RehearseRule values.day rule) also asks,
+      λ same. subst Asked (sym same) asks,
     )

@@ -13,47 +13,61 @@ use Rattle.rd_messages.specs.Fields.{fields_of}
 use Rattle.rd_messages.specs.Framing.{IsFramed, IsNeverWhole, IsWhole}
 use Rattle.rd_messages.specs.Heads.{BeginsWith, HasNoHead}
 use Rattle.rd_messages.specs.RequestBodies.{IsDeedBody, IsKeyBody, IsRuleBody}
-use Rattle.rd_messages.specs.Routes.{method_named, methods_of, route_of}
+use Rattle.rd_messages.specs.Methods.{method_named}
+use Rattle.rd_messages.specs.PathValues.{scope_in}
+use Rattle.rd_messages.specs.Routes.{route_of}
 use Rattle.rd_messages.specs.declared.fault.RequestFault.{RequestFault}
 use Rattle.rd_messages.specs.declared.fault.RequestFault.TheVariants.{BadHead, Framing, NoRoute, Method as OtherMethod}
-use Rattle.rd_messages.specs.declared.route.Method.{Method}
-use Rattle.rd_messages.specs.declared.route.Method.TheVariants.{Put, Delete}
+use Rattle.rd_messages.specs.declared.enquiry.Enquiry.{Enquiry}
+use Rattle.rd_messages.specs.declared.enquiry.Enquiry.TheVariants as enquiry
+use Rattle.rd_messages.specs.declared.method.Method.{Method}
+use Rattle.rd_messages.specs.declared.method.Method.TheVariants.{Put, Delete}
 use Rattle.rd_messages.specs.declared.route.Route.{Route}
-use Rattle.rd_messages.specs.declared.route.Route.TheVariants.{Images, Listing, Bytes, Survey, Check, Accession, Deed, Rule, Badge, Catalogue, Deeds, Takedowns, Keys, Checks, Verdicts, Rehearsal}
+use Rattle.rd_messages.specs.declared.table.Subject.{Subject}
+use Rattle.rd_messages.specs.declared.table.Subject.TheVariants.{ByPath, Image, Deed, Rule, Badge, Rehearsal}
+use Rattle.rd_messages.specs.declared.values.Values.{Values}
 
 -- ---- a request
 
+-- what a path alone asks, by the values that it names, whatever the method and the body are
+abbrev pub asked_by_path : Enquiry → Values → What
+asked_by_path enquiry.Images values = what.Images
+asked_by_path enquiry.Listing values = what.Listing values.acc
+asked_by_path enquiry.Bytes values = what.Bytes values.acc values.slot
+asked_by_path enquiry.Survey values = what.Survey values.acc
+asked_by_path enquiry.Check values = what.Check values.acc
+asked_by_path enquiry.Catalogue values = what.Catalogue
+asked_by_path enquiry.Deeds values = what.Deeds
+asked_by_path enquiry.Takedowns values = what.Takedowns
+asked_by_path enquiry.Keys values = what.Keys
+asked_by_path enquiry.Checks values = what.Checks
+asked_by_path enquiry.Verdicts values = what.Verdicts values.day
+asked_by_path enquiry.VerdictsOf values = what.VerdictsOf values.day values.acc
+
 -- what a path asks with a method and a body: DELETE removes a rule or a key, and PUT puts one, or a deed, as the body
 -- describes it in JSON; the body of an image is its bytes. A rehearsal asks what would change if the rule were
--- removed, or put. A question, a survey, a check and a DELETE are asked by the path alone, whatever the body is
-abbrev pub Asks : Route → Method → List ℕ → What → Type 0
-Asks Images method body asked = asked ≡ what.Images
-Asks (Listing acc) method body asked = asked ≡ what.Listing acc
-Asks (Bytes acc slot) method body asked = asked ≡ what.Bytes acc slot
-Asks (Survey acc) method body asked = asked ≡ what.Survey acc
-Asks (Check acc) method body asked = asked ≡ what.Check acc
-Asks (Accession acc kind deed digest) method body asked = asked ≡ what.PutImage acc kind deed digest body
-Asks (Deed num) method body asked = (donor : List ℕ) × (signed : ℤ) × (asked ≡ what.PutDeed num donor signed) × IsDeedBody body donor signed
-Asks (Rule band scope rank) Delete body asked = asked ≡ what.DropRule band scope rank
-Asks (Rule band scope rank) Put body asked = (rule : NewRule) × (asked ≡ what.PutRule rule) × IsRuleBody band scope rank body rule
-Asks (Badge digest) Delete body asked = asked ≡ what.DropKey digest
-Asks (Badge digest) Put body asked = (audience : Audience) × (asked ≡ what.PutKey digest audience) × IsKeyBody body audience
-Asks Catalogue method body asked = asked ≡ what.Catalogue
-Asks Deeds method body asked = asked ≡ what.Deeds
-Asks Takedowns method body asked = asked ≡ what.Takedowns
-Asks Keys method body asked = asked ≡ what.Keys
-Asks Checks method body asked = asked ≡ what.Checks
-Asks (Verdicts day) method body asked = asked ≡ what.Verdicts day
-Asks (Rehearsal day band scope rank) Delete body asked = asked ≡ what.RehearseDrop day band scope rank
-Asks (Rehearsal day band scope rank) Put body asked = (rule : NewRule) × (asked ≡ what.RehearseRule day rule) × IsRuleBody band scope rank body rule
-Asks route method body asked = ⊥
+-- removed, or put. A DELETE is asked by the path alone, whatever the body is
+abbrev pub Asks : Subject → Values → Method → List ℕ → What → Type 0
+Asks (ByPath enquiry) values method body asked = asked ≡ asked_by_path enquiry values
+Asks Image values method body asked = asked ≡ what.PutImage values.acc values.kind values.deed values.digest body
+Asks Deed values method body asked =
+    (donor : List ℕ) × (signed : ℤ) × (asked ≡ what.PutDeed values.deed donor signed) × IsDeedBody body donor signed
+Asks (Rule band) values Delete body asked = asked ≡ what.DropRule band (scope_in band values) values.rank
+Asks (Rule band) values Put body asked =
+    (rule : NewRule) × (asked ≡ what.PutRule rule) × IsRuleBody band (scope_in band values) values.rank body rule
+Asks Badge values Delete body asked = asked ≡ what.DropKey values.digest
+Asks Badge values Put body asked = (audience : Audience) × (asked ≡ what.PutKey values.digest audience) × IsKeyBody body audience
+Asks (Rehearsal band) values Delete body asked = asked ≡ what.RehearseDrop values.day band (scope_in band values) values.rank
+Asks (Rehearsal band) values Put body asked =
+    (rule : NewRule) × (asked ≡ what.RehearseRule values.day rule) × IsRuleBody band (scope_in band values) values.rank body rule
+Asks subject values method body asked = ⊥
 
 -- what is asked, its values within their limits; if the body says nothing such, a command that
 -- cannot be read. The parts of a path are always within theirs
-abbrev pub IsWhat : Route → Method → List ℕ → What → Type 0
-IsWhat route method body asked =
-    (Asks route method body asked × IsRequest asked)
-    ⊎ ((asked ≡ what.Unread) × ((other : What) → Asks route method body other → ¬ IsRequest other))
+abbrev pub IsWhat : Subject → Values → Method → List ℕ → What → Type 0
+IsWhat subject values method body asked =
+    (Asks subject values method body asked × IsRequest asked)
+    ⊎ ((asked ≡ what.Unread) × ((other : What) → Asks subject values method body other → ¬ IsRequest other))
 
 -- The bytes that came ask this: a head is at their front, its body came whole, the desk has the
 -- target, with this method, and the badge is the SHA-256 of the desk key.
@@ -67,9 +81,9 @@ pub record IsRequestOf (stream : List ℕ) (request : Request) : Type 0 where
   pub begins : BeginsWith stream head rest
   pub whole : IsWhole head rest key body
   pub to : route_of head.target ≡ Some route
-  pub by : method_named (methods_of route) head.method ≡ Some method
+  pub by : method_named route.served.methods head.method ≡ Some method
   pub badge : request.badge ≡ option_map sha256 key
-  pub what : IsWhat route method body request.what
+  pub what : IsWhat route.served.subject route.values method body request.what
 
 -- ---- why bytes are no request
 
@@ -80,7 +94,7 @@ module _ (head : RequestHead) (rest : List ℕ) where
   Fails Framing = IsNeverWhole head rest
   Fails NoRoute = route_of head.target ≡ None
   Fails (OtherMethod methods) = IsSomeAnd (route_of head.target) (λ route.
-      (methods_of route ≡ methods) × (method_named methods head.method ≡ None))
+      (route.served.methods ≡ methods) × (method_named methods head.method ≡ None))
 
 -- why the bytes that came are no request
 abbrev pub Holds : List ℕ → RequestFault → Type 0

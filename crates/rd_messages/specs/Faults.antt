@@ -7,7 +7,7 @@ use Rattle.rd_protocol.specs.Lent.{held}
 use Rattle.rd_protocol.specs.Texts.{error_data}
 use Rattle.rd_protocol.specs.declared.response.Form.TheVariants.{Json}
 use Rattle.rd_protocol.specs.declared.response.Reply.{Reply}
-use Rattle.rd_messages.specs.Routes.{allow_text}
+use Rattle.rd_messages.specs.Methods.{allow_text}
 use Rattle.rd_messages.specs.declared.fault.RequestFault.{RequestFault}
 use Rattle.rd_messages.specs.declared.fault.RequestFault.TheVariants.{BadHead, Framing, NoRoute, Method}
 

@@ -13,7 +13,9 @@ pub mod Framing
 pub mod Heads
 pub mod Taken
 pub mod PathDays
-pub mod Patterns
+pub mod PathValues
+pub mod Methods
+pub mod Table
 pub mod Routes
 pub mod Objects
 pub mod RequestBodies

@@ -1,9 +1,9 @@
 //! Why the bytes of a visit are no request.
 
 ghost use Rattle.std.specs.Prelude.{◌≡◌, ◌≤◌, ◌++◌, codes, length};
-ghost use Rattle.rd_messages.specs.Routes.{allow_text};
+ghost use Rattle.rd_messages.specs.Methods.{allow_text};
 
-use crate::route::Methods;
+use crate::method::Methods;
 use rd_protocol::{Reply, fixed_reply};
 
 /// Why the bytes of a visit are no request. If several reasons hold, the reply gives the first in

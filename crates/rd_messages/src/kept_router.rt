@@ -2,9 +2,9 @@
 
 ghost use Rattle.std.specs.Prelude.{◌≡◌, IfOk, IfSome, IsSome, OnOk};
 ghost use Rattle.std.proofs.Props.{props};
-ghost use Rattle.rd_messages.specs.Patterns.{pattern_rows};
+ghost use Rattle.rd_messages.specs.Table.{router_rows};
 
-use crate::pattern::{Pattern, router};
+use crate::table::{Served, router};
 use matchit::Router;
 use rd_geometry::NoMemory;
 use std::alloc::Global;
@@ -14,8 +14,8 @@ use std::alloc::Global;
 /// next path that is looked up builds it.
 #[derive(Drop)]
 pub(crate) struct KeptRouter {
-    built: Option<Router<Pattern>>,
-    ghost of_table: { IfSome built (λ rows. rows ≡ pattern_rows) } by { Prim.hlevel props },
+    built: Option<Router<Served>>,
+    ghost of_table: { IfSome built (λ rows. rows ≡ router_rows) } by { Prim.hlevel props },
 }
 
 impl KeptRouter {
@@ -36,8 +36,8 @@ impl KeptRouter {
 
     /// The router of the table. It fails only when memory runs out, and takes none if the router is
     /// built.
-    pub(crate) fn get(&mut self, alloc: Global) -> Result<&Router<Pattern>, NoMemory>
-        ensures { IfOk result (λ router. router.now ≡ pattern_rows) }
+    pub(crate) fn get(&mut self, alloc: Global) -> Result<&Router<Served>, NoMemory>
+        ensures { IfOk result (λ router. router.now ≡ router_rows) }
     {
         self.build(alloc)?;
         let kept = &*self;

@@ -149,7 +149,7 @@ impl Model for MemoryDoor {
     ghost Value = { DoorView };
 
     ghost view = { λ door. record {
-      told = record { visits = door.over.items; under_way = door.under_way };
+      so_far = record { visits = door.over.items; under_way = door.under_way };
       coming = into_iter_items door.to_come;
       has_shut = door.has_shut;
     } };
@@ -182,7 +182,7 @@ impl MemoryDoor {
 
     /// The visits that are over, in order.
     pub fn visits(&self) -> &[MemoryVisit]
-        ensures { result.now ≡ self.now.told.visits }
+        ensures { result.now ≡ self.now.so_far.visits }
     {
         self.over.as_slice()
     }
@@ -191,7 +191,7 @@ impl MemoryDoor {
 impl Door for MemoryDoor {
     type Conn = MemoryWire;
 
-    ghost told = { λ door. Some door.told };
+    ghost so_far = { λ door. Some door.so_far };
 
     ghost coming = { λ door. Some door.coming };
 

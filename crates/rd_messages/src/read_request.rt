@@ -16,7 +16,10 @@ use crate::framing::framing_of;
 use crate::head::read_head;
 use crate::kept_router::KeptRouter;
 use crate::limits::{LONGEST_BODY, LONGEST_REQUEST};
-use crate::route::{Method, Route};
+use crate::method::Method;
+use crate::route::Route;
+use crate::table::Subject;
+use crate::values::Values;
 use crate::wire::{Broken, Wire};
 use crate::workspace::Workspace;
 use httparse::spans::{HeaderSpan, RequestSpans};
@@ -38,27 +41,32 @@ pub enum Reading {
 }
 
 /// The command to put the deed that a body describes; `None` if it describes none.
-fn parse_deed(alloc: Global, num: u32, body: &[u8]) -> Result<Option<What>, NoMemory>
-    ensures { IfOk result (IsParsed (Route.Deed num) Method.Put body.now) }
+fn parse_deed(alloc: Global, values: &Values, body: &[u8]) -> Result<Option<What>, NoMemory>
+    ensures { IfOk result (IsParsed Subject.Deed values.now Method.Put body.now) }
 {
     match deed_body(alloc, body)? {
-        Some((donor, signed)) => Ok(Some(What::PutDeed { num, donor, signed })),
+        Some((donor, signed)) => Ok(Some(What::PutDeed {
+            num: values.deed,
+            donor,
+            signed,
+        })),
         None => Ok(None),
     }
 }
 
-/// The command on a rule that a method and a body ask; `None` for `GET` and `POST`, or if the body
-/// describes no rule within the limits of its values.
+/// The command on a rule of a band that a method and a body ask; `None` for `GET` and `POST`, or if
+/// the body describes no rule within the limits of its values.
 fn parse_rule(
     alloc: Global,
     band: Band,
-    scope: u32,
-    rank: u16,
+    values: &Values,
     method: Method,
     body: &[u8],
 ) -> Result<Option<What>, NoMemory>
-    ensures { IfOk result (IsParsed (Route.Rule band scope rank) method body.now) }
+    ensures { IfOk result (IsParsed (Subject.Rule band) values.now method body.now) }
 {
+    let scope = values.scope(band);
+    let rank = values.rank;
     match method {
         Method::Put => match rule_body(alloc, band, scope, rank, body)? {
             Some(rule) => Ok(Some(What::PutRule(rule))),
@@ -69,26 +77,26 @@ fn parse_rule(
     }
 }
 
-/// The rehearsal, on a day, of the command on a rule that a method and a body ask; `None` for `GET` and
-/// `POST`, or if the body describes no rule within the limits of its values.
+/// The rehearsal of the command on a rule of a band that a method and a body ask; `None` for `GET`
+/// and `POST`, or if the body describes no rule within the limits of its values.
 fn parse_rehearsal(
     alloc: Global,
-    day: i32,
     band: Band,
-    scope: u32,
-    rank: u16,
+    values: &Values,
     method: Method,
     body: &[u8],
 ) -> Result<Option<What>, NoMemory>
-    ensures { IfOk result (IsParsed (Route.Rehearsal day band scope rank) method body.now) }
+    ensures { IfOk result (IsParsed (Subject.Rehearsal band) values.now method body.now) }
 {
+    let scope = values.scope(band);
+    let rank = values.rank;
     match method {
         Method::Put => match rule_body(alloc, band, scope, rank, body)? {
-            Some(rule) => Ok(Some(What::RehearseRule(day, rule))),
+            Some(rule) => Ok(Some(What::RehearseRule(values.day, rule))),
             None => Ok(None),
         },
         Method::Delete => Ok(Some(What::RehearseDrop {
-            day,
+            day: values.day,
             band,
             scope,
             rank,
@@ -101,12 +109,13 @@ fn parse_rehearsal(
 /// that has keys.
 fn parse_key(
     alloc: Global,
-    digest: [u8; 32],
+    values: &Values,
     method: Method,
     body: &[u8],
 ) -> Result<Option<What>, NoMemory>
-    ensures { IfOk result (IsParsed (Route.Badge digest) method body.now) }
+    ensures { IfOk result (IsParsed Subject.Badge values.now method body.now) }
 {
+    let digest = values.digest;
     match method {
         Method::Put => match key_body(alloc, body)? {
             Some(audience) => Ok(Some(What::PutKey { digest, audience })),
@@ -121,48 +130,26 @@ fn parse_key(
 /// limits.
 fn parse_what(
     alloc: Global,
-    route: Route,
+    subject: Subject,
+    values: &Values,
     method: Method,
     body: Vec<u8>,
 ) -> Result<Option<What>, NoMemory>
-    ensures { IfOk result (IsParsed route method body.items) }
+    ensures { IfOk result (IsParsed subject values.now method body.items) }
 {
-    match route {
-        Route::Images => Ok(Some(What::Images)),
-        Route::Listing(acc) => Ok(Some(What::Listing(acc))),
-        Route::Bytes(acc, slot) => Ok(Some(What::Bytes(acc, slot))),
-        Route::Survey(acc) => Ok(Some(What::Survey(acc))),
-        Route::Check(acc) => Ok(Some(What::Check(acc))),
-        Route::Accession {
-            acc,
-            kind,
-            deed,
-            digest,
-        } => {
-            let bytes = Items::of(body);
-            Ok(Some(What::PutImage {
-                acc,
-                kind,
-                deed,
-                digest,
-                bytes,
-            }))
-        }
-        Route::Deed(num) => parse_deed(alloc, num, &body),
-        Route::Rule { band, scope, rank } => parse_rule(alloc, band, scope, rank, method, &body),
-        Route::Badge(digest) => parse_key(alloc, digest, method, &body),
-        Route::Catalogue => Ok(Some(What::Catalogue)),
-        Route::Deeds => Ok(Some(What::Deeds)),
-        Route::Takedowns => Ok(Some(What::Takedowns)),
-        Route::Keys => Ok(Some(What::Keys)),
-        Route::Checks => Ok(Some(What::Checks)),
-        Route::Verdicts(day) => Ok(Some(What::Verdicts(day))),
-        Route::Rehearsal {
-            day,
-            band,
-            scope,
-            rank,
-        } => parse_rehearsal(alloc, day, band, scope, rank, method, &body),
+    match subject {
+        Subject::ByPath(enquiry) => Ok(Some(enquiry.asked(values))),
+        Subject::Image => Ok(Some(What::PutImage {
+            acc: values.acc,
+            kind: values.kind,
+            deed: values.deed,
+            digest: values.digest,
+            bytes: Items::of(body),
+        })),
+        Subject::Deed => parse_deed(alloc, values, &body),
+        Subject::Rule(band) => parse_rule(alloc, band, values, method, &body),
+        Subject::Badge => parse_key(alloc, values, method, &body),
+        Subject::Rehearsal(band) => parse_rehearsal(alloc, band, values, method, &body),
     }
 }
 
@@ -212,11 +199,11 @@ fn read_whole(
     let Some(route) = Route::of_target(alloc, router, target)? else {
         return Ok(Reading::Fault(RequestFault::NoRoute));
     };
-    let methods = route.methods();
+    let methods = route.served.methods;
     let Some(method) = methods.named(name) else {
         return Ok(Reading::Fault(RequestFault::Method(methods)));
     };
-    let parsed = parse_what(alloc, route, method, body)?;
+    let parsed = parse_what(alloc, route.served.subject, &route.values, method, body)?;
     Ok(Reading::Request(request(badge(key), parsed)))
 }
 

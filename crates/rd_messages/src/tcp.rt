@@ -414,7 +414,7 @@ fn next_visitor<L: Listener, C: Clock>(listener: &L, clock: &mut C) -> Option<(i
 impl<L: Listener, C: Clock + Copy + Drop> Door for StreamDoor<L, C> {
     type Conn = StreamWire<L::Stream, C>;
 
-    ghost told = { λ _. None };
+    ghost so_far = { λ _. None };
 
     ghost coming = { λ _. None };
 

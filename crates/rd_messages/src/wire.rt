@@ -103,7 +103,7 @@ pub trait Door {
     type Conn: Wire;
 
     /// The visits that are over and the one under way, if the door shows them.
-    ghost told: { Self → Option VisitsSoFar };
+    ghost so_far: { Self → Option VisitsSoFar };
 
     /// The visits to come, in order, if the door shows them.
     ghost coming: { Self → Option (List Coming) } = { λ _. None };
@@ -117,9 +117,9 @@ pub trait Door {
     ///
     /// It fails with `Shut` when no more visits come, and always from then on.
     fn admit(&mut self) -> Result<(i64, Self::Conn), Shut>
-        ensures told { Admits (told self.old) (told self.new) (option_map (λ visit. visit.0) (result_ok result)) }
+        ensures visits { Admits (so_far self.old) (so_far self.new) (option_map (λ visit. visit.0) (result_ok result)) }
         ensures whole { IfOk result (λ visit. Self.Conn.incoming visit.1 ≡ Self.Conn.came visit.1) }
-        ensures tells { IfOk result (λ visit. TellsToo (told self.old) (Self.Conn.came visit.1) (Self.Conn.outgoing visit.1)) }
+        ensures tells { IfOk result (λ visit. TellsToo (so_far self.old) (Self.Conn.came visit.1) (Self.Conn.outgoing visit.1)) }
         ensures ready { IfOk result (λ visit. Self.Conn.read_failed visit.1 ≡ false) }
         ensures write_ready { IfOk result (λ visit. Self.Conn.write_failed visit.1 ≡ false) }
         ensures unsent { IfOk result (λ visit. Self.Conn.unsent visit.1 ≡ 0) }
@@ -127,13 +127,13 @@ pub trait Door {
         ensures kept { IsErr result → coming self.new ≡ coming self.old }
         ensures shut { IsErr result ↔ (has_shut self.new ≡ true) }
         ensures stays { has_shut self.old ≡ true → IsErr result }
-        ensures last { has_shut self.old ≡ false → IsErr result → NoneToCome (told self.old) (coming self.old) };
+        ensures last { has_shut self.old ≡ false → IsErr result → NoneToCome (so_far self.old) (coming self.old) };
 
     /// Ends the visit under way, which used this connection. Everything that was put has been
     /// sent, unless a read or a write failed.
     fn leave(&mut self, conn: Self::Conn)
         requires { Self.Conn.read_failed conn ≡ false → Self.Conn.write_failed conn ≡ false → Self.Conn.unsent conn ≡ 0 }
-        ensures told { Leaves (told self.old) (told self.new) (Self.Conn.came conn) (Self.Conn.outgoing conn)
+        ensures visits { Leaves (so_far self.old) (so_far self.new) (Self.Conn.came conn) (Self.Conn.outgoing conn)
             (Self.Conn.read_failed conn) (Self.Conn.write_failed conn) }
         ensures kept { coming self.new ≡ coming self.old }
         ensures shut { has_shut self.new ≡ has_shut self.old };

@@ -6,20 +6,20 @@ use Rattle.rd_geometry.specs.Kinds.{size_of}
 use Rattle.rd_geometry.specs.declared.kind.Kind.TheVariants.{Cpm8}
 use Rattle.rd_policy.specs.declared.zone.Zone.{Zone}
 use Rattle.rd_commands.specs.Asks.{IsExtraction, IsWithinLimits, TellsInRows, TellsOnOutput, most_read}
-use Rattle.rd_commands.specs.Beside.{IsBeside, IsPlain}
+use Rattle.rd_commands.specs.CommonOptions.{GivesOptions, IsPlain}
 use Rattle.rd_commands.specs.Input.{ReadsUpTo}
 use Rattle.rd_commands.specs.Refusals.{IsDeviceOrMemory, status_of}
-use Rattle.rd_commands.specs.Told.{TellsAll, command_name}
-use Rattle.rd_commands.specs.declared.beside.Beside.{Beside}
-use Rattle.rd_commands.specs.declared.beside.Told.{Told}
+use Rattle.rd_commands.specs.Parsed.{TellsAll, command_name}
+use Rattle.rd_commands.specs.declared.common_options.CommonOptions.{CommonOptions}
+use Rattle.rd_commands.specs.declared.common_options.Parsed.{Parsed}
 use Rattle.rd_commands.specs.declared.done.Done.{Done}
 use Rattle.rd_commands.specs.declared.refusal.Refusal.{Refusal}
 use Rattle.rd_commands.specs.declared.refusal.Refusal.TheVariants.{Device, NoMemory}
 use Rattle.rd_commands.specs.declared.words.Ask.{Ask}
 use Rattle.rd_commands.specs.declared.words.ImportAsk.{ImportAsk}
 use Rattle.rd_commands.specs.declared.words.OneQuestionAsk.{OneQuestionAsk}
-use Rattle.rd_commands.specs.declared.words.SiftAsk.{SiftAsk}
-use Rattle.rd_commands.specs.declared.words.Ask.TheVariants.{Copy, Extract, File, Files, Import, Init, OneQuestion, Serve, Sift, StaffKey}
+use Rattle.rd_commands.specs.declared.words.FlaggedImportAsk.{FlaggedImportAsk}
+use Rattle.rd_commands.specs.declared.words.Ask.TheVariants.{Copy, Extract, File, Files, Import, Init, OneQuestion, Serve, FlaggedImport, StaffKey}
 use Rattle.rd_program.specs.Completing.{AreOperands, Completes, IsDated, IsKeyAt, IsKeyRead, IsKeyed, IsKeyedBy, IsZoneRead, IsZoned, IsZonedBy, with_key, with_moment, with_zone}
 use Rattle.rd_commands.proofs.ReadLimits.{reads_after}
 use Rattle.rd_program.proofs.Plain.{extraction_plain, image_plain}
@@ -52,7 +52,7 @@ with_key_alike key (Serve ask) = alike_itself (Serve ask)
 with_key_alike key (Import ask) = record { read = refl; rows = λ tells. tells; files = λ is. is; output = λ tells. tells; within = λ is. is }
 with_key_alike key (OneQuestion ask) = record { read = refl; rows = λ tells. tells; files = λ is. is; output = λ tells. tells; within = λ is. is }
 with_key_alike key (StaffKey ask) = record { read = refl; rows = λ tells. tells; files = λ is. is; output = λ tells. tells; within = λ is. is }
-with_key_alike key (Sift ask) = record { read = refl; rows = λ tells. tells; files = λ is. is; output = λ tells. tells; within = λ is. is }
+with_key_alike key (FlaggedImport ask) = record { read = refl; rows = λ tells. tells; files = λ is. is; output = λ tells. tells; within = λ is. is }
 with_key_alike key (Extract ask) = alike_itself (Extract ask)
 with_key_alike key (Copy ask) = alike_itself (Copy ask)
 
@@ -64,7 +64,7 @@ with_zone_alike zone (Serve ask) = record { read = refl; rows = λ tells. tells;
 with_zone_alike zone (Import ask) = record { read = refl; rows = λ tells. tells; files = λ is. is; output = λ tells. tells; within = λ is. is }
 with_zone_alike zone (OneQuestion ask) = record { read = refl; rows = λ tells. tells; files = λ is. is; output = λ tells. tells; within = λ is. is }
 with_zone_alike zone (StaffKey ask) = alike_itself (StaffKey ask)
-with_zone_alike zone (Sift ask) = record { read = refl; rows = λ tells. tells; files = λ is. is; output = λ tells. tells; within = λ is. is }
+with_zone_alike zone (FlaggedImport ask) = record { read = refl; rows = λ tells. tells; files = λ is. is; output = λ tells. tells; within = λ is. is }
 with_zone_alike zone (Extract ask) = alike_itself (Extract ask)
 with_zone_alike zone (Copy ask) = alike_itself (Copy ask)
 
@@ -76,7 +76,7 @@ with_moment_alike seconds (Serve ask) = alike_itself (Serve ask)
 with_moment_alike seconds (Import ask) = record { read = refl; rows = λ tells. tells; files = λ is. is; output = λ tells. tells; within = λ is. is }
 with_moment_alike seconds (OneQuestion ask) = record { read = refl; rows = λ tells. tells; files = λ is. is; output = λ tells. tells; within = λ is. is }
 with_moment_alike seconds (StaffKey ask) = alike_itself (StaffKey ask)
-with_moment_alike seconds (Sift ask) = record { read = refl; rows = λ tells. tells; files = λ is. is; output = λ tells. tells; within = λ is. is }
+with_moment_alike seconds (FlaggedImport ask) = record { read = refl; rows = λ tells. tells; files = λ is. is; output = λ tells. tells; within = λ is. is }
 with_moment_alike seconds (Extract ask) = alike_itself (Extract ask)
 with_moment_alike seconds (Copy ask) = alike_itself (Copy ask)
 
@@ -92,28 +92,28 @@ dated_alike : (day : Option ℤ) (old new : Ask) → IsDated day old new → IsA
 dated_alike (Some day) old new is = subst (λ ask. IsAlike ask old) (sym is.1) (with_moment_alike is.0 old)
 dated_alike None old new is = subst (λ ask. IsAlike ask old) (sym is) (alike_itself old)
 
-pub whole_alike : (files : List ℕ → Option (List ℕ)) (input : Option (List ℕ)) (told : Told) (ask : Ask) → Completes files input told ask → IsAlike ask told.ask
-whole_alike files input told ask whole =
-    alike_then ask whole.zoned told.ask (dated_alike told.beside.day whole.zoned ask whole.moment)
-    (alike_then whole.zoned whole.keyed told.ask (zoned_alike files told.beside.zone_file whole.keyed whole.zoned whole.zone)
-    (keyed_alike files input told.beside.key_file told.ask whole.keyed whole.key))
+pub whole_alike : (files : List ℕ → Option (List ℕ)) (input : Option (List ℕ)) (parsed : Parsed) (ask : Ask) → Completes files input parsed ask → IsAlike ask parsed.ask
+whole_alike files input parsed ask whole =
+    alike_then ask whole.zoned parsed.ask (dated_alike parsed.options.day whole.zoned ask whole.moment)
+    (alike_then whole.zoned whole.keyed parsed.ask (zoned_alike files parsed.options.zone_file whole.keyed whole.zoned whole.zone)
+    (keyed_alike files input parsed.options.key_file parsed.ask whole.keyed whole.key))
 
 -- ---- what reads the input has nothing in a file
 
-asks_of_store : (ask : Ask) (rows : List Row) (beside : Beside) → IsBeside (command_name ask) rows beside → (IsPlain beside → ⊥) → most_read ask ≡ 0
-asks_of_store (File ask) rows beside is apart = absurd (apart (image_plain (codes "cat") rows beside (inl refl) is))
-asks_of_store (Files ask) rows beside is apart = absurd (apart (image_plain (codes "list") rows beside (inr refl) is))
-asks_of_store (Init ask) rows beside is apart = refl
-asks_of_store (Serve ask) rows beside is apart = refl
-asks_of_store (Import ask) rows beside is apart = refl
-asks_of_store (OneQuestion ask) rows beside is apart = refl
-asks_of_store (StaffKey ask) rows beside is apart = refl
-asks_of_store (Sift ask) rows beside is apart = refl
-asks_of_store (Extract ask) rows beside is apart = absurd (apart (extraction_plain rows beside is))
-asks_of_store (Copy ask) rows beside is apart = refl
+asks_of_store : (ask : Ask) (rows : List Row) (options : CommonOptions) → GivesOptions (command_name ask) rows options → (IsPlain options → ⊥) → most_read ask ≡ 0
+asks_of_store (File ask) rows options is apart = absurd (apart (image_plain (codes "cat") rows options (inl refl) is))
+asks_of_store (Files ask) rows options is apart = absurd (apart (image_plain (codes "list") rows options (inr refl) is))
+asks_of_store (Init ask) rows options is apart = refl
+asks_of_store (Serve ask) rows options is apart = refl
+asks_of_store (Import ask) rows options is apart = refl
+asks_of_store (OneQuestion ask) rows options is apart = refl
+asks_of_store (StaffKey ask) rows options is apart = refl
+asks_of_store (FlaggedImport ask) rows options is apart = refl
+asks_of_store (Extract ask) rows options is apart = absurd (apart (extraction_plain rows options is))
+asks_of_store (Copy ask) rows options is apart = refl
 
-pub reads_no_more : (words : List Text) (told : Told) → TellsAll words told → (IsPlain told.beside → ⊥) → most_read told.ask ≡ 0
-reads_no_more words told all apart = asks_of_store told.ask all.taken.rows told.beside all.beside apart
+pub reads_no_more : (words : List Text) (parsed : Parsed) → TellsAll words parsed → (IsPlain parsed.options → ⊥) → most_read parsed.ask ≡ 0
+reads_no_more words parsed all apart = asks_of_store parsed.ask all.taken.rows parsed.options all.options apart
 
 -- nothing more is read
 pub reads_nothing_more : (most : ℕ) (old mid new : Option (List ℕ)) → ReadsUpTo 4097 old mid → ReadsUpTo most mid new → {asked : ℕ} → most ≡ asked → asked ≡ 0
@@ -158,22 +158,22 @@ is_zoned files (Some path) None old new read is = absurd read
 is_zoned files (Some path) (Some zone) old new read is = (zone, is, read)
 
 -- what stands in the files and the moment of the day are in their places: it is whole
-pub is_whole : (files : List ℕ → Option (List ℕ)) (input : Option (List ℕ)) (told : Told) (key : Option (List ℕ)) (clocks : Option Zone) (keyed zoned ask : Ask)
-    → AreOperands files input told.beside key clocks → IsKeyedBy key told.ask keyed → IsZonedBy clocks keyed zoned → IsDated told.beside.day zoned ask
-    → Completes files input told ask
-is_whole files input told key clocks keyed zoned ask are with_key with_zone dated = record {
+pub is_whole : (files : List ℕ → Option (List ℕ)) (input : Option (List ℕ)) (parsed : Parsed) (key : Option (List ℕ)) (clocks : Option Zone) (keyed zoned ask : Ask)
+    → AreOperands files input parsed.options key clocks → IsKeyedBy key parsed.ask keyed → IsZonedBy clocks keyed zoned → IsDated parsed.options.day zoned ask
+    → Completes files input parsed ask
+is_whole files input parsed key clocks keyed zoned ask are with_key with_zone dated = record {
   keyed = keyed;
   zoned = zoned;
-  key = is_keyed files input told.beside.key_file key told.ask keyed are.key_is with_key;
-  zone = is_zoned files told.beside.zone_file clocks keyed zoned are.zone_is with_zone;
+  key = is_keyed files input parsed.options.key_file key parsed.ask keyed are.key_is with_key;
+  zone = is_zoned files parsed.options.zone_file clocks keyed zoned are.zone_is with_zone;
   moment = dated;
 }
 
 -- ---- a day of what has no moment
 
 pub other_dated : (day : ℤ) (ask : Ask) → ((images : ImportAsk) → ask ≡ Import images → ⊥) → ((one : OneQuestionAsk) → ask ≡ OneQuestion one → ⊥)
-    → ((sift : SiftAsk) → ask ≡ Sift sift → ⊥) → IsDated (Some day) ask ask
-other_dated day (Import images) no_import no_one no_sift = absurd (no_import images refl)
-other_dated day (OneQuestion one) no_import no_one no_sift = absurd (no_one one refl)
-other_dated day (Sift sift) no_import no_one no_sift = absurd (no_sift sift refl)
-other_dated day ask no_import no_one no_sift = (pos 0, refl, tt)
+    → ((flagged_import : FlaggedImportAsk) → ask ≡ FlaggedImport flagged_import → ⊥) → IsDated (Some day) ask ask
+other_dated day (Import images) no_import no_one no_flagged_import = absurd (no_import images refl)
+other_dated day (OneQuestion one) no_import no_one no_flagged_import = absurd (no_one one refl)
+other_dated day (FlaggedImport flagged_import) no_import no_one no_flagged_import = absurd (no_flagged_import flagged_import refl)
+other_dated day ask no_import no_one no_flagged_import = (pos 0, refl, tt)

@@ -1,5 +1,5 @@
 -- Once the day is known no refusal is of the clock.
-use Rattle.std.proofs.Common.{◌≡◌, ◌≢◌, ◌∙◌, inl, inr, sym}
+use Rattle.std.proofs.Common.{◌≡◌, ◌≢◌, ◌∙◌, Bool, inl, inr, sym}
 use Rattle.rd_commands.specs.Refusals.{IsDeviceOrMemory}
 use Rattle.rd_commands.specs.declared.refusal.Refusal.{Refusal}
 use Rattle.rd_commands.specs.declared.refusal.Refusal.TheVariants.{Clock, Device, NoMemory}
@@ -12,10 +12,11 @@ of_memory refusal is clock = cc (sym is ∙ clock)
 pub of_write : (refusal : Refusal) → refusal ≡ Device → refusal ≢ Clock
 of_write refusal is clock = cc (sym is ∙ clock)
 
-pub of_show : (refusal : Refusal) → IsShowRefusal refusal → refusal ≢ Clock
-of_show refusal (inl is) clock = cc (sym is ∙ clock)
-of_show refusal (inr (inl is)) clock = cc (sym is ∙ clock)
-of_show refusal (inr (inr is)) clock = cc (sym is ∙ clock)
+pub of_show : (named : Bool) (refusal : Refusal) → IsShowRefusal named refusal → refusal ≢ Clock
+of_show named refusal (inl is) clock = cc (sym is ∙ clock)
+of_show named refusal (inr (inl is)) clock = cc (sym is ∙ clock)
+of_show named refusal (inr (inr (inl is))) clock = cc (sym is.0 ∙ clock)
+of_show named refusal (inr (inr (inr is))) clock = cc (sym is ∙ clock)
 
 pub of_reply : (refusal : Refusal) → IsReplyRefusal refusal → refusal ≢ Clock
 of_reply refusal (inl is) clock = cc (sym is ∙ clock)

@@ -10,10 +10,10 @@ pub shown_as : (shown given : List ℕ → Option (List ℕ)) (path : List ℕ) 
 shown_as shown given path P same fact = subst (λ (files : List ℕ → Option (List ℕ)). IfSome (files path) P) (sym same) fact
 
 -- a help that a device cut off, under another name
-pub help_refused : (status : ℕ) (out written errors told : Option (List ℕ)) (help same : List ℕ) → help ≡ same
-    → (status ≡ 3) × Tells (λ refusal. (refusal ≡ Device) × AppendsPart out written help) 3 errors told
-    → Tells (RefusesHelp same out written) status errors told
-help_refused status out written errors told help same is due = record {
+pub help_refused : (status : ℕ) (out written errors reported : Option (List ℕ)) (help same : List ℕ) → help ≡ same
+    → (status ≡ 3) × Tells (λ refusal. (refusal ≡ Device) × AppendsPart out written help) 3 errors reported
+    → Tells (RefusesHelp same out written) status errors reported
+help_refused status out written errors reported help same is due = record {
   refusal = due.1.refusal;
   why = subst (RefusesHelp same out written) (sym due.1.why.0) (subst (AppendsPart out written) is due.1.why.1);
   has_status = due.1.has_status ∙ sym due.0;

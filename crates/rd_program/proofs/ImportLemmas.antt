@@ -11,9 +11,9 @@ use Rattle.rd_protocol.specs.declared.response.Response.TheVariants.{Refused}
 use Rattle.rd_commands.specs.Asks.{TellsInRows, TellsOnOutput}
 use Rattle.rd_program.specs.Importing.{GainsFront, GainsFrontOfLine, GainsLine, GainsLines, IsDoneLine, IsImportRefusal, IsRowLine, IsRowRefusal, RefusesRow, RefusesRows, TellsRow, TellsRows, accession_line, bad_row_line, done_word, lost_row_line}
 use Rattle.rd_program.specs.Serving.{IsClockRefusal}
-use Rattle.rd_program.specs.Sifting.{TellsFate, fate_by, word_by, worse}
-use Rattle.rd_program.specs.declared.import.Fate.{Fate}
-use Rattle.rd_program.specs.declared.import.Fate.TheVariants.{Denied, Done, Lost}
+use Rattle.rd_program.specs.ImportedRows.{TellsOutcome, outcome_by, word_by, worse}
+use Rattle.rd_program.specs.declared.import.RowOutcome.{RowOutcome}
+use Rattle.rd_program.specs.declared.import.RowOutcome.TheVariants.{Denied, Done, Lost}
 use Rattle.rd_commands.specs.Output.{AppendsPart}
 use Rattle.rd_commands.specs.Refusals.{IsDeviceOrMemory, refusal_for}
 use Rattle.rd_commands.specs.Sheets.{IsReadRefusal}
@@ -25,7 +25,7 @@ use Rattle.rd_commands.specs.declared.files.MachineFault.TheVariants as machine_
 use Rattle.rd_commands.specs.declared.refusal.Refusal.{Refusal}
 use Rattle.rd_commands.specs.declared.refusal.Refusal.TheVariants.{BadSheet, Device, NoMemory, Store}
 use Rattle.rd_commands.specs.declared.words.Ask.{Ask}
-use Rattle.rd_commands.specs.declared.words.Ask.TheVariants.{Import, OneQuestion, Sift}
+use Rattle.rd_commands.specs.declared.words.Ask.TheVariants.{Import, OneQuestion, FlaggedImport}
 use Rattle.rd_commands.proofs.WriterLemmas.{none_written, part_after, piece_more}
 
 -- ---- lines
@@ -34,12 +34,12 @@ done_is_row : (dry_run : Bool) (line : List ℕ) → IsDoneLine dry_run line →
 done_is_row dry_run line done = inl (done.0, done_word dry_run, done.1)
 
 -- lines of images that are taken in, or would be, tell of rows
-pub rows_of : (dry_run : Bool) (fate : Fate) (old new : Option (List ℕ)) → TellsRows dry_run old new fate → GainsLines IsRowLine old new
+pub rows_of : (dry_run : Bool) (outcome : RowOutcome) (old new : Option (List ℕ)) → TellsRows dry_run old new outcome → GainsLines IsRowLine old new
 rows_of dry_run Done old new rows = record { lines = rows.lines; each = All-weaker (IsDoneLine dry_run) IsRowLine (done_is_row dry_run) rows.lines rows.each; gained = rows.gained }
 rows_of dry_run Denied old new rows = rows
 rows_of dry_run Lost old new rows = rows
 
-row_of : (dry_run : Bool) (fate : Fate) (old new : Option (List ℕ)) → TellsRow dry_run old new fate → GainsLine IsRowLine old new
+row_of : (dry_run : Bool) (outcome : RowOutcome) (old new : Option (List ℕ)) → TellsRow dry_run old new outcome → GainsLine IsRowLine old new
 row_of dry_run Done old new row = record { line = row.line; is = done_is_row dry_run row.line row.is; gained = row.gained }
 row_of dry_run Denied old new row = row
 row_of dry_run Lost old new row = row
@@ -52,7 +52,7 @@ one_more P old mid new rows row = record {
 }
 
 -- the line of one more row
-pub rows_more : (dry_run : Bool) (one other : Fate) (old mid new : Option (List ℕ)) → TellsRows dry_run old mid one → TellsRow dry_run mid new other
+pub rows_more : (dry_run : Bool) (one other : RowOutcome) (old mid new : Option (List ℕ)) → TellsRows dry_run old mid one → TellsRow dry_run mid new other
     → TellsRows dry_run old new (worse one other)
 rows_more dry_run Done Done old mid new rows row = one_more (IsDoneLine dry_run) old mid new rows row
 rows_more dry_run Done Denied old mid new rows row = one_more IsRowLine old mid new (rows_of dry_run Done old mid rows) row
@@ -110,29 +110,29 @@ pub row_refused : (number : ℕ) (line : List ℕ) (refusal : Refusal) (old new 
 row_refused number line refusal old new is why part = (of_device refusal why, record { line = line; is = inr (number, is); gained = part })
 
 -- what is told of an answer is the line of a row
-pub answer_row : {X : Type 0} (acc : ℕ) (dry_run : Bool) (r : Result Response X) (told : Result Fate Refusal) (old new : Option (List ℕ))
-    → IfOk told (TellsFate acc dry_run r old new) → IfOk told (TellsRow dry_run old new)
-answer_row acc dry_run (Ok answer) (Ok fate) old new tells = subst (TellsRow dry_run old new) (sym tells.1) (row_told answer tells.0)
+pub answer_row : {X : Type 0} (acc : ℕ) (dry_run : Bool) (r : Result Response X) (told : Result RowOutcome Refusal) (old new : Option (List ℕ))
+    → IfOk told (TellsOutcome acc dry_run r old new) → IfOk told (TellsRow dry_run old new)
+answer_row acc dry_run (Ok answer) (Ok outcome) old new tells = subst (TellsRow dry_run old new) (sym tells.1) (row_written answer tells.0)
   where
-    row_told : (answer : Response) → Appends old new (accession_line acc (word_by dry_run answer)) → TellsRow dry_run old new (fate_by answer)
-    row_told (Refused refusal) wrote = record { line = accession_line acc (name_of refusal); is = inl (acc, name_of refusal, refl); gained = wrote }
-    row_told other wrote = record { line = accession_line acc (done_word dry_run); is = (acc, refl); gained = wrote }
-answer_row acc dry_run (Err fault) (Ok fate) old new tells = absurd tells
+    row_written : (answer : Response) → Appends old new (accession_line acc (word_by dry_run answer)) → TellsRow dry_run old new (outcome_by answer)
+    row_written (Refused refusal) wrote = record { line = accession_line acc (name_of refusal); is = inl (acc, name_of refusal, refl); gained = wrote }
+    row_written other wrote = record { line = accession_line acc (done_word dry_run); is = (acc, refl); gained = wrote }
+answer_row acc dry_run (Err fault) (Ok outcome) old new tells = absurd tells
 answer_row acc dry_run r (Err refusal) old new tells = tt
 
 -- ---- rows
 
 -- a run that ends at a row
-pub ends_at_row : (dry_run : Bool) (fate : Fate) (refusal : Refusal) (old mid new : Option (List ℕ)) → TellsRows dry_run old mid fate → RefusesRow mid new refusal
+pub ends_at_row : (dry_run : Bool) (outcome : RowOutcome) (refusal : Refusal) (old mid new : Option (List ℕ)) → TellsRows dry_run old mid outcome → RefusesRow mid new refusal
     → RefusesRows old new refusal
-ends_at_row dry_run fate refusal old mid new rows row = inr (row.0, front_of old mid new (rows_of dry_run fate old mid rows) row.1)
+ends_at_row dry_run outcome refusal old mid new rows row = inr (row.0, front_of old mid new (rows_of dry_run outcome old mid rows) row.1)
 
 -- a run that ends because no row is read
-pub ends_between : (dry_run : Bool) (fate : Fate) (refusal : Refusal) (old new : Option (List ℕ)) → TellsRows dry_run old new fate → IsReadRefusal refusal
+pub ends_between : (dry_run : Bool) (outcome : RowOutcome) (refusal : Refusal) (old new : Option (List ℕ)) → TellsRows dry_run old new outcome → IsReadRefusal refusal
     → RefusesRows old new refusal
-ends_between dry_run fate refusal old new rows (inl is) = inl (is, rows_of dry_run fate old new rows)
-ends_between dry_run fate refusal old new rows (inr (inl is)) = inr (inl is, front_kept old new (rows_of dry_run fate old new rows))
-ends_between dry_run fate refusal old new rows (inr (inr is)) = inr (inr (inl is), front_kept old new (rows_of dry_run fate old new rows))
+ends_between dry_run outcome refusal old new rows (inl is) = inl (is, rows_of dry_run outcome old new rows)
+ends_between dry_run outcome refusal old new rows (inr (inl is)) = inr (inl is, front_kept old new (rows_of dry_run outcome old new rows))
+ends_between dry_run outcome refusal old new rows (inr (inr is)) = inr (inr (inl is), front_kept old new (rows_of dry_run outcome old new rows))
 
 -- why a sheet is not begun
 pub sheet_failed : (fault : MachineFault) (refusal : Refusal) → refusal ≡ refusal_for Device fault → IsImportRefusal refusal
@@ -173,7 +173,7 @@ whole_is P (Err refusal) r is = subst (λ x. IfOk x (λ done. done ≡ InPart �
 -- what is done in rows is told on the output
 pub rows_tell : (ask : Ask) → TellsInRows ask → TellsOnOutput ask
 rows_tell (Import ask) tells = tt
-rows_tell (Sift ask) tells = tt
+rows_tell (FlaggedImport ask) tells = tt
 rows_tell (OneQuestion ask) tells = absurd tells
 rows_tell ask tells = tells
 

@@ -23,7 +23,7 @@ pub mod StaffKeyLemmas
 pub mod CopyLemmas
 pub mod OnTimeLemmas
 pub mod BehindLemmas
-pub mod SiftLemmas
+pub mod ImportedRows
 pub mod ExtractLemmas
 pub mod FolderLemmas
 pub mod Frames

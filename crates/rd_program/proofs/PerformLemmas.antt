@@ -8,7 +8,7 @@ use Rattle.rd_commands.specs.RefusalLines.{whole}
 use Rattle.rd_commands.specs.declared.done.Done.{Done}
 use Rattle.rd_commands.specs.declared.refusal.Refusal.{Refusal}
 use Rattle.rd_commands.specs.declared.words.Ask.{Ask}
-use Rattle.rd_commands.specs.declared.words.Ask.TheVariants.{Copy, Extract, File, Files, Import, Init, OneQuestion, Serve, Sift, StaffKey}
+use Rattle.rd_commands.specs.declared.words.Ask.TheVariants.{Copy, Extract, File, Files, Import, Init, OneQuestion, Serve, FlaggedImport, StaffKey}
 use Rattle.rd_program.specs.Does.{Does}
 use Rattle.rd_program.specs.World.{World}
 
@@ -40,7 +40,7 @@ other_input g told coming before after one other out written (Extract ask) resul
 other_input g told coming before after one other out written (Init ask) result none does = does
 other_input g told coming before after one other out written (Serve ask) result none does = does
 other_input g told coming before after one other out written (Import ask) result none does = does
-other_input g told coming before after one other out written (Sift ask) result none does = does
+other_input g told coming before after one other out written (FlaggedImport ask) result none does = does
 other_input g told coming before after one other out written (OneQuestion ask) result none does = does
 other_input g told coming before after one other out written (StaffKey ask) result none does = does
 other_input g told coming before after one other out written (Copy ask) result none does = does

@@ -1,6 +1,6 @@
 -- Notes that nobody wants.
 use Rattle.std.proofs.Common.{◌∙◌, refl}
-use Rattle.rd_explanations.specs.Noted.{IsQuiet}
+use Rattle.rd_explanations.specs.Notes.{IsQuiet}
 use Rattle.rd_explanations.specs.declared.notes.Notes.{Notes}
 
 pub still_quiet : (notes : Notes) → IsQuiet notes notes

@@ -1,5 +1,5 @@
 -- What is shown and what is found of a desk, and why it is not.
-use Rattle.std.proofs.Common.{◌≡◌, ◌≢◌, ◌⊎◌, ◌∙◌, ℕ, ℤ, List, Option, Some, None, Result, Ok, Err, IfErr, IfOk, IfSome, IsOk, OnOk, ap, arith, false, option_map, true, inl, inr, refl, subst, sym}
+use Rattle.std.proofs.Common.{◌≡◌, ◌≢◌, ◌⊎◌, ◌∙◌, ℕ, ℤ, Bool, List, Option, Some, None, Result, Ok, Err, IfErr, IfOk, IfSome, IsOk, OnOk, ap, arith, false, option_map, true, inl, inr, refl, subst, sym}
 use Rattle.std.specs.Io.KnownBytes.{Appends, Keeps}
 use Rattle.std.proofs.KnownBytes.{Keeps-refl}
 use Rattle.std.proofs.lemmas.Result.{IfErr-weaker, on_ok_weaker}
@@ -34,10 +34,10 @@ use Rattle.rd_commands.specs.declared.words.Shown.{Shown}
 use Rattle.rd_commands.specs.declared.words.Question.TheVariants as question
 use Rattle.rd_commands.specs.declared.refusal.Refusal.{Refusal}
 use Rattle.rd_commands.specs.declared.refusal.Refusal.TheVariants.{NoAccession, StaffOnly, Store, UnknownKey}
-use Rattle.rd_program.specs.Answers.{answer_to_show, outcome_of, refusal_to_check, refusal_to_show}
+use Rattle.rd_program.specs.Answers.{answer_to_show, outcome_of, refusal_for}
 use Rattle.rd_program.specs.Leaves.{IsDayAt, IsSame, LeavesDesk, StepsOf, moment_of}
 use Rattle.rd_program.specs.Serving.{IsClockRefusal, IsOpenRefusal}
-use Rattle.rd_program.specs.Showing.{AnswersOneQuestion, EndsWith, Finds, FindsStore, IsDueIn, IsDueOn, IsRefusedFor, IsShowRefusal, IsToShow, OfDesk, HoldsOfDesks, RefusesShow, Shows, ShowsStore, asked_of, badge_of, found_by, request_of, shown_text, what_to_show}
+use Rattle.rd_program.specs.Showing.{AnswersOneQuestion, EndsWith, Finds, FindsStore, IsDueIn, IsDueOn, IsRefusedFor, IsShowRefusal, IsToShow, OfDesk, HoldsOfDesks, RefusesShow, Shows, ShowsStore, asked_of, badge_of, found_by, names_accession, request_of, shown_text, what_to_show}
 use Rattle.rd_program.proofs.LeftStores.{from_opened, of_opening}
 use Rattle.rd_program.proofs.DeskSteps.{response_step}
 
@@ -50,6 +50,7 @@ carried_same day request.Takedowns stood to = refl
 carried_same day request.Keys stood to = refl
 carried_same day request.Checks stood to = refl
 carried_same day (request.Verdicts on) stood to = refl
+carried_same day (request.VerdictsOf on acc) stood to = refl
 carried_same day other stood to = absurd to
 
 same_after : (badge : Option (List ℕ)) (what : What) (day : ℤ) (old new : Desk) → IsToShow what
@@ -60,10 +61,11 @@ same_after badge what day old new to (inr (inr refused)) = refused.1
 
 -- ---- what the program makes of an answer
 
-pub shown_is : {X : Type 0} (r : Result Response X) (answer : Response) → answer_to_show r ≡ Ok answer → (r ≡ Ok answer) × ((reply_of answer).status ≡ 200)
-shown_is (Ok (response.Refused reason)) answer is = absurd (cc is)
-shown_is (Ok other) answer is = let same : other ≡ answer = cc is in (ap Ok same, subst (λ a. (reply_of a).status ≡ 200) same refl)
-shown_is (Err fault) answer is = absurd (cc is)
+pub shown_is : {X : Type 0} (named : Bool) (r : Result Response X) (answer : Response) → answer_to_show named r ≡ Ok answer
+    → (r ≡ Ok answer) × ((reply_of answer).status ≡ 200)
+shown_is named (Ok (response.Refused reason)) answer is = absurd (cc is)
+shown_is named (Ok other) answer is = let same : other ≡ answer = cc is in (ap Ok same, subst (λ a. (reply_of a).status ≡ 200) same refl)
+shown_is named (Err fault) answer is = absurd (cc is)
 
 pub found_is : {X : Type 0} (r : Result Response X) (outcome : Outcome) → outcome_of r ≡ Ok outcome → r ≡ Ok (response.Checked outcome)
 found_is (Ok (response.Refused reason)) outcome is = absurd (cc is)
@@ -93,11 +95,11 @@ module _ {S X : Type 0} (g : Ghosts S) (old new : Held S) (day : ℤ) (badge : O
 
   -- ---- what is shown and what is found
 
-  pub shows_desk : (answer : Response) (reply : Reply) (out written : Option (List ℕ)) → IsToShow what → answer_to_show result ≡ Ok answer
+  pub shows_desk : (named : Bool) (answer : Response) (reply : Reply) (out written : Option (List ℕ)) → IsToShow what → answer_to_show named result ≡ Ok answer
       → reply ≡ reply_of answer → Appends out written (shown_text reply)
       → OfDesk g (λ stood after. Shows (λ d. d ≡ day) (request_of badge what) stood out written) old new
-  shows_desk answer reply out written to told is wrote = λ clean.
-      let found = shown_is result answer told in
+  shows_desk named answer reply out written to told is wrote = λ clean.
+      let found = shown_is named result answer told in
       let is_open : IsOpen g new = open_unless clean answer found.0 (λ away.
       let both : Ok answer ≡ Ok (response.Refused desk_refusal.StaffOnly) = sym found.0 ∙ away.refused in
       let same : answer ≡ response.Refused desk_refusal.StaffOnly = cc both in
@@ -136,26 +138,21 @@ module _ {S X : Type 0} (g : Ghosts S) (old new : Held S) (day : ℤ) (badge : O
       ]) in
       (is_open, (day, refl, (answered (response.Refused reason) is is_open).0))
 
-  due_to_show : IsSome badge ⊎ ¬ IsForStaff what → (reason : Reason) → result ≡ Ok (response.Refused reason)
-      → IsDueOn g (λ d. d ≡ day) (request_of badge what) old new (refusal_to_show reason)
-  due_to_show there desk_refusal.UnknownKey is = refused_for there desk_refusal.UnknownKey is
-  due_to_show there desk_refusal.StaffOnly is = refused_for there desk_refusal.StaffOnly is
-  due_to_show there other is = tt
+  due_for : IsSome badge ⊎ ¬ IsForStaff what → (named : Bool) (reason : Reason) → result ≡ Ok (response.Refused reason)
+      → IsDueOn g (λ d. d ≡ day) (request_of badge what) old new (refusal_for named reason)
+  due_for there named desk_refusal.UnknownKey is = refused_for there desk_refusal.UnknownKey is
+  due_for there named desk_refusal.StaffOnly is = refused_for there desk_refusal.StaffOnly is
+  due_for there true desk_refusal.NoAccession is = refused_for there desk_refusal.NoAccession is
+  due_for there named other is = tt
 
-  due_to_check : IsSome badge ⊎ ¬ IsForStaff what → (reason : Reason) → result ≡ Ok (response.Refused reason)
-      → IsDueOn g (λ d. d ≡ day) (request_of badge what) old new (refusal_to_check reason)
-  due_to_check there desk_refusal.UnknownKey is = refused_for there desk_refusal.UnknownKey is
-  due_to_check there desk_refusal.StaffOnly is = refused_for there desk_refusal.StaffOnly is
-  due_to_check there desk_refusal.NoAccession is = refused_for there desk_refusal.NoAccession is
-  due_to_check there other is = tt
-
-  pub shown_due : IsSome badge ⊎ ¬ IsForStaff what → (refusal : Refusal) → answer_to_show result ≡ Err refusal → IsDueOn g (λ d. d ≡ day) (request_of badge what) old new refusal
-  shown_due there refusal told = go result refl told
+  pub shown_due : (of_one : Bool) → IsSome badge ⊎ ¬ IsForStaff what → (refusal : Refusal) → answer_to_show of_one result ≡ Err refusal
+      → IsDueOn g (λ d. d ≡ day) (request_of badge what) old new refusal
+  shown_due of_one there refusal told = go result refl told
     where
-      go : (r : Result Response X) → result ≡ r → answer_to_show r ≡ Err refusal → IsDueOn g (λ d. d ≡ day) (request_of badge what) old new refusal
+      go : (r : Result Response X) → result ≡ r → answer_to_show of_one r ≡ Err refusal → IsDueOn g (λ d. d ≡ day) (request_of badge what) old new refusal
       go (Ok (response.Refused reason)) is named =
-          let same : refusal_to_show reason ≡ refusal = cc named in
-          subst (IsDueOn g (λ d. d ≡ day) (request_of badge what) old new) same (due_to_show there reason is)
+          let same : refusal_for of_one reason ≡ refusal = cc named in
+          subst (IsDueOn g (λ d. d ≡ day) (request_of badge what) old new) same (due_for there of_one reason is)
       go (Ok other) is named = absurd (cc named)
       go (Err fault) is named = let same : Store ≡ refusal = cc named in subst (IsDueOn g (λ d. d ≡ day) (request_of badge what) old new) same tt
 
@@ -164,8 +161,8 @@ module _ {S X : Type 0} (g : Ghosts S) (old new : Held S) (day : ℤ) (badge : O
     where
       go : (r : Result Response X) → result ≡ r → outcome_of r ≡ Err refusal → IsDueOn g (λ d. d ≡ day) (request_of badge what) old new refusal
       go (Ok (response.Refused reason)) is named =
-          let same : refusal_to_check reason ≡ refusal = cc named in
-          subst (IsDueOn g (λ d. d ≡ day) (request_of badge what) old new) same (due_to_check there reason is)
+          let same : refusal_for true reason ≡ refusal = cc named in
+          subst (IsDueOn g (λ d. d ≡ day) (request_of badge what) old new) same (due_for there true reason is)
       go (Ok (response.Checked told)) is named = absurd (cc named)
       go (Ok other) is named = let same : Store ≡ refusal = cc named in subst (IsDueOn g (λ d. d ≡ day) (request_of badge what) old new) same tt
       go (Err fault) is named = let same : Store ≡ refusal = cc named in subst (IsDueOn g (λ d. d ≡ day) (request_of badge what) old new) same tt
@@ -208,10 +205,11 @@ module _ (Days More : ℤ → Type 0) (weaker : (day : ℤ) → Days day → Mor
 
 -- ---- by what is refused
 
-pub show_due : (refusal : Refusal) (old new : Option (List ℕ)) → IsShowRefusal refusal → Keeps old new → RefusesShow old new refusal
-show_due refusal old new (inl is) kept = (inl (inr (inr (inl is)), kept), subst (λ r. r ≢ NoAccession) (sym is) (λ same. cc same))
-show_due refusal old new (inr (inl is)) kept = (inl (inr (inr (inr (inl is))), kept), subst (λ r. r ≢ NoAccession) (sym is) (λ same. cc same))
-show_due refusal old new (inr (inr is)) kept = (inl (inr (inr (inr (inr (inr (inr (inr is)))))), kept), subst (λ r. r ≢ NoAccession) (sym is) (λ same. cc same))
+pub show_due : (what : What) (refusal : Refusal) (old new : Option (List ℕ)) → IsShowRefusal (names_accession what) refusal → Keeps old new → RefusesShow what old new refusal
+show_due what refusal old new (inl is) kept = (inl (inr (inr (inl is)), kept), λ none. absurd (cc (sym is ∙ none)))
+show_due what refusal old new (inr (inl is)) kept = (inl (inr (inr (inr (inl is))), kept), λ none. absurd (cc (sym is ∙ none)))
+show_due what refusal old new (inr (inr (inl is))) kept = (inl (inr (inr (inr (inr (inl is.0)))), kept), λ none. is.1)
+show_due what refusal old new (inr (inr (inr is))) kept = (inl (inr (inr (inr (inr (inr (inr (inr is)))))), kept), λ none. absurd (cc (sym is ∙ none)))
 
 -- ---- the store that it was asked of
 
@@ -338,7 +336,7 @@ not_opened_once g clock stood left out ask (Err other) refusal is opening =
     let why : IsOpenRefusal other = subst IsOpenRefusal (sym is) opening in
     record {
       shown = λ what asked. tt;
-      not_shown = λ what asked. (inl (inl why, Keeps-refl out), open_no_accession other why);
+      not_shown = λ what asked. (inl (inl why, Keeps-refl out), λ none. absurd (open_no_accession other why none));
       found = λ acc asked. tt;
       due = λ judged. open_due g (IsDayAt (moment_of ask.when.seconds clock) ask.when.zone) (request_of (badge_of ask) (asked_of ask.question)) stood left other why;
     }
@@ -349,7 +347,7 @@ pub answers_once : {S : Type 0} (g : Ghosts S) (ask : OneQuestionAsk) (r : Resul
     → IfSome new (λ held. Some conn ≡ Some held) → later ≡ clock → zone ≡ ask.when.zone
     → ((what : What) → what_to_show ask.question ≡ Some what
     → OnOk r (OfDesk g (λ stood after. Shows (IsDayAt (moment_of ask.when.seconds later) zone) (request_of (badge_of ask) what) stood out written) opened last))
-    → ((what : What) → what_to_show ask.question ≡ Some what → IfErr r (RefusesShow out written))
+    → ((what : What) → what_to_show ask.question ≡ Some what → IfErr r (RefusesShow what out written))
     → ((acc : ℕ) → IsCheckOf acc ask.question
     → IfOk r (λ done. OfDesk g (Finds (IsDayAt (moment_of ask.when.seconds later) zone) (request_of (badge_of ask) (request.Check acc)) (found_by done)) opened last))
     → (IsSome ask.key ⊎ (ask.question ≡ question.Catalogue) → IfErr r (IsDueOn g (IsDayAt (moment_of ask.when.seconds later) zone) (request_of (badge_of ask) (asked_of ask.question)) opened last))

@@ -6,10 +6,10 @@ use Rattle.rd_operands.specs.Moments.{HasNoMoment, IsFirstMoment}
 use Rattle.rd_policy.specs.Days.{HasDay}
 use Rattle.rd_operands.specs.ZoneFiles.{IsZoneOfFile}
 use Rattle.rd_policy.specs.declared.zone.Zone.{Zone}
-use Rattle.rd_commands.specs.declared.beside.Beside.{Beside}
-use Rattle.rd_commands.specs.declared.beside.Told.{Told}
+use Rattle.rd_commands.specs.declared.common_options.CommonOptions.{CommonOptions}
+use Rattle.rd_commands.specs.declared.common_options.Parsed.{Parsed}
 use Rattle.rd_commands.specs.declared.words.Ask.{Ask}
-use Rattle.rd_commands.specs.declared.words.Ask.TheVariants.{Import, Init, OneQuestion, Serve, Sift, StaffKey}
+use Rattle.rd_commands.specs.declared.words.Ask.TheVariants.{Import, Init, OneQuestion, Serve, FlaggedImport, StaffKey}
 use Rattle.rd_commands.specs.declared.words.WhenAsk.{WhenAsk}
 
 -- the key is that in these bytes, and a file with a key has no more than 4,096
@@ -32,7 +32,7 @@ IsZoneAt files path zone = IfSome (files path) (λ bytes. IsZoneOfFile bytes zon
 abbrev pub with_key : Bor (List ℕ) → Ask → Ask
 with_key key (Init ask) = Init (record ask { key = key })
 with_key key (Import ask) = Import (record ask { key = key })
-with_key key (Sift ask) = Sift (record ask { import = record ask.import { key = key } })
+with_key key (FlaggedImport ask) = FlaggedImport (record ask { import = record ask.import { key = key } })
 with_key key (OneQuestion ask) = OneQuestion (record ask { key = Some key })
 with_key key (StaffKey ask) = StaffKey (record ask { key = key })
 with_key key ask = ask
@@ -44,7 +44,7 @@ in_zone zone when = record when { zone = zone }
 abbrev pub with_zone : Zone → Ask → Ask
 with_zone zone (Serve ask) = Serve (record ask { zone = zone })
 with_zone zone (Import ask) = Import (record ask { when = in_zone zone ask.when })
-with_zone zone (Sift ask) = Sift (record ask { import = record ask.import { when = in_zone zone ask.import.when } })
+with_zone zone (FlaggedImport ask) = FlaggedImport (record ask { import = record ask.import { when = in_zone zone ask.import.when } })
 with_zone zone (OneQuestion ask) = OneQuestion (record ask { when = in_zone zone ask.when })
 with_zone zone ask = ask
 
@@ -54,14 +54,14 @@ at_moment seconds when = record when { seconds = Some seconds }
 
 abbrev pub with_moment : ℤ → Ask → Ask
 with_moment seconds (Import ask) = Import (record ask { when = at_moment seconds ask.when })
-with_moment seconds (Sift ask) = Sift (record ask { import = record ask.import { when = at_moment seconds ask.import.when } })
+with_moment seconds (FlaggedImport ask) = FlaggedImport (record ask { import = record ask.import { when = at_moment seconds ask.import.when } })
 with_moment seconds (OneQuestion ask) = OneQuestion (record ask { when = at_moment seconds ask.when })
 with_moment seconds ask = ask
 
 -- this holds of the zone of the clocks by which a command asks at a moment
 abbrev pub OfClocks : Ask → (Zone → Type 0) → Type 0
 OfClocks (Import ask) P = P ask.when.zone
-OfClocks (Sift ask) P = P ask.import.when.zone
+OfClocks (FlaggedImport ask) P = P ask.import.when.zone
 OfClocks (OneQuestion ask) P = P ask.when.zone
 OfClocks ask P = ⊤
 
@@ -104,19 +104,19 @@ IsZoneRead files _ _ = ⊥
 
 -- What the words tell is whole in this: the key and the zone are those of the files, which the machine may show, and the
 -- moment is that of the day.
-pub record Completes (files : List ℕ → Option (List ℕ)) (input : Option (List ℕ)) (told : Told) (ask : Ask) : Type 0 where
+pub record Completes (files : List ℕ → Option (List ℕ)) (input : Option (List ℕ)) (parsed : Parsed) (ask : Ask) : Type 0 where
   pub keyed : Ask
   pub zoned : Ask
-  pub key : IsKeyed files input told.beside.key_file told.ask keyed
-  pub zone : IsZoned files told.beside.zone_file keyed zoned
-  pub moment : IsDated told.beside.day zoned ask
+  pub key : IsKeyed files input parsed.options.key_file parsed.ask keyed
+  pub zone : IsZoned files parsed.options.zone_file keyed zoned
+  pub moment : IsDated parsed.options.day zoned ask
 
 -- ---- inside
 
 -- what was read is what stands in the files that the words name
-pub record AreOperands (files : List ℕ → Option (List ℕ)) (input : Option (List ℕ)) (beside : Beside) (key : Option (List ℕ)) (zone : Option Zone) : Type 0 where
-  pub key_is : IsKeyRead files input (option_map (λ path. path.now) beside.key_file) key
-  pub zone_is : IsZoneRead files (option_map (λ path. path.now) beside.zone_file) zone
+pub record AreOperands (files : List ℕ → Option (List ℕ)) (input : Option (List ℕ)) (options : CommonOptions) (key : Option (List ℕ)) (zone : Option Zone) : Type 0 where
+  pub key_is : IsKeyRead files input (option_map (λ path. path.now) options.key_file) key
+  pub zone_is : IsZoneRead files (option_map (λ path. path.now) options.zone_file) zone
 
 -- the key that was read, if one was, is in its place
 abbrev pub IsKeyedBy : Option (List ℕ) → Ask → Ask → Type 0

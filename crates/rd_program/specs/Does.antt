@@ -3,7 +3,7 @@
 -- `before` and `after` are what the machine shows before the command and after it, `io` is what it read and wrote, and
 -- `result` is how it ended: well, where all is done, or a part is, since a row was refused or an image is changed; or it was
 -- refused.
--- `g` is what a connection shows, and `told` and `coming` are what a door shows. A command that is refused ends with the
+-- `g` is what a connection shows, and `told` (its `so_far`) and `coming` are what a door shows. A command that is refused ends with the
 -- status of its refusal and writes its line; else the status is 1 where a part is done, and 0 where all is.
 use Rattle.std.specs.Prelude.{◌≡◌, ◌⊎◌, ⊤, ℕ, ℤ, Bool, IfErr, IfOk, IfSome, IsErr, IsSomeAnd, IsTrue, List, MatchResult, Ok, OnErr, OnOk, Option, Result, Err, false, true}
 use Rattle.std.specs.Io.KnownBytes.{Appends, Keeps}
@@ -19,12 +19,12 @@ use Rattle.rd_commands.specs.Output.{AppendsPart}
 use Rattle.rd_commands.specs.Printed.{refusal_line}
 use Rattle.rd_commands.specs.Refusals.{IsDeviceOrMemory, status_of}
 use Rattle.rd_commands.specs.Serving.{place_of}
-use Rattle.rd_commands.specs.declared.beside.Told.{Told}
+use Rattle.rd_commands.specs.declared.common_options.Parsed.{Parsed}
 use Rattle.rd_commands.specs.declared.done.Done.{Done}
 use Rattle.rd_commands.specs.declared.done.Done.TheVariants.{InPart, Whole}
 use Rattle.rd_commands.specs.declared.refusal.Refusal.{Refusal}
 use Rattle.rd_commands.specs.declared.words.Ask.{Ask}
-use Rattle.rd_commands.specs.declared.words.Ask.TheVariants.{Copy, Extract, File, Files, Import, Init, OneQuestion, Serve, Sift, StaffKey}
+use Rattle.rd_commands.specs.declared.words.Ask.TheVariants.{Copy, Extract, File, Files, Import, Init, OneQuestion, Serve, FlaggedImport, StaffKey}
 use Rattle.rd_commands.specs.declared.words.CopyAsk.{CopyAsk}
 use Rattle.rd_commands.specs.declared.words.ExtractAsk.{ExtractAsk}
 use Rattle.rd_commands.specs.declared.words.FileAsk.{FileAsk}
@@ -48,10 +48,10 @@ use Rattle.rd_program.specs.OnTime.{IsBehindIn, ServesOnTime, WasOnTime, is_date
 use Rattle.rd_program.specs.Rows.{IsBadSheetDue}
 use Rattle.rd_program.specs.Serving.{AreLimitsOf, IsUnasked, RefusesServe, WritesOnceLent, serve_text}
 use Rattle.rd_program.specs.Showing.{AnswersOneQuestion, EndsWith, badge_of}
-use Rattle.rd_program.specs.Sifting.{SiftsSheetIn, StopsSheetIn, fate_of}
+use Rattle.rd_program.specs.ImportedRows.{ImportsSheetIn, StopsSheetIn, rows_outcome}
 use Rattle.rd_program.specs.StaffKeys.{LeavesStaffKey, PutsStaff, RefusesStaffKey}
 use Rattle.rd_program.specs.Visiting.{LeavesServe, ServesDoor, ServesSome}
-use Rattle.rd_program.specs.declared.import.Way.{Way}
+use Rattle.rd_program.specs.declared.import.ImportFlags.{ImportFlags}
 use Rattle.rd_program.specs.World.{ChangesFolders, ChangesStore, ChangesStoreAndDoors, CopiesStore, OpensStore, World}
 use Rattle.rd_program.specs.World.Wanted.{DoorAt, NewAt, StoreAt}
 
@@ -173,15 +173,15 @@ module _ {S D : Type 0} (g : Ghosts S) (before after : World S D) where
     -- lines say what would become of the rows, and the desk is as it was; with `--keep-going` a row whose file is not read has
     -- a line, and the next one follows. `rows` and `stopped` tell of rows while the connection is open at the end, `tells` of
     -- the form of the lines in any case. Nothing else changes.
-    pub record DoesImport (ask : ImportAsk) (way : Way) (result : Result Done Refusal) : Type 0 where
+    pub record DoesImport (ask : ImportAsk) (flags : ImportFlags) (result : Result Done Refusal) : Type 0 where
       pub frame : ChangesStore before after
       pub store : UsesStore ask.store.now false false result
-      pub leaves : LeavesAt ask.store.now (LeavesStore g (TakesUnlessDry way.dry_run (sha256 ask.key.now) (Days ask.when)))
+      pub leaves : LeavesAt ask.store.now (LeavesStore g (TakesUnlessDry flags.dry_run (sha256 ask.key.now) (Days ask.when)))
       pub moment : AsksAt ask.store.now ask.when true result
       pub rows : IfOk result (λ done. EndsAt ask.store.now
-          (SiftsSheetIn g before.files way (sha256 ask.key.now) (Days ask.when) (before.sheets ask.sheet.now) out written done))
-      pub stopped : OnErr result (StopsSheetIn g before.files way (sha256 ask.key.now) (Days ask.when) (before.sheets ask.sheet.now) out written before.left (before.stands ask.store.now) after.left)
-      pub tells : MatchResult result (λ done. TellsRows way.dry_run out written (fate_of done)) (RefusesImport out written)
+          (ImportsSheetIn g before.files flags (sha256 ask.key.now) (Days ask.when) (before.sheets ask.sheet.now) out written done))
+      pub stopped : OnErr result (StopsSheetIn g before.files flags (sha256 ask.key.now) (Days ask.when) (before.sheets ask.sheet.now) out written before.left (before.stands ask.store.now) after.left)
+      pub tells : MatchResult result (λ done. TellsRows flags.dry_run out written (rows_outcome done)) (RefusesImport out written)
       pub opening : IfErr result (NamesOpeningAt ask.store.now)
       pub bad_sheet : IfErr result (λ refusal. IfSome (before.sheets ask.sheet.now) (λ bytes. IsBadSheetDue bytes refusal))
 
@@ -204,7 +204,7 @@ module _ {S D : Type 0} (g : Ghosts S) (before after : World S D) where
       pub lent : WritesOnceLent before.shows after.limits out written
       pub on_time : ask.is_trusting ≡ false → Keeps out written ⊎ ServesOnTime g before.clock ask.zone (before.stands ask.store.now) after.left
 
--- what a command does: `File` is `cat`, `Files` is `list`, `Extract` is `files`, and `Sift` is `import` with `--dry-run`,
+-- what a command does: `File` is `cat`, `Files` is `list`, `Extract` is `files`, and `FlaggedImport` is `import` with `--dry-run`,
 -- `--keep-going` or both
 abbrev pub Does : {S D : Type 0} → Ghosts S → (D → Option VisitsSoFar) → (D → Option (List Coming)) → World S D → World S D → Io → Ask → Result Done Refusal → Type 0
 Does g told coming before after io (File ask) result = DoesCat g before after io.out io.written io.input ask result
@@ -215,7 +215,7 @@ Does g told coming before after io (StaffKey ask) result = DoesStaffKey g before
 Does g told coming before after io (Copy ask) result = DoesCopy g before after io.out io.written ask result
 Does g told coming before after io (OneQuestion ask) result = DoesQuestion g before after io.out io.written ask result
 Does g told coming before after io (Import ask) result = DoesImport g before after io.out io.written ask (record { dry_run = false; keep_going = false }) result
-Does g told coming before after io (Sift ask) result = DoesImport g before after io.out io.written ask.import (record { dry_run = ask.dry_run; keep_going = ask.keep_going }) result
+Does g told coming before after io (FlaggedImport ask) result = DoesImport g before after io.out io.written ask.import (record { dry_run = ask.dry_run; keep_going = ask.keep_going }) result
 Does g told coming before after io (Serve ask) result = DoesServe g before after io.out io.written told coming ask result
 
 -- ---- a run of the program
@@ -234,17 +234,17 @@ pub record EndsEarly {S D : Type 0} (before after : World S D) (io : Io) (result
   pub same : after ≡ before
   pub kept : Keeps io.out io.written
 
--- The command that the words tell did what `Does` says. Where they name a file with a key or with clocks, or a
--- day, it is what they would tell with the key, the clocks and the first moment in its place.
-pub record DoesTold {S D : Type 0} (g : Ghosts S) (told : D → Option VisitsSoFar) (coming : D → Option (List Coming)) (before after : World S D) (io : Io)
-    (words : Told) (result : Result Done Refusal) : Type 0 where
+-- The command of the words did what `Does` says. Where they name a file with a key or with clocks, or a
+-- day, it is what they would ask for with the key, the clocks and the first moment in its place.
+pub record DoesParsed {S D : Type 0} (g : Ghosts S) (told : D → Option VisitsSoFar) (coming : D → Option (List Coming)) (before after : World S D) (io : Io)
+    (words : Parsed) (result : Result Done Refusal) : Type 0 where
   pub command : Ask
   pub whole : Completes before.files io.input words command
   pub does : Does g told coming before after io command result
 
--- A run that was told this ended with the status and the line of a result: that of its command, or of one that ended early.
+-- A run of these words ended with the status and the line of a result: that of its command, or of one that ended early.
 pub record Runs {S D : Type 0} (g : Ghosts S) (told : D → Option VisitsSoFar) (coming : D → Option (List Coming)) (before after : World S D) (io : Io)
-    (errors said : Option (List ℕ)) (words : Told) (status : ℕ) : Type 0 where
+    (errors said : Option (List ℕ)) (words : Parsed) (status : ℕ) : Type 0 where
   pub result : Result Done Refusal
   pub ends : EndsSo result status errors said
-  pub does : DoesTold g told coming before after io words result ⊎ EndsEarly before after io result
+  pub does : DoesParsed g told coming before after io words result ⊎ EndsEarly before after io result

@@ -24,7 +24,7 @@ AsksThen old first second new Holds = IfSome old (λ before. MayAsk (Some (first
 
 -- The machine shows what it showed, but for its clock; that a door was asked for at the place, and nothing else; there, if it
 -- showed the door, the door as its borrower left it; and, if it shows its connections, that visitors may take as long as it
--- was told.
+-- was given.
 pub record KeepsDoor {S D : Type 0} (place : Place) (given : TimeLimits) (old new : World S D) (door : D) : Type 0 where
   pub frame : ChangesDoors old new
   pub asked : Asks old.wanted (DoorAt place) new.wanted

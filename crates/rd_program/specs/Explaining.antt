@@ -1,12 +1,12 @@
 -- What an explanation goes by.
 use Rattle.std.specs.Prelude.{◌≤ℤ◌, ℤ, None, Option, neg_ℤ, pos}
 use Rattle.rd_commands.specs.declared.words.Ask.{Ask}
-use Rattle.rd_commands.specs.declared.words.Ask.TheVariants.{Import, OneQuestion, Sift}
+use Rattle.rd_commands.specs.declared.words.Ask.TheVariants.{Import, OneQuestion, FlaggedImport}
 
 -- the seconds of the moment that a command names, if it names one
 abbrev pub seconds_named : Ask → Option ℤ
 seconds_named (Import ask) = ask.when.seconds
-seconds_named (Sift ask) = ask.import.when.seconds
+seconds_named (FlaggedImport ask) = ask.import.when.seconds
 seconds_named (OneQuestion ask) = ask.when.seconds
 seconds_named _ = None
 

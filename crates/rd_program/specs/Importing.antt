@@ -8,8 +8,8 @@ use Rattle.rd_commands.specs.Printed.{line_feed}
 use Rattle.rd_program.specs.Serving.{IsClockRefusal, IsOpenRefusal}
 use Rattle.rd_commands.specs.declared.refusal.Refusal.{Refusal}
 use Rattle.rd_commands.specs.declared.refusal.Refusal.TheVariants.{BadSheet, Device, NoMemory, Store}
-use Rattle.rd_program.specs.declared.import.Fate.{Fate}
-use Rattle.rd_program.specs.declared.import.Fate.TheVariants.{Done}
+use Rattle.rd_program.specs.declared.import.RowOutcome.{RowOutcome}
+use Rattle.rd_program.specs.declared.import.RowOutcome.TheVariants.{Done}
 
 -- the line of an accession, which says in a word what became of it
 abbrev pub accession_line : ℕ → List ℕ → List ℕ
@@ -66,12 +66,12 @@ pub record GainsFrontOfLine (old new : Option (List ℕ)) : Type 0 where
   pub gained : AppendsPart old new line
 
 -- the lines of rows: if all was done, or would be, each line says so
-abbrev pub TellsRows : Bool → Option (List ℕ) → Option (List ℕ) → Fate → Type 0
+abbrev pub TellsRows : Bool → Option (List ℕ) → Option (List ℕ) → RowOutcome → Type 0
 TellsRows dry_run old new Done = GainsLines (IsDoneLine dry_run) old new
 TellsRows dry_run old new other = GainsLines IsRowLine old new
 
 -- the line of one row
-abbrev pub TellsRow : Bool → Option (List ℕ) → Option (List ℕ) → Fate → Type 0
+abbrev pub TellsRow : Bool → Option (List ℕ) → Option (List ℕ) → RowOutcome → Type 0
 TellsRow dry_run old new Done = GainsLine (IsDoneLine dry_run) old new
 TellsRow dry_run old new other = GainsLine IsRowLine old new
 

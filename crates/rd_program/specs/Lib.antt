@@ -13,7 +13,7 @@ pub mod Showing
 pub mod Doors
 pub mod Visiting
 pub mod Rows
-pub mod Sifting
+pub mod ImportedRows
 pub mod Completing
 pub mod Extracting
 pub mod Asked

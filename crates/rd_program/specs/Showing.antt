@@ -1,5 +1,5 @@
 -- What the commands `export`, `check` and `show` give of a desk.
-use Rattle.std.specs.Prelude.{◌≡◌, ◌≢◌, ◌⊎◌, ⊤, ◌++◌, ℕ, ℤ, List, [], IfErr, IfOk, IfSome, IsSome, None, OnOk, Option, Result, Some, option_map}
+use Rattle.std.specs.Prelude.{◌≡◌, ◌⊎◌, ⊤, ◌++◌, ℕ, ℤ, Bool, List, [], IfErr, IfOk, IfSome, IsSome, None, OnOk, Option, Result, Some, false, option_map, true}
 use Rattle.std.specs.Io.KnownBytes.{Appends}
 use Rattle.sha2.specs.Sha256.{sha256}
 use Rattle.sqlite.specs.Held.{Held, state}
@@ -43,6 +43,7 @@ what_of item.Takedowns = request.Takedowns
 what_of item.Keys = request.Keys
 what_of item.Checks = request.Checks
 what_of (item.Verdicts day) = request.Verdicts day
+what_of (item.VerdictsOf day acc) = request.VerdictsOf day acc
 
 -- what a desk is asked, for a question whose answer is shown
 abbrev pub what_to_show : Question → Option What
@@ -88,9 +89,14 @@ pub record Finds (Days : ℤ → Type 0) (asked : Request) (outcome : Outcome) (
   pub on : Days day
   pub is : IsAnswered stood day asked (Checked outcome) after
 
--- why nothing is shown, and what was written then: as for a check, but never `no-accession`
-abbrev pub RefusesShow : Option (List ℕ) → Option (List ℕ) → Refusal → Type 0
-RefusesShow old new refusal = RefusesOneQuestion old new refusal × (refusal ≢ NoAccession)
+-- the request to show something is of one accession, which may not be there
+abbrev pub names_accession : What → Bool
+names_accession (request.VerdictsOf day acc) = true
+names_accession other = false
+
+-- why nothing is shown, and what was written then: as for a check, but `no-accession` only of a request of one accession
+abbrev pub RefusesShow : What → Option (List ℕ) → Option (List ℕ) → Refusal → Type 0
+RefusesShow what old new refusal = RefusesOneQuestion old new refusal × (refusal ≡ NoAccession → names_accession what ≡ true)
 
 -- the desk that stood refuses the request for this reason, on one of these days
 abbrev pub IsRefusedFor : (ℤ → Type 0) → Request → Reason → Desk → Type 0
@@ -142,7 +148,7 @@ pub record AnswersOneQuestion {S : Type 0} (g : Ghosts S) (clock : Option ℤ) (
     (result : Result Done Refusal) : Type 0 where
   pub shown : (what : What) → what_to_show ask.question ≡ Some what
       → OnOk result (EndsWith stood left (ShowsStore g (IsDayAt (moment_of ask.when.seconds clock) ask.when.zone) (request_of (badge_of ask) what) out written))
-  pub not_shown : (what : What) → what_to_show ask.question ≡ Some what → IfErr result (RefusesShow out written)
+  pub not_shown : (what : What) → what_to_show ask.question ≡ Some what → IfErr result (RefusesShow what out written)
   pub found : (acc : ℕ) → IsCheckOf acc ask.question
       → IfOk result (λ done. EndsWith stood left (FindsStore g (IsDayAt (moment_of ask.when.seconds clock) ask.when.zone) (badge_of ask) acc (found_by done)))
   pub due : IsSome ask.key ⊎ (ask.question ≡ question.Catalogue)
@@ -158,11 +164,13 @@ IsToShow request.Takedowns = ⊤
 IsToShow request.Keys = ⊤
 IsToShow request.Checks = ⊤
 IsToShow (request.Verdicts day) = ⊤
+IsToShow (request.VerdictsOf day acc) = ⊤
 IsToShow other = ⊥
 
--- of a reply to the staff: a refusal of the caller, or the store failed
-abbrev pub IsShowRefusal : Refusal → Type 0
-IsShowRefusal refusal = (refusal ≡ UnknownKey) ⊎ ((refusal ≡ StaffOnly) ⊎ (refusal ≡ Store))
+-- of a reply to the staff: a refusal of the caller or, where the request is of one accession, that it is not there; or the
+-- store failed
+abbrev pub IsShowRefusal : Bool → Refusal → Type 0
+IsShowRefusal named refusal = (refusal ≡ UnknownKey) ⊎ ((refusal ≡ StaffOnly) ⊎ (((refusal ≡ NoAccession) × (named ≡ true)) ⊎ (refusal ≡ Store)))
 
 -- if the disk has returned what was written, the connection is open, and this holds of the desk that it showed and of
 -- the one that it shows

@@ -9,48 +9,44 @@ ghost use Rattle.rd_program.specs.Showing.{IsShowRefusal};
 use rd_commands::Refusal;
 use rd_desk::{Outcome, Refusal as DeskRefusal, Response, Unavailable};
 
-/// The refusal of a command that shows something, by the desk's reason; `Store` for one it cannot have.
-fn refusal_to_show(reason: DeskRefusal) -> Refusal
-    ensures is { result ≡ spec.refusal_to_show reason }
-    ensures of { IsShowRefusal result }
+/// The refusal of a command that asks one question, by the desk's reason; `Store` for a reason that it cannot
+/// have, such as a missing accession where the question names none.
+fn refusal_for(named: bool, reason: DeskRefusal) -> Refusal
+    ensures is { result ≡ spec.refusal_for named reason }
+    ensures of { IsShowRefusal named result }
+    ensures opened { IsOfOpenDesk result }
 {
     match reason {
         DeskRefusal::UnknownKey => Refusal::UnknownKey,
         DeskRefusal::StaffOnly => Refusal::StaffOnly,
+        DeskRefusal::NoAccession if named => Refusal::NoAccession,
         _ => Refusal::Store,
     }
 }
 
-/// The refusal of a check, by the desk's reason; `Store` for a reason that a check cannot have.
-fn refusal_to_check(reason: DeskRefusal) -> Refusal
-    ensures is { result ≡ spec.refusal_to_check reason }
-    ensures of { IsReplyRefusal result }
-    ensures opened { IsOfOpenDesk result }
-{
-    match reason {
-        DeskRefusal::NoAccession => Refusal::NoAccession,
-        _ => refusal_to_show(reason),
-    }
-}
-
-/// An answer to show. It fails with the refusal of the caller.
-fn if_to_show(answer: Response) -> Result<Response, Refusal>
-    ensures is { result ≡ spec.if_to_show answer }
-    ensures of { IfErr result IsShowRefusal }
+/// An answer to show. It fails with the refusal of the question, which is of one accession or not.
+fn if_to_show(named: bool, answer: Response) -> Result<Response, Refusal>
+    ensures is { result ≡ spec.if_to_show named answer }
+    ensures of { IfErr result (IsShowRefusal named) }
+    ensures opened { IfErr result IsOfOpenDesk }
 {
     match answer {
-        Response::Refused(reason) => Err(refusal_to_show(reason)),
+        Response::Refused(reason) => Err(refusal_for(named, reason)),
         answer => Ok(answer),
     }
 }
 
-/// The answer to show. It fails with the caller's refusal, or with `Store` if there is no answer.
-pub(crate) fn answer_to_show(answer: Result<Response, Unavailable>) -> Result<Response, Refusal>
-    ensures is { result ≡ spec.answer_to_show answer }
-    ensures of { IfErr result IsShowRefusal }
+/// The answer to show, of one accession or not. It fails as `if_to_show` does, or with `Store` for none.
+pub(crate) fn answer_to_show(
+    named: bool,
+    answer: Result<Response, Unavailable>,
+) -> Result<Response, Refusal>
+    ensures is { result ≡ spec.answer_to_show named answer }
+    ensures of { IfErr result (IsShowRefusal named) }
+    ensures opened { IfErr result IsOfOpenDesk }
 {
     match answer {
-        Ok(answer) => if_to_show(answer),
+        Ok(answer) => if_to_show(named, answer),
         Err(_) => Err(Refusal::Store),
     }
 }
@@ -62,7 +58,7 @@ fn outcome_in(answer: &Response) -> Result<Outcome, Refusal>
     ensures opened { IfErr result IsOfOpenDesk }
 {
     match answer {
-        Response::Refused(reason) => Err(refusal_to_check(*reason)),
+        Response::Refused(reason) => Err(refusal_for(true, *reason)),
         Response::Checked(outcome) => Ok(*outcome),
         _ => Err(Refusal::Store),
     }

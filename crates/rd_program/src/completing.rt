@@ -9,7 +9,8 @@ ghost use Rattle.rd_program.specs.Completing.{AreOperands, Completes, IsDated, I
 use crate::machine::Machine;
 use crate::operands::{key_from, moment_of_day, zone_from};
 use rd_commands::{
-    Ask, ImportAsk, InitAsk, OneQuestionAsk, Refusal, ServeAsk, SiftAsk, StaffKeyAsk, Told, WhenAsk,
+    Ask, FlaggedImportAsk, ImportAsk, InitAsk, OneQuestionAsk, Parsed, Refusal, ServeAsk,
+    StaffKeyAsk, WhenAsk,
 };
 use rd_policy::Zone;
 use std::alloc::Global;
@@ -38,7 +39,7 @@ fn with_key<'a>(ask: Ask<'a>, key: &'a [u8]) -> Ask<'a>
     match ask {
         Ask::Init(ask) => Ask::Init(InitAsk { key, ..ask }),
         Ask::Import(ask) => Ask::Import(import_with_key(ask, key)),
-        Ask::Sift(ask) => Ask::Sift(SiftAsk {
+        Ask::FlaggedImport(ask) => Ask::FlaggedImport(FlaggedImportAsk {
             import: import_with_key(ask.import, key),
             ..ask
         }),
@@ -68,7 +69,7 @@ fn with_zone<'a>(ask: Ask<'a>, zone: Zone) -> Ask<'a>
             when: in_zone(ask.when, zone),
             ..ask
         }),
-        Ask::Sift(ask) => Ask::Sift(SiftAsk {
+        Ask::FlaggedImport(ask) => Ask::FlaggedImport(FlaggedImportAsk {
             import: ImportAsk {
                 when: in_zone(ask.import.when, zone),
                 ..ask.import
@@ -103,7 +104,7 @@ fn at_day<'a>(ask: Ask<'a>, day: i32) -> Ask<'a>
             when: on_day(ask.when, day),
             ..ask
         }),
-        Ask::Sift(ask) => Ask::Sift(SiftAsk {
+        Ask::FlaggedImport(ask) => Ask::FlaggedImport(FlaggedImportAsk {
             import: ImportAsk {
                 when: on_day(ask.import.when, day),
                 ..ask.import
@@ -188,27 +189,27 @@ fn zone_read<M: Machine>(
 /// `Device` when one cannot be read, is too long, or has no rule, and with `NoMemory`.
 pub(crate) fn read_operands<R: Read, M: Machine>(
     alloc: Global,
-    told: &Told,
+    parsed: &Parsed,
     input: &mut R,
     machine: &mut M,
 ) -> Result<Operands, Refusal>
     ensures read { IfOk result (λ operands. AreOperands (M.seen machine.old).files (R.remaining input.old)
-        told.now.beside (option_map (λ key. key.items) operands.key) operands.zone) }
+        parsed.now.options (option_map (λ key. key.items) operands.key) operands.zone) }
     ensures refused { IfErr result IsDeviceOrMemory }
     ensures same { machine.new ≡ machine.old }
     ensures limit { ReadsUpTo 4_097 (R.remaining input.old) (R.remaining input.new) }
 {
-    let key = key_read(alloc, told.beside.key_file, input, machine)?;
-    let zone = zone_read(alloc, told.beside.zone_file, machine)?;
+    let key = key_read(alloc, parsed.options.key_file, input, machine)?;
+    let zone = zone_read(alloc, parsed.options.zone_file, machine)?;
     Ok(Operands { key, zone })
 }
 
 /// What the words ask for, with what stands in files, and at the moment of a day.
-pub(crate) fn completed<'a>(told: Told<'a>, operands: &'a Operands) -> Ask<'a>
+pub(crate) fn completed<'a>(parsed: Parsed<'a>, operands: &'a Operands) -> Ask<'a>
     ensures { (files : List ℕ → Option (List ℕ)) (input : Option (List ℕ))
-        → AreOperands files input told.entry.beside (option_map (λ key. key.items) operands.now.key)
-        operands.now.zone → Completes files input told.entry result }
+        → AreOperands files input parsed.entry.options (option_map (λ key. key.items) operands.now.key)
+        operands.now.zone → Completes files input parsed.entry result }
 {
-    let with_both = zoned(keyed(told.ask, operands), operands.zone);
-    dated(with_both, told.beside.day)
+    let with_both = zoned(keyed(parsed.ask, operands), operands.zone);
+    dated(with_both, parsed.options.day)
 }

@@ -8,24 +8,24 @@ ghost use Rattle.rd_program.specs.Leaves.{GivesBack};
 ghost use Rattle.rd_commands.specs.Output.{IsFlushed, AppendsPart};
 ghost use Rattle.rd_commands.specs.Printed.{refusal_line};
 ghost use Rattle.rd_commands.specs.Refusals.{status_of};
-ghost use Rattle.rd_commands.specs.Told.{TellsAll};
-ghost use Rattle.rd_commands.specs.Beside.{IsPlain};
-ghost use Rattle.rd_program.specs.Does.{Does, DoesTold, EndsEarly, Runs, io_of};
-ghost use Rattle.rd_program.specs.Promises.{EndsByWords, EndsUntold, KeepsMachine, ReadsInput};
+ghost use Rattle.rd_commands.specs.Parsed.{TellsAll};
+ghost use Rattle.rd_commands.specs.CommonOptions.{IsPlain};
+ghost use Rattle.rd_program.specs.Does.{Does, DoesParsed, EndsEarly, Runs, io_of};
+ghost use Rattle.rd_program.specs.Promises.{EndsByWords, EndsUnparsed, KeepsMachine, ReadsInput};
 ghost use Rattle.rd_program.specs.Promises.{TellsOfItself, WritesByStatus, texts};
 
 use crate::completing::{completed, read_operands};
 use crate::copy::copy;
 use crate::export_check::ask_once;
 use crate::extract::extract;
-use crate::import::{Way, import};
+use crate::import::{ImportFlags, import};
 use crate::init::init;
 use crate::machine::Machine;
 use crate::serve::serve;
 use crate::staff_key::staff_key;
 use rd_commands::cat::cat;
 use rd_commands::list::list;
-use rd_commands::{Ask, Done, Refusal, Told, read_words, tell_refusal, tell_unread, whole};
+use rd_commands::{Ask, Done, Parsed, Refusal, read_words, tell_refusal, tell_unread, whole};
 use std::alloc::Global;
 use std::io::{Read, Write};
 
@@ -43,7 +43,7 @@ fn perform<R: Read, W: Write, M: Machine>(
         (W.contents output.new) ⊎ (TellsInRows ask.entry ⊎ IsExtraction ask.entry)) }
     ensures in_part { IfOk result (λ done. done ≡ Done.InPart → TellsOnOutput ask.entry) }
     ensures flushed { OnOk result (IsFlushed M.flushed (W.contents output.old) (W.contents output.new)) }
-    ensures does { Does M.Disk.Store M.Door.told M.Door.coming (M.seen machine.old) (M.seen machine.new)
+    ensures does { Does M.Disk.Store M.Door.so_far M.Door.coming (M.seen machine.old) (M.seen machine.new)
         (io_of (R.remaining input.old) (W.contents output.old) (W.contents output.new)) ask.entry result }
     ensures back { GivesBack (M.seen machine.old).shows (M.seen machine.old).left (M.seen machine.new).left }
     ensures limit { ReadsUpTo (most_read ask.entry) (R.remaining input.old) (R.remaining input.new) }
@@ -54,18 +54,18 @@ fn perform<R: Read, W: Write, M: Machine>(
         Ask::Init(ask) => whole(init(ask, output, machine)),
         Ask::Serve(ask) => whole(serve(alloc, ask, output, machine)),
         Ask::Import(ask) => {
-            let way = Way {
+            let flags = ImportFlags {
                 dry_run: false,
                 keep_going: false,
             };
-            import(alloc, ask, way, output, machine)
+            import(alloc, ask, flags, output, machine)
         }
-        Ask::Sift(ask) => {
-            let way = Way {
+        Ask::FlaggedImport(ask) => {
+            let flags = ImportFlags {
                 dry_run: ask.dry_run,
                 keep_going: ask.keep_going,
             };
-            import(alloc, ask.import, way, output, machine)
+            import(alloc, ask.import, flags, output, machine)
         }
         Ask::Extract(ask) => whole(extract(alloc, ask, input, output, machine)),
         Ask::OneQuestion(ask) => ask_once(alloc, ask, output, machine),
@@ -79,70 +79,70 @@ fn perform<R: Read, W: Write, M: Machine>(
 /// and then as `perform` does: so a day that the clocks never show is refused after the store is open.
 fn perform_completed<R: Read, W: Write, M: Machine>(
     alloc: Global,
-    told: Told,
+    parsed: Parsed,
     input: &mut R,
     output: &mut W,
     machine: &mut M,
 ) -> Result<Done, Refusal>
-    requires accession { IsWithinLimits told.ask }
-    requires of_store { most_read told.ask ≡ 0 }
+    requires accession { IsWithinLimits parsed.ask }
+    requires of_store { most_read parsed.ask ≡ 0 }
     ensures never { IfErr result (λ refusal. status_of refusal ≢ 2) }
     ensures kept { IfErr result (λ refusal. status_of refusal ≡ 1 → Keeps (W.contents output.old)
-        (W.contents output.new) ⊎ (TellsInRows told.entry.ask ⊎ IsExtraction told.entry.ask)) }
-    ensures in_part { IfOk result (λ done. done ≡ Done.InPart → TellsOnOutput told.entry.ask) }
+        (W.contents output.new) ⊎ (TellsInRows parsed.entry.ask ⊎ IsExtraction parsed.entry.ask)) }
+    ensures in_part { IfOk result (λ done. done ≡ Done.InPart → TellsOnOutput parsed.entry.ask) }
     ensures flushed { OnOk result (IsFlushed M.flushed (W.contents output.old) (W.contents output.new)) }
     ensures back { GivesBack (M.seen machine.old).shows (M.seen machine.old).left (M.seen machine.new).left }
     ensures limit { ReadsUpTo (size_of kinds.Cpm8 + 1) (R.remaining input.old) (R.remaining input.new) }
-    ensures completed { DoesTold M.Disk.Store M.Door.told M.Door.coming (M.seen machine.old)
+    ensures completed { DoesParsed M.Disk.Store M.Door.so_far M.Door.coming (M.seen machine.old)
         (M.seen machine.new) (io_of (R.remaining input.old) (W.contents output.old) (W.contents output.new))
-        told.entry result ⊎ EndsEarly (M.seen machine.old) (M.seen machine.new)
+        parsed.entry result ⊎ EndsEarly (M.seen machine.old) (M.seen machine.new)
         (io_of (R.remaining input.old) (W.contents output.old) (W.contents output.new)) result }
 {
-    match read_operands(alloc, &told, input, machine) {
+    match read_operands(alloc, &parsed, input, machine) {
         Ok(operands) => {
-            let ask = completed(told, &operands);
+            let ask = completed(parsed, &operands);
             perform(alloc, ask, input, output, machine)
         }
         Err(refused) => Err(refused),
     }
 }
 
-/// Does what the words of a command tell. It fails as `perform_completed` does where operands stand in files
-/// or a day in place of a moment, and otherwise as `perform` does.
-fn perform_told<R: Read, W: Write, M: Machine>(
+/// Does what the words of a command ask for. It fails as `perform_completed` does where operands stand in
+/// files or a day in place of a moment, and otherwise as `perform` does.
+fn perform_parsed<R: Read, W: Write, M: Machine>(
     alloc: Global,
-    told: Told,
+    parsed: Parsed,
     input: &mut R,
     output: &mut W,
     machine: &mut M,
 ) -> Result<Done, Refusal>
-    requires accession { IsWithinLimits told.ask }
-    requires of_store { ¬ IsPlain told.beside → most_read told.ask ≡ 0 }
+    requires accession { IsWithinLimits parsed.ask }
+    requires of_store { ¬ IsPlain parsed.options → most_read parsed.ask ≡ 0 }
     ensures never { IfErr result (λ refusal. status_of refusal ≢ 2) }
     ensures kept { IfErr result (λ refusal. status_of refusal ≡ 1 → Keeps (W.contents output.old)
-        (W.contents output.new) ⊎ (TellsInRows told.entry.ask ⊎ IsExtraction told.entry.ask)) }
-    ensures in_part { IfOk result (λ done. done ≡ Done.InPart → TellsOnOutput told.entry.ask) }
+        (W.contents output.new) ⊎ (TellsInRows parsed.entry.ask ⊎ IsExtraction parsed.entry.ask)) }
+    ensures in_part { IfOk result (λ done. done ≡ Done.InPart → TellsOnOutput parsed.entry.ask) }
     ensures flushed { OnOk result (IsFlushed M.flushed (W.contents output.old) (W.contents output.new)) }
     ensures back { GivesBack (M.seen machine.old).shows (M.seen machine.old).left (M.seen machine.new).left }
     ensures limit { ReadsUpTo (size_of kinds.Cpm8 + 1) (R.remaining input.old) (R.remaining input.new) }
-    ensures limit_plain { IsPlain told.entry.beside
-        → ReadsUpTo (most_read told.entry.ask) (R.remaining input.old) (R.remaining input.new) }
-    ensures so { DoesTold M.Disk.Store M.Door.told M.Door.coming (M.seen machine.old) (M.seen machine.new)
-        (io_of (R.remaining input.old) (W.contents output.old) (W.contents output.new)) told.entry result
+    ensures limit_plain { IsPlain parsed.entry.options
+        → ReadsUpTo (most_read parsed.entry.ask) (R.remaining input.old) (R.remaining input.new) }
+    ensures so { DoesParsed M.Disk.Store M.Door.so_far M.Door.coming (M.seen machine.old) (M.seen machine.new)
+        (io_of (R.remaining input.old) (W.contents output.old) (W.contents output.new)) parsed.entry result
         ⊎ EndsEarly (M.seen machine.old) (M.seen machine.new)
         (io_of (R.remaining input.old) (W.contents output.old) (W.contents output.new)) result }
 {
-    if told.beside.is_plain() {
-        return perform(alloc, told.ask, input, output, machine);
+    if parsed.options.is_plain() {
+        return perform(alloc, parsed.ask, input, output, machine);
     }
-    perform_completed(alloc, told, input, output, machine)
+    perform_completed(alloc, parsed, input, output, machine)
 }
 
-/// What a run was told, and why it ended so: what an explanation begins with.
+/// What a run read in its words, and why it ended so: what an explanation begins with.
 #[derive(Clone, Copy, Debug)]
 pub struct Why<'a> {
-    /// What the words tell; `None` if they are no command.
-    pub told: Option<Told<'a>>,
+    /// The command and its options; `None` if the words are no command.
+    pub parsed: Option<Parsed<'a>>,
     /// Why the command was refused; `None` if it was not.
     pub refused: Option<Refusal>,
 }
@@ -150,7 +150,7 @@ pub struct Why<'a> {
 impl Why<'_> {
     /// Of a run that has not begun.
     pub const UNKNOWN: Why<'static> = Why {
-        told: None,
+        parsed: None,
         refused: None,
     };
 }
@@ -160,7 +160,7 @@ fn tell_and_keep<E: Write>(refused: Refusal, errors: &mut E, why: &mut Why<'_>) 
     ensures status { result ≡ status_of refused }
     ensures written { AppendsPart (E.contents errors.old) (E.contents errors.new) (refusal_line refused) }
     ensures kept { why.new.refused ≡ Some refused }
-    ensures told { why.new.told ≡ why.old.told }
+    ensures parsed { why.new.parsed ≡ why.old.parsed }
 {
     why.refused = Some(refused);
     tell_refusal(refused, errors)
@@ -193,21 +193,21 @@ pub fn run<'a, R: Read, W: Write, E: Write, M: Machine>(
         (W.contents output.old) (W.contents output.new) (E.contents errors.old) (E.contents errors.new) }
     // Where the run keeps why a command was refused, that has this status.
     ensures why { why.old.refused ≡ None → IfSome why.new.refused (λ refusal. status_of refusal ≡ result) }
-    // What it keeps of the words is what they tell, operands in files and days in place of moments too. It
+    // What it keeps of the words is what they say, operands in files and days in place of moments too. It
     // did that, once the files were read, or was refused, with the status and line of that. Where it keeps
     // nothing, they are a mistake, ask for help or the version, or memory ran out; the machine is as it was.
-    ensures told { why.old.told ≡ None → IfSome why.new.told (TellsAll (texts words.entry.now)) }
-    ensures so { why.old.told ≡ None → IfSome why.new.told
-        (λ told. Runs M.Disk.Store M.Door.told M.Door.coming (M.seen machine.old) (M.seen machine.new)
+    ensures parsed { why.old.parsed ≡ None → IfSome why.new.parsed (TellsAll (texts words.entry.now)) }
+    ensures so { why.old.parsed ≡ None → IfSome why.new.parsed
+        (λ parsed. Runs M.Disk.Store M.Door.so_far M.Door.coming (M.seen machine.old) (M.seen machine.new)
         (io_of (R.remaining input.old) (W.contents output.old) (W.contents output.new))
-        (E.contents errors.old) (E.contents errors.new) told result) }
-    ensures untold { why.old.told ≡ None → why.new.told ≡ None → (machine.new ≡ machine.old)
-        × EndsUntold (texts words.entry.now) result (E.contents errors.old) (E.contents errors.new) }
+        (E.contents errors.old) (E.contents errors.new) parsed result) }
+    ensures unparsed { why.old.parsed ≡ None → why.new.parsed ≡ None → (machine.new ≡ machine.old)
+        × EndsUnparsed (texts words.entry.now) result (E.contents errors.old) (E.contents errors.new) }
 {
     match read_words(alloc, words) {
-        Ok(told) => {
-            why.told = Some(told);
-            match perform_told(alloc, told, input, output, machine) {
+        Ok(parsed) => {
+            why.parsed = Some(parsed);
+            match perform_parsed(alloc, parsed, input, output, machine) {
                 Ok(done) => done.status(),
                 Err(refused) => tell_and_keep(refused, errors, why),
             }

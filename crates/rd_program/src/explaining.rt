@@ -4,14 +4,14 @@ ghost use Rattle.std.specs.Prelude.{◌≡◌, IfSome, None, false};
 ghost use Rattle.std.specs.Io.KnownBytes.{Keeps};
 ghost use Rattle.rd_commands.specs.Explaining.{GainsLines};
 ghost use Rattle.rd_program.specs.Explaining as spec;
-ghost use Rattle.rd_explanations.specs.Noted.{IsQuiet};
+ghost use Rattle.rd_explanations.specs.Notes.{IsQuiet};
 ghost use Rattle.rd_explanations.specs.declared.words.Advice.TheVariants as advice;
 
 use crate::dispatch::Why;
 use crate::machine::Machine;
 use csv::{ByteRecord, ReaderBuilder};
 use rd_commands::{
-    Ask, Beside, Files, ImageAsk, ImportAsk, Place, Question, Refusal, SystemFault, Told,
+    Ask, CommonOptions, Files, ImageAsk, ImportAsk, Parsed, Place, Question, Refusal, SystemFault,
     is_header, next_row, tell_notes,
 };
 use rd_explanations::{Advice, Fault, Line, Notes, Reason, Said, Unusable, kind_that_fits};
@@ -34,13 +34,10 @@ enum Heard {
 
 /// Whether a refused command was to serve at a socket of this path.
 fn is_socket(ask: &Ask, refused: Refusal, path: &str) -> bool {
-    match ask {
-        Ask::Serve(ask) => match ask.place {
-            Place::Socket(socket) => refused == Refusal::Device && path == socket,
-            Place::Port(_) => false,
-        },
-        _ => false,
-    }
+    let Ask::Serve(ask) = ask else {
+        return false;
+    };
+    refused == Refusal::Device && matches!(ask.place, Place::Socket(socket) if path == socket)
 }
 
 /// Whether a refused command makes something new at a path: a file in a folder, a store, or a socket.
@@ -54,41 +51,38 @@ fn is_new(ask: &Ask, refused: Refusal, path: &str) -> bool {
 }
 
 /// Whether a refused command was to make something at a path, and reads no key and no zone there.
-fn is_made(told: &Told, refused: Refusal, path: &str) -> bool {
-    if told.beside.key_file == Some(path) || told.beside.zone_file == Some(path) {
+fn is_made(parsed: &Parsed, refused: Refusal, path: &str) -> bool {
+    if parsed.options.key_file == Some(path) || parsed.options.zone_file == Some(path) {
         return false;
     }
-    is_new(&told.ask, refused, path)
+    is_new(&parsed.ask, refused, path)
 }
 
 /// Whether a command serves at a port, and what a machine was asked for is that place.
 fn is_port(ask: &Ask, path: &str) -> bool {
-    match ask {
-        Ask::Serve(ask) => match ask.place {
-            Place::Port(_) => path != ask.store && path.starts_with("port "),
-            Place::Socket(_) => false,
-        },
-        _ => false,
-    }
+    let Ask::Serve(ask) = ask else {
+        return false;
+    };
+    matches!(ask.place, Place::Port(_)) && path != ask.store && path.starts_with("port ")
 }
 
 /// What the system said of a path: of one that a command makes and that is missing, that its folder is; of
 /// one that is to be a socket and is taken, that something stands there already.
-fn said_of(told: &Told, refused: Refusal, path: &str, said: Said) -> Said {
+fn said_of(parsed: &Parsed, refused: Refusal, path: &str, said: Said) -> Said {
     match said {
-        Said::Missing if is_made(told, refused, path) => Said::NoRoom,
-        Said::Taken if is_socket(&told.ask, refused, path) => Said::Standing,
+        Said::Missing if is_made(parsed, refused, path) => Said::NoRoom,
+        Said::Taken if is_socket(&parsed.ask, refused, path) => Said::Standing,
         said => said,
     }
 }
 
 /// What to do after what the system said of a path or a place.
-fn advice_on(told: &Told, refused: Refusal, path: &str, said: Said) -> Option<Advice> {
+fn advice_on(parsed: &Parsed, refused: Refusal, path: &str, said: Said) -> Option<Advice> {
     match said {
         Said::NoRoom => Some(Advice::MakeFolder),
-        Said::NoFolder if is_made(told, refused, path) => Some(Advice::MakeFolder),
-        Said::Denied if is_port(&told.ask, path) => Some(Advice::OtherPlace),
-        Said::Standing if is_socket(&told.ask, refused, path) => Some(Advice::FreshPath),
+        Said::NoFolder if is_made(parsed, refused, path) => Some(Advice::MakeFolder),
+        Said::Denied if is_port(&parsed.ask, path) => Some(Advice::OtherPlace),
+        Said::Standing if is_socket(&parsed.ask, refused, path) => Some(Advice::FreshPath),
         Said::Missing | Said::Denied | Said::NoFolder => Some(Advice::CheckPath),
         Said::Folder => Some(Advice::FileInFolder),
         Said::Taken => Some(Advice::OtherPlace),
@@ -97,11 +91,11 @@ fn advice_on(told: &Told, refused: Refusal, path: &str, said: Said) -> Option<Ad
 }
 
 /// What to do after what the system said of the path of a store.
-fn advice_on_store(told: &Told, path: &str, said: Said) -> Option<Advice> {
-    let makes_it = is_made(told, Refusal::Store, path);
+fn advice_on_store(parsed: &Parsed, path: &str, said: Said) -> Option<Advice> {
+    let makes_it = is_made(parsed, Refusal::Store, path);
     match said {
         Said::Missing | Said::NoRoom | Said::Denied | Said::Folder | Said::NoFolder => {
-            advice_on(told, Refusal::Store, path, said)
+            advice_on(parsed, Refusal::Store, path, said)
         }
         Said::Unfit | Said::NoStore if makes_it => Some(Advice::FreshPath),
         Said::Unfit | Said::NoStore => Some(Advice::CheckStore),
@@ -113,16 +107,16 @@ fn advice_on_store(told: &Told, path: &str, said: Said) -> Option<Advice> {
 }
 
 /// Notes what the system said last, if the machine remembers it.
-fn note_system<M: Files>(told: &Told, refused: Refusal, machine: &M, notes: &mut Notes) -> Heard
+fn note_system<M: Files>(parsed: &Parsed, refused: Refusal, machine: &M, notes: &mut Notes) -> Heard
     ensures quiet { IsQuiet notes.old notes.new }
 {
     let Some(SystemFault { path, said }) = machine.last_fault() else {
         return Heard::Nothing;
     };
-    let said = said_of(told, refused, path.as_str(), said);
+    let said = said_of(parsed, refused, path.as_str(), said);
     let advised = match refused {
-        Refusal::Store => advice_on_store(told, path.as_str(), said),
-        _ => advice_on(told, refused, path.as_str(), said),
+        Refusal::Store => advice_on_store(parsed, path.as_str(), said),
+        _ => advice_on(parsed, refused, path.as_str(), said),
     };
     notes.add(Line::Path { path, said });
     match advised {
@@ -164,10 +158,8 @@ fn note_uncounted(alloc: Global, ask: &ImageAsk, notes: &mut Notes)
     let Ok(path) = String::from_str(alloc, name) else {
         return;
     };
-    notes.add(Line::OtherSize {
-        path,
-        kind: ask.kind,
-    });
+    let kind = ask.kind;
+    notes.add(Line::OtherSize { path, kind });
     notes.add(Line::Next(Advice::SaveFirst));
 }
 
@@ -250,13 +242,9 @@ fn known_key<M: Machine>(alloc: Global, path: Option<&str>, machine: &mut M) -> 
     if path == "-" || !machine.is_ordinary(path) {
         return Known::Nothing;
     }
-    let is_long = machine
-        .read_file(alloc, path)
-        .is_ok_and(|bytes| bytes.len() > KEY_FILE_LIMIT);
-    if is_long {
-        Known::Faulty(Unusable::LongKey)
-    } else {
-        Known::Fine
+    match machine.read_file(alloc, path) {
+        Ok(bytes) if bytes.len() > KEY_FILE_LIMIT => Known::Faulty(Unusable::LongKey),
+        _ => Known::Fine,
     }
 }
 
@@ -326,17 +314,15 @@ fn note_known(alloc: Global, path: Option<&str>, known: Known, notes: &mut Notes
 fn note_unknown_key(alloc: Global, path: Option<&str>, notes: &mut Notes)
     ensures quiet { IsQuiet notes.old notes.new }
 {
-    let Some(path) = path else {
-        return;
-    };
     match path {
-        "-" => note_operand(alloc, "standard input", Unusable::NoKey, notes),
-        path => note_operand(alloc, path, Unusable::LongKey, notes),
+        Some("-") => note_operand(alloc, "standard input", Unusable::NoKey, notes),
+        Some(path) => note_operand(alloc, path, Unusable::LongKey, notes),
+        None => {}
     }
 }
 
 /// Notes which files may be wrong, where nothing else is known. It blames neither of two.
-fn note_unknown(alloc: Global, beside: &Beside, key: Known, zone: Known, notes: &mut Notes)
+fn note_unknown(alloc: Global, options: &CommonOptions, key: Known, zone: Known, notes: &mut Notes)
     ensures quiet { IsQuiet notes.old notes.new }
 {
     match (key, zone) {
@@ -344,9 +330,9 @@ fn note_unknown(alloc: Global, beside: &Beside, key: Known, zone: Known, notes: 
             notes.add(Line::Next(Advice::KeyAlone));
             notes.add(Line::Next(Advice::ZoneFile));
         }
-        (Known::Nothing, _) => note_unknown_key(alloc, beside.key_file, notes),
+        (Known::Nothing, _) => note_unknown_key(alloc, options.key_file, notes),
         (_, Known::Nothing) => {
-            if let Some(path) = beside.zone_file {
+            if let Some(path) = options.zone_file {
                 note_operand(alloc, path, Unusable::Unknown, notes);
             }
         }
@@ -354,11 +340,10 @@ fn note_unknown(alloc: Global, beside: &Beside, key: Known, zone: Known, notes: 
     }
 }
 
-/// Notes that a file with a key is too long, and that a file with a zone is none; or, where nothing else is
-/// known, that one may be so which cannot be read again.
+/// Notes that the file of a key is too long, or that of a zone has no rule; else which one may be so.
 fn note_operands<M: Machine>(
     alloc: Global,
-    beside: &Beside,
+    options: &CommonOptions,
     heard: Heard,
     machine: &mut M,
     notes: &mut Notes,
@@ -366,28 +351,28 @@ fn note_operands<M: Machine>(
     ensures quiet { IsQuiet notes.old notes.new }
     ensures same { machine.new ≡ machine.old }
 {
-    let key = known_key(alloc, beside.key_file, machine);
-    let zone = known_zone(alloc, beside.zone_file, machine);
-    let has_no_key = note_known(alloc, beside.key_file, key, notes);
-    let has_no_zone = note_known(alloc, beside.zone_file, zone, notes);
+    let key = known_key(alloc, options.key_file, machine);
+    let zone = known_zone(alloc, options.zone_file, machine);
+    let has_no_key = note_known(alloc, options.key_file, key, notes);
+    let has_no_zone = note_known(alloc, options.zone_file, zone, notes);
     if heard == Heard::Nothing && !has_no_key && !has_no_zone {
-        note_unknown(alloc, beside, key, zone, notes);
+        note_unknown(alloc, options, key, zone, notes);
     }
 }
 
 /// Whether a command goes by the machine's clock, and is refused where that is long before a recorded check.
-fn goes_by_clock(told: &Told) -> bool {
-    let when = match told.ask {
+fn goes_by_clock(parsed: &Parsed) -> bool {
+    let when = match parsed.ask {
         Ask::Serve(ask) => return !ask.is_trusting,
         Ask::Import(ask) => ask.when,
-        Ask::Sift(ask) => ask.import.when,
+        Ask::FlaggedImport(ask) => ask.import.when,
         Ask::OneQuestion(ask) => match ask.question {
             Question::Show(_) => return false,
             _ => ask.when,
         },
         _ => return false,
     };
-    told.beside.day.is_none() && when.seconds.is_none() && !when.is_trusting
+    parsed.options.day.is_none() && when.seconds.is_none() && !when.is_trusting
 }
 
 /// The seconds of the moment that a command names; `None` if it names none, or a day in place of one.
@@ -396,7 +381,7 @@ fn seconds_named(ask: &Ask) -> Option<i64>
 {
     match ask {
         Ask::Import(ask) => ask.when.seconds,
-        Ask::Sift(ask) => ask.import.when.seconds,
+        Ask::FlaggedImport(ask) => ask.import.when.seconds,
         Ask::OneQuestion(ask) => ask.when.seconds,
         _ => None,
     }
@@ -421,28 +406,28 @@ fn advice_on_moment(day: Option<i32>) -> Advice
 }
 
 /// What to do where the clock fails, or a moment has no day.
-fn advice_on_clock(told: &Told) -> Advice
-    ensures moment { IfSome (spec.seconds_named told.now.ask)
-        (λ _. told.now.beside.day ≡ None → result ≡ advice.MomentLimits) }
-    ensures day { IfSome told.now.beside.day (λ day. spec.IsSureDay day → result ≡ advice.ShownDay) }
-    ensures far { IfSome told.now.beside.day (λ day. ¬ spec.IsSureDay day → result ≡ advice.MomentLimits) }
+fn advice_on_clock(parsed: &Parsed) -> Advice
+    ensures moment { IfSome (spec.seconds_named parsed.now.ask)
+        (λ _. parsed.now.options.day ≡ None → result ≡ advice.MomentLimits) }
+    ensures day { IfSome parsed.now.options.day (λ day. spec.IsSureDay day → result ≡ advice.ShownDay) }
+    ensures far { IfSome parsed.now.options.day (λ day. ¬ spec.IsSureDay day → result ≡ advice.MomentLimits) }
 {
-    let day = told.beside.day;
-    if day.is_some() || seconds_named(&told.ask).is_some() {
+    let day = parsed.options.day;
+    if day.is_some() || seconds_named(&parsed.ask).is_some() {
         return advice_on_moment(day);
     }
-    match told.ask {
+    match parsed.ask {
         Ask::Serve(_) => Advice::SetClock,
         _ => Advice::OtherMoment,
     }
 }
 
 /// Notes what to do about a clock or a moment.
-fn note_clock(told: &Told, notes: &mut Notes)
+fn note_clock(parsed: &Parsed, notes: &mut Notes)
     ensures quiet { IsQuiet notes.old notes.new }
 {
-    notes.add(Line::Next(advice_on_clock(told)));
-    if goes_by_clock(told) {
+    notes.add(Line::Next(advice_on_clock(parsed)));
+    if goes_by_clock(parsed) {
         notes.add(Line::Next(Advice::TrustClock));
     }
 }
@@ -513,7 +498,9 @@ fn note_files<M: Machine>(
         (Ask::Files(ask), Refusal::WrongSize) => note_size(alloc, ask, machine, notes),
         (Ask::Extract(ask), Refusal::WrongSize) => note_size(alloc, &ask.image, machine, notes),
         (Ask::Import(ask), Refusal::BadSheet) => note_sheet(alloc, ask, machine, notes),
-        (Ask::Sift(ask), Refusal::BadSheet) => note_sheet(alloc, &ask.import, machine, notes),
+        (Ask::FlaggedImport(ask), Refusal::BadSheet) => {
+            note_sheet(alloc, &ask.import, machine, notes);
+        }
         _ => {}
     }
 }
@@ -529,18 +516,18 @@ fn advice_after(ask: &Ask, refused: Refusal, heard: Heard) -> Option<Advice> {
 }
 
 /// Notes what to do next, where the system's word has not said it.
-fn note_next(told: &Told, refused: Refusal, heard: Heard, notes: &mut Notes)
+fn note_next(parsed: &Parsed, refused: Refusal, heard: Heard, notes: &mut Notes)
     ensures quiet { IsQuiet notes.old notes.new }
 {
-    match (told.ask, refused, heard) {
+    match (parsed.ask, refused, heard) {
         (_, Refusal::Store | Refusal::NoMemory | Refusal::Device, Heard::Advice) => return,
         (Ask::Copy(_), Refusal::Store | Refusal::NoMemory | Refusal::Device, _) => {
             notes.add(Line::Next(Advice::CopyAnew));
         }
-        (_, Refusal::Clock, _) => note_clock(told, notes),
+        (_, Refusal::Clock, _) => note_clock(parsed, notes),
         _ => {}
     }
-    if let Some(advice) = advice_after(&told.ask, refused, heard) {
+    if let Some(advice) = advice_after(&parsed.ask, refused, heard) {
         notes.add(Line::Next(advice));
     }
 }
@@ -556,16 +543,13 @@ fn note_rows<M: Files>(alloc: Global, machine: &M, notes: &mut Notes)
 
 /// The number of the first deed that a row names and the desk does not have.
 fn missing_deed(lines: &[Line]) -> Option<u32> {
-    for line in lines {
-        if let Line::Row {
+    lines.iter().find_map(|line| match line {
+        Line::Row {
             reason: Reason::NoDeed(deed),
             ..
-        } = line
-        {
-            return Some(*deed);
-        }
-    }
-    None
+        } => Some(*deed),
+        _ => None,
+    })
 }
 
 /// Notes what to do about a deed that the desk does not have, if a row names one.
@@ -582,19 +566,16 @@ fn note_deed(notes: &mut Notes)
 fn is_cut_short(ask: &Ask, notes: &Notes) -> bool {
     let keeps_going = match ask {
         Ask::Import(_) => false,
-        Ask::Sift(ask) => ask.keep_going,
+        Ask::FlaggedImport(ask) => ask.keep_going,
         _ => return false,
     };
-    match notes.lines.as_slice().last() {
-        Some(Line::Unread { .. }) => !keeps_going,
-        _ => false,
-    }
+    !keeps_going && matches!(notes.lines.as_slice().last(), Some(Line::Unread { .. }))
 }
 
 /// Notes why a command was refused, and what to do next.
 fn note_refusal<M: Machine>(
     alloc: Global,
-    told: &Told,
+    parsed: &Parsed,
     refused: Refusal,
     machine: &mut M,
     notes: &mut Notes,
@@ -604,37 +585,37 @@ fn note_refusal<M: Machine>(
 {
     // Where rows were taken, the files that the words name had been read.
     let has_rows = !notes.lines.is_empty();
-    let heard = note_system(told, refused, machine, notes);
-    note_files(alloc, &told.ask, refused, machine, notes);
+    let heard = note_system(parsed, refused, machine, notes);
+    note_files(alloc, &parsed.ask, refused, machine, notes);
     note_faults(refused, notes);
     if refused == Refusal::Exists && heard == Heard::Nothing {
-        note_standing(alloc, &told.ask, notes);
+        note_standing(alloc, &parsed.ask, notes);
     }
     if refused == Refusal::Device && !has_rows {
-        note_operands(alloc, &told.beside, heard, machine, notes);
+        note_operands(alloc, &parsed.options, heard, machine, notes);
     }
-    if refused == Refusal::Device && is_cut_short(&told.ask, notes) {
+    if refused == Refusal::Device && is_cut_short(&parsed.ask, notes) {
         notes.add(Line::Next(Advice::KeepGoing));
     }
-    note_next(told, refused, heard, notes);
+    note_next(parsed, refused, heard, notes);
 }
 
 /// Explains below its line why a run was refused, and which rows of a sheet were not done, if its words ask
 /// for that. It reads ordinary files that the words name once more, and leaves the machine as it was.
 pub fn explain<E: Write, M: Machine>(alloc: Global, why: &Why<'_>, machine: &mut M, errors: &mut E)
     ensures lines { GainsLines (E.contents errors.old) (E.contents errors.new) }
-    ensures silent { IfSome why.now.told (λ told. told.beside.explain ≡ false)
+    ensures silent { IfSome why.now.parsed (λ parsed. parsed.options.explain ≡ false)
         → Keeps (E.contents errors.old) (E.contents errors.new) }
     ensures same { machine.new ≡ machine.old }
 {
-    let Some(told) = why.told else {
+    let Some(parsed) = why.parsed else {
         return;
     };
     let mut notes = Notes::new(alloc);
-    notes.want(told.beside.explain);
+    notes.want(parsed.options.explain);
     note_rows(alloc, machine, &mut notes);
     if let Some(refused) = why.refused {
-        note_refusal(alloc, &told, refused, machine, &mut notes);
+        note_refusal(alloc, &parsed, refused, machine, &mut notes);
     }
     note_deed(&mut notes);
     tell_notes(alloc, &notes, errors);

@@ -143,7 +143,7 @@ fn tell_asked<S: Alter + Drop, W: Write, M: Machine>(
         desk.old.zone) (request_of (option_map sha256 (option_map (λ key. key.now) ask.now.key)) what) stood
         (W.contents output.old) (W.contents output.new)) desk.old.store desk.new.store) }
     ensures not_shown { (what : What) → what_to_show ask.now.question ≡ Some what
-        → IfErr result (RefusesShow (W.contents output.old) (W.contents output.new)) }
+        → IfErr result (RefusesShow what (W.contents output.old) (W.contents output.new)) }
     ensures found { (acc : ℕ) → IsCheckOf acc ask.now.question → IfOk result
         (λ done. OfDesk S.Store (Finds (IsDayAt (moment_of ask.now.when.seconds (M.seen machine.old).clock)
         desk.old.zone) (request_of (option_map sha256 (option_map (λ key. key.now) ask.now.key))

@@ -17,14 +17,14 @@ ghost use Rattle.rd_program.specs.World.{ChangesClock};
 ghost use Rattle.rd_program.specs.Leaves.{GivesBack, IsDayAt, IsSame, LeavesDesk, moment_of};
 ghost use Rattle.rd_program.specs.Leaves.{TakesFields, TakesRow, TakesUnlessDry};
 ghost use Rattle.rd_program.specs.Rows.{IsBadSheetDue};
-ghost use Rattle.rd_program.specs.Sifting as spec;
+ghost use Rattle.rd_program.specs.ImportedRows as spec;
 ghost use Rattle.rd_program.specs.Importing.{RefusesImport, RefusesRow, RefusesRows, TellsRow, TellsRows};
 ghost use Rattle.rd_program.specs.Importing.{accession_line, done_word as done_word_of, row_line};
-ghost use Rattle.rd_program.specs.Sifting.{CutsFate, SiftsOne, SiftsRows, StopsOne, StopsRows};
+ghost use Rattle.rd_program.specs.ImportedRows.{CutsOutcome, ImportsOne, ImportsRows, StopsOne, StopsRows};
 
 use crate::machine::{Machine, file_at, sheet_at};
-use crate::noted::{note_answer, note_bad_row};
 use crate::open_desk::{day_on_time, open_desk};
+use crate::row_notes::{note_answer, note_bad_row};
 use csv::{ByteRecord, ReaderBuilder};
 use rd_commands::{
     Done, ImportAsk, MachineFault, Refusal, RowNote, SheetRow, is_header, next_row, row_of,
@@ -45,8 +45,7 @@ struct Giver {
     day: i32,
 }
 
-/// Asks a desk to take in the image of a row, and gives its answer. It fails with `Unavailable` when the
-/// store fails or memory runs out.
+/// What a desk answers that is asked to take in a row's image; `Unavailable` if its store or memory fails.
 fn put_image<S: Alter + Drop>(
     alloc: Global,
     row: SheetRow,
@@ -111,9 +110,9 @@ fn tell_row<M: Machine, W: Write>(
     write_whole::<M, W>(output, line.as_bytes())
 }
 
-/// How the rows of a sheet are taken.
+/// The flags of `import`.
 #[derive(Clone, Copy)]
-pub(crate) struct Way {
+pub(crate) struct ImportFlags {
     /// Whether nothing is taken in.
     pub(crate) dry_run: bool,
     /// Whether it goes on after a file that cannot be read.
@@ -122,7 +121,7 @@ pub(crate) struct Way {
 
 /// What became of a row, or of all rows.
 #[derive(Clone, Copy, PartialEq, Eq)]
-pub(crate) enum Fate {
+pub(crate) enum RowOutcome {
     /// It is done, or would be.
     Done,
     /// It is refused.
@@ -131,15 +130,15 @@ pub(crate) enum Fate {
     Lost,
 }
 
-impl Fate {
+impl RowOutcome {
     /// The worse of two.
-    fn worse(self, other: Fate) -> Fate
+    fn worse(self, other: RowOutcome) -> RowOutcome
         ensures { result ≡ spec.worse self other }
     {
         match (self, other) {
-            (Fate::Done, other) => other,
-            (Fate::Denied, Fate::Lost) | (Fate::Lost, _) => Fate::Lost,
-            (Fate::Denied, Fate::Done | Fate::Denied) => Fate::Denied,
+            (RowOutcome::Done, other) => other,
+            (RowOutcome::Denied, RowOutcome::Lost) | (RowOutcome::Lost, _) => RowOutcome::Lost,
+            (RowOutcome::Denied, RowOutcome::Done | RowOutcome::Denied) => RowOutcome::Denied,
         }
     }
 }
@@ -162,12 +161,12 @@ fn word_by(dry_run: bool, answer: &Response) -> &'static str
 }
 
 /// What became of a row, by the answer of the desk.
-fn fate_by(answer: &Response) -> Fate
-    ensures { result ≡ spec.fate_by answer.now }
+fn outcome_by(answer: &Response) -> RowOutcome
+    ensures { result ≡ spec.outcome_by answer.now }
 {
     match answer {
-        Response::Refused(_) => Fate::Denied,
-        _ => Fate::Done,
+        Response::Refused(_) => RowOutcome::Denied,
+        _ => RowOutcome::Done,
     }
 }
 
@@ -177,7 +176,7 @@ fn answer_to_row<M: Machine>(
     alloc: Global,
     row: SheetRow,
     bytes: Vec<u8>,
-    way: Way,
+    flags: ImportFlags,
     giver: Giver,
     desk: &mut Desk<M::Disk>,
     shelf: &mut Shelf,
@@ -185,14 +184,14 @@ fn answer_to_row<M: Machine>(
     requires day { IsDay giver.day }
     requires within { IsWithin row }
     ensures zone { desk.new.zone ≡ desk.old.zone }
-    ensures dry { way.dry_run ≡ true → Reads M.Disk.Store desk.old.store desk.new.store result
+    ensures dry { flags.dry_run ≡ true → Reads M.Disk.Store desk.old.store desk.new.store result
         (WouldAnswer shelf.old.images.items shelf.new.images.items (desk_in M.Disk.Store desk.old.store)
         giver.badge (spec.shelved_row row.entry) bytes.items) }
-    ensures wet { way.dry_run ≡ false → Responds M.Disk.Store desk.old.store desk.new.store giver.day
+    ensures wet { flags.dry_run ≡ false → Responds M.Disk.Store desk.old.store desk.new.store giver.day
         (spec.put_of giver.badge row.entry bytes.items) result }
-    ensures shelf { way.dry_run ≡ false → shelf.new.images.items ≡ shelf.old.images.items }
+    ensures shelf { flags.dry_run ≡ false → shelf.new.images.items ≡ shelf.old.images.items }
 {
-    if !way.dry_run {
+    if !flags.dry_run {
         return put_image(alloc, row, bytes, giver, desk);
     }
     let digest = row.digest;
@@ -211,13 +210,13 @@ fn row_bytes<M: Machine>(
     alloc: Global,
     file: &str,
     number: u64,
-    way: Way,
+    flags: ImportFlags,
     machine: &mut M,
 ) -> Result<Option<Vec<u8>>, Refusal>
     ensures read { IfOk result (λ found. IfSome found
         (λ bytes. IfSome ((M.seen machine.old).files file.now) (λ shown. bytes.items ≡ shown))) }
-    ensures lost { IfOk result (λ found. IfNone found (way.keep_going ≡ true)) }
-    ensures goes_on { way.keep_going ≡ true → IfErr result (λ refusal. refusal ≡ Refusal.NoMemory) }
+    ensures lost { IfOk result (λ found. IfNone found (flags.keep_going ≡ true)) }
+    ensures goes_on { flags.keep_going ≡ true → IfErr result (λ refusal. refusal ≡ Refusal.NoMemory) }
     ensures same { machine.new ≡ machine.old }
     ensures refused { IfErr result IsDeviceOrMemory }
 {
@@ -226,7 +225,7 @@ fn row_bytes<M: Machine>(
         Err(fault) => fault,
     };
     machine.note_row(number, RowNote::Unread);
-    if way.keep_going && fault == MachineFault::Failed {
+    if flags.keep_going && fault == MachineFault::Failed {
         return Ok(None);
     }
     Err(fault.or(Refusal::Device))
@@ -234,16 +233,17 @@ fn row_bytes<M: Machine>(
 
 /// Writes a line with what a desk answers about an accession, or would answer. It fails with `Store` when
 /// there is no answer, with `NoMemory`, and with `Device` when a write or the flush fails.
-fn tell_fate<M: Machine, W: Write>(
+fn tell_outcome<M: Machine, W: Write>(
     alloc: Global,
     acc: u32,
     dry_run: bool,
     answer: Result<Response, Unavailable>,
     output: &mut W,
-) -> Result<Fate, Refusal>
+) -> Result<RowOutcome, Refusal>
     ensures written { IfOk result
-        (spec.TellsFate acc dry_run answer (W.contents output.old) (W.contents output.new)) }
-    ensures cut { OnErr result (CutsFate acc dry_run answer (W.contents output.old) (W.contents output.new)) }
+        (spec.TellsOutcome acc dry_run answer (W.contents output.old) (W.contents output.new)) }
+    ensures cut { OnErr result
+        (CutsOutcome acc dry_run answer (W.contents output.old) (W.contents output.new)) }
     ensures flushed { OnOk result (IsTrue (M.flushed (W.contents output.new))) }
     ensures refused { IfErr result (RefusesRow (W.contents output.old) (W.contents output.new)) }
 {
@@ -251,48 +251,48 @@ fn tell_fate<M: Machine, W: Write>(
         return Err(Refusal::Store);
     };
     tell_accession::<M, W>(alloc, acc, word_by(dry_run, &answer), output)?;
-    Ok(fate_by(&answer))
+    Ok(outcome_by(&answer))
 }
 
-/// Takes a row, and writes its line. Rows are counted from 1. It fails as `row_bytes` and `tell_fate` do.
+/// Takes a row, and writes its line. Rows are counted from 1. It fails as `row_bytes` and `tell_outcome` do.
 fn import_row<W: Write, M: Machine>(
     alloc: Global,
     row: SheetRow,
     number: u64,
-    way: Way,
+    flags: ImportFlags,
     giver: Giver,
     desk: &mut Desk<M::Disk>,
     shelf: &mut Shelf,
     output: &mut W,
     machine: &mut M,
-) -> Result<Fate, Refusal>
+) -> Result<RowOutcome, Refusal>
     requires day { IsDay giver.day }
     requires within { IsWithin row }
     ensures zone { desk.new.zone ≡ desk.old.zone }
     ensures same { machine.new ≡ machine.old }
-    ensures dry { way.dry_run ≡ true → LeavesDesk M.Disk.Store IsSame desk.old.store desk.new.store }
-    ensures wet { way.dry_run ≡ false → LeavesDesk M.Disk.Store (TakesRow giver.badge giver.day row.entry)
+    ensures dry { flags.dry_run ≡ true → LeavesDesk M.Disk.Store IsSame desk.old.store desk.new.store }
+    ensures wet { flags.dry_run ≡ false → LeavesDesk M.Disk.Store (TakesRow giver.badge giver.day row.entry)
         desk.old.store desk.new.store }
-    ensures row { IfOk result (λ fate. (fields : _) → Says fields row.entry
-        → SiftsOne M.Disk.Store Appends (M.seen machine.old).files way giver.badge giver.day number fields
-        fate shelf.old.images.items shelf.new.images.items (W.contents output.old) (W.contents output.new)
+    ensures row { IfOk result (λ outcome. (fields : _) → Says fields row.entry
+        → ImportsOne M.Disk.Store Appends (M.seen machine.old).files flags giver.badge giver.day number fields
+        outcome shelf.old.images.items shelf.new.images.items (W.contents output.old) (W.contents output.new)
         desk.old.store desk.new.store) }
     ensures stopped { OnErr result ((fields : _) → Says fields row.entry
-        → StopsOne M.Disk.Store (M.seen machine.old).files way giver.badge giver.day number
+        → StopsOne M.Disk.Store (M.seen machine.old).files flags giver.badge giver.day number
         fields shelf.old.images.items shelf.new.images.items (W.contents output.old) (W.contents output.new)
         desk.old.store desk.new.store) }
-    ensures written { IfOk result (TellsRow way.dry_run (W.contents output.old) (W.contents output.new)) }
+    ensures written { IfOk result (TellsRow flags.dry_run (W.contents output.old) (W.contents output.new)) }
     ensures flushed { OnOk result (IsTrue (M.flushed (W.contents output.new))) }
     ensures refused { IfErr result (RefusesRow (W.contents output.old) (W.contents output.new)) }
 {
-    let Some(bytes) = row_bytes(alloc, row.file, number, way, machine)? else {
+    let Some(bytes) = row_bytes(alloc, row.file, number, flags, machine)? else {
         tell_row::<M, W>(alloc, number, "device", output)?;
-        return Ok(Fate::Lost);
+        return Ok(RowOutcome::Lost);
     };
     let found = bytes.len();
-    let answer = answer_to_row::<M>(alloc, row, bytes, way, giver, desk, shelf);
+    let answer = answer_to_row::<M>(alloc, row, bytes, flags, giver, desk, shelf);
     note_answer(number, row, found, &answer, machine);
-    tell_fate::<M, W>(alloc, row.acc, way.dry_run, answer, output)
+    tell_outcome::<M, W>(alloc, row.acc, flags.dry_run, answer, output)
 }
 
 /// Takes the row with these fields, counted from 1, and writes its line. It fails as `import_row` does.
@@ -300,35 +300,38 @@ fn import_fields<W: Write, M: Machine>(
     alloc: Global,
     fields: &ByteRecord,
     number: u64,
-    way: Way,
+    flags: ImportFlags,
     giver: Giver,
     desk: &mut Desk<M::Disk>,
     shelf: &mut Shelf,
     output: &mut W,
     machine: &mut M,
-) -> Result<Fate, Refusal>
+) -> Result<RowOutcome, Refusal>
     requires day { IsDay giver.day }
     ensures zone { desk.new.zone ≡ desk.old.zone }
     ensures same { machine.new ≡ machine.old }
-    ensures dry { way.dry_run ≡ true → LeavesDesk M.Disk.Store IsSame desk.old.store desk.new.store }
-    ensures wet { way.dry_run ≡ false → LeavesDesk M.Disk.Store
+    ensures dry { flags.dry_run ≡ true → LeavesDesk M.Disk.Store IsSame desk.old.store desk.new.store }
+    ensures wet { flags.dry_run ≡ false → LeavesDesk M.Disk.Store
         (TakesFields giver.badge giver.day (fields_of fields.now)) desk.old.store desk.new.store }
-    ensures row { IfOk result (λ fate. SiftsOne M.Disk.Store Appends (M.seen machine.old).files way
-        giver.badge giver.day number (fields_of fields.now) fate shelf.old.images.items shelf.new.images.items
+    ensures row { IfOk result (λ outcome. ImportsOne M.Disk.Store Appends (M.seen machine.old).files flags
+        giver.badge giver.day number (fields_of fields.now) outcome shelf.old.images.items
+        shelf.new.images.items (W.contents output.old) (W.contents output.new)
+        desk.old.store desk.new.store) }
+    ensures stopped { OnErr result (StopsOne M.Disk.Store (M.seen machine.old).files flags giver.badge
+        giver.day number (fields_of fields.now) shelf.old.images.items shelf.new.images.items
         (W.contents output.old) (W.contents output.new) desk.old.store desk.new.store) }
-    ensures stopped { OnErr result (StopsOne M.Disk.Store (M.seen machine.old).files way giver.badge giver.day
-        number (fields_of fields.now) shelf.old.images.items shelf.new.images.items (W.contents output.old)
-        (W.contents output.new) desk.old.store desk.new.store) }
-    ensures written { IfOk result (TellsRow way.dry_run (W.contents output.old) (W.contents output.new)) }
+    ensures written { IfOk result (TellsRow flags.dry_run (W.contents output.old) (W.contents output.new)) }
     ensures flushed { OnOk result (IsTrue (M.flushed (W.contents output.new))) }
     ensures refused { IfErr result (RefusesRow (W.contents output.old) (W.contents output.new)) }
 {
     match row_of(fields) {
-        Some(row) => import_row(alloc, row, number, way, giver, desk, shelf, output, machine),
+        Some(row) => import_row(
+            alloc, row, number, flags, giver, desk, shelf, output, machine,
+        ),
         None => {
             note_bad_row(number, fields, machine);
             tell_row::<M, W>(alloc, number, "bad-row", output)?;
-            Ok(Fate::Denied)
+            Ok(RowOutcome::Denied)
         }
     }
 }
@@ -338,25 +341,25 @@ fn import_fields<W: Write, M: Machine>(
 fn import_rows<W: Write, M: Machine>(
     alloc: Global,
     sheet: &[u8],
-    way: Way,
+    flags: ImportFlags,
     giver: Giver,
     desk: &mut Desk<M::Disk>,
     output: &mut W,
     machine: &mut M,
-) -> Result<Fate, Refusal>
+) -> Result<RowOutcome, Refusal>
     requires day { IsDay giver.day }
     ensures zone { desk.new.zone ≡ desk.old.zone }
     ensures same { machine.new ≡ machine.old }
-    ensures takes { LeavesDesk M.Disk.Store (TakesUnlessDry way.dry_run giver.badge (λ day. day ≡ giver.day))
-        desk.old.store desk.new.store }
-    ensures rows { IfOk result (λ fate. SiftsRows M.Disk.Store (M.seen machine.old).files way giver.badge
-        giver.day sheet.now (W.contents output.old) (W.contents output.new) fate
+    ensures takes { LeavesDesk M.Disk.Store
+        (TakesUnlessDry flags.dry_run giver.badge (λ day. day ≡ giver.day)) desk.old.store desk.new.store }
+    ensures rows { IfOk result (λ outcome. ImportsRows M.Disk.Store (M.seen machine.old).files flags
+        giver.badge giver.day sheet.now (W.contents output.old) (W.contents output.new) outcome
         desk.old.store desk.new.store) }
-    ensures stopped { OnErr result (StopsRows M.Disk.Store (M.seen machine.old).files way giver.badge
+    ensures stopped { OnErr result (StopsRows M.Disk.Store (M.seen machine.old).files flags giver.badge
         giver.day sheet.now (W.contents output.old) (W.contents output.new) desk.old.store desk.new.store) }
     ensures flushed { OnOk result (IsFlushed M.flushed (W.contents output.old) (W.contents output.new)) }
     ensures bad_sheet { IfErr result (IsBadSheetDue sheet.now) }
-    ensures written { IfOk result (TellsRows way.dry_run (W.contents output.old) (W.contents output.new)) }
+    ensures written { IfOk result (TellsRows flags.dry_run (W.contents output.old) (W.contents output.new)) }
     ensures refused { IfErr result (RefusesRows (W.contents output.old) (W.contents output.new)) }
 {
     let mut reader = ReaderBuilder::new()
@@ -367,29 +370,29 @@ fn import_rows<W: Write, M: Machine>(
         return Err(Refusal::BadSheet);
     }
     let mut shelf = Shelf::new(alloc);
-    let mut fate = Fate::Done;
+    let mut outcome = RowOutcome::Done;
     for number in 1..u64::MAX {
         if !next_row(&mut reader, &mut fields)? {
-            return Ok(fate);
+            return Ok(outcome);
         }
         let row = import_fields(
-            alloc, &fields, number, way, giver, desk, &mut shelf, output, machine,
+            alloc, &fields, number, flags, giver, desk, &mut shelf, output, machine,
         )?;
-        fate = fate.worse(row);
+        outcome = outcome.worse(row);
     }
     // No memory holds a sheet of so many rows.
     Err(Refusal::NoMemory)
 }
 
 /// How the command ends, by what became of all rows. It fails with `Device` if a row's file was not readable.
-fn ended_by(fate: Fate) -> Result<Done, Refusal>
-    ensures ended { IfOk result (λ done. fate ≡ spec.fate_of done) }
-    ensures lost { IfErr result (λ refusal. (refusal ≡ Refusal.Device) × (fate ≡ Fate.Lost)) }
+fn ended_by(outcome: RowOutcome) -> Result<Done, Refusal>
+    ensures ended { IfOk result (λ done. outcome ≡ spec.rows_outcome done) }
+    ensures lost { IfErr result (λ refusal. (refusal ≡ Refusal.Device) × (outcome ≡ RowOutcome.Lost)) }
 {
-    match fate {
-        Fate::Done => Ok(Done::Whole),
-        Fate::Denied => Ok(Done::InPart),
-        Fate::Lost => Err(Refusal::Device),
+    match outcome {
+        RowOutcome::Done => Ok(Done::Whole),
+        RowOutcome::Denied => Ok(Done::InPart),
+        RowOutcome::Lost => Err(Refusal::Device),
     }
 }
 
@@ -400,7 +403,7 @@ fn ended_by(fate: Fate) -> Result<Done, Refusal>
 fn import_sheet<W: Write, M: Machine>(
     alloc: Global,
     ask: ImportAsk,
-    way: Way,
+    flags: ImportFlags,
     desk: &mut Desk<M::Disk>,
     output: &mut W,
     machine: &mut M,
@@ -408,19 +411,21 @@ fn import_sheet<W: Write, M: Machine>(
     ensures moment { AsksOn M.Disk.Store true ask.entry.when (M.seen machine.old).clock desk.old.zone
         desk.old.store desk.new.store result }
     ensures frame { ChangesClock (M.seen machine.old) (M.seen machine.new) }
-    ensures takes { LeavesDesk M.Disk.Store (TakesUnlessDry way.dry_run (sha256 ask.entry.key.now)
+    ensures takes { LeavesDesk M.Disk.Store (TakesUnlessDry flags.dry_run (sha256 ask.entry.key.now)
         (IsDayAt (moment_of ask.entry.when.seconds (M.seen machine.old).clock) desk.old.zone))
         desk.old.store desk.new.store }
-    ensures rows { IfOk result (λ done. spec.SiftsOn M.Disk.Store (M.seen machine.old).files
-        way (sha256 ask.entry.key.now) (IsDayAt (moment_of ask.entry.when.seconds (M.seen machine.old).clock)
-        desk.old.zone) ((M.seen machine.old).sheets ask.entry.sheet.now) (W.contents output.old)
-        (W.contents output.new) done desk.old.store desk.new.store) }
+    ensures rows { IfOk result (λ done. spec.ImportsOn M.Disk.Store (M.seen machine.old).files
+        flags (sha256 ask.entry.key.now)
+        (IsDayAt (moment_of ask.entry.when.seconds (M.seen machine.old).clock) desk.old.zone)
+        ((M.seen machine.old).sheets ask.entry.sheet.now) (W.contents output.old) (W.contents output.new)
+        done desk.old.store desk.new.store) }
     ensures stopped { OnErr result (spec.StopsOn M.Disk.Store (M.seen machine.old).files
-        way (sha256 ask.entry.key.now) (IsDayAt (moment_of ask.entry.when.seconds (M.seen machine.old).clock)
-        desk.old.zone) ((M.seen machine.old).sheets ask.entry.sheet.now) (W.contents output.old)
-        (W.contents output.new) desk.old.store desk.new.store) }
-    ensures written { IfOk result
-        (λ done. TellsRows way.dry_run (W.contents output.old) (W.contents output.new) (spec.fate_of done)) }
+        flags (sha256 ask.entry.key.now)
+        (IsDayAt (moment_of ask.entry.when.seconds (M.seen machine.old).clock) desk.old.zone)
+        ((M.seen machine.old).sheets ask.entry.sheet.now) (W.contents output.old) (W.contents output.new)
+        desk.old.store desk.new.store) }
+    ensures written { IfOk result (λ done. TellsRows flags.dry_run (W.contents output.old)
+        (W.contents output.new) (spec.rows_outcome done)) }
     ensures flushed { OnOk result (IsFlushed M.flushed (W.contents output.old) (W.contents output.new)) }
     ensures refused { IfErr result (RefusesImport (W.contents output.old) (W.contents output.new)) }
     ensures bad_sheet { IfErr result (λ refusal. IfSome ((M.seen machine.old).sheets ask.entry.sheet.now)
@@ -433,7 +438,7 @@ fn import_sheet<W: Write, M: Machine>(
     };
     let badge = Sha256::digest(ask.key);
     let giver = Giver { badge, day };
-    ended_by(import_rows(alloc, sheet.as_slice(), way, giver, desk, output, machine)?)
+    ended_by(import_rows(alloc, sheet.as_slice(), flags, giver, desk, output, machine)?)
 }
 
 /// Takes the images of a sheet into the desk in the file of a store, row by row, or tells what would become
@@ -442,18 +447,18 @@ fn import_sheet<W: Write, M: Machine>(
 pub(crate) fn import<W: Write, M: Machine>(
     alloc: Global,
     ask: ImportAsk,
-    way: Way,
+    flags: ImportFlags,
     output: &mut W,
     machine: &mut M,
 ) -> Result<Done, Refusal>
     ensures does { DoesImport M.Disk.Store (M.seen machine.old) (M.seen machine.new) (W.contents output.old)
-        (W.contents output.new) ask.entry way result }
+        (W.contents output.new) ask.entry flags result }
     ensures refused { IfErr result (RefusesImport (W.contents output.old) (W.contents output.new)) }
     ensures flushed { OnOk result (IsFlushed M.flushed (W.contents output.old) (W.contents output.new)) }
     ensures back { GivesBack (M.seen machine.old).shows (M.seen machine.old).left (M.seen machine.new).left }
 {
     let mut desk = open_desk(alloc, ask.store, ask.when.zone, machine)?;
-    let imported = import_sheet(alloc, ask, way, &mut desk, output, machine);
+    let imported = import_sheet(alloc, ask, flags, &mut desk, output, machine);
     machine.release(&mut Some(desk.into_store().into_connection()));
     imported
 }

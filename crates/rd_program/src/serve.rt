@@ -124,7 +124,7 @@ fn serve_visits<W: Write, M: Machine>(
         → IsSomeAnd (M.seen machine.new).limits (AreLimitsOf ask.entry.timeouts)) }
     ensures visits { IfOk result (λ served. IfSome ((M.seen machine.old).doors (place_of ask.entry.place))
         (λ before. IsSomeAnd ((M.seen machine.new).doors (place_of ask.entry.place)) (λ after.
-        RunsVisits M.Disk.Store M.Door.told M.Door.coming desk.old.zone before after served
+        RunsVisits M.Disk.Store M.Door.so_far M.Door.coming desk.old.zone before after served
         desk.old.store desk.new.store))) }
     ensures on_time { ask.entry.is_trusting ≡ false → OnOk result
         (IsOnTimeBy M.Disk.Store (M.seen machine.old).clock desk.old.zone desk.old.store desk.new.store) }
@@ -176,7 +176,7 @@ pub(crate) fn serve<W: Write, M: Machine>(
     machine: &mut M,
 ) -> Result<(), Refusal>
     ensures does { DoesServe M.Disk.Store (M.seen machine.old) (M.seen machine.new) (W.contents output.old)
-        (W.contents output.new) M.Door.told M.Door.coming ask.entry (whole result) }
+        (W.contents output.new) M.Door.so_far M.Door.coming ask.entry (whole result) }
     ensures refused { IfErr result (λ refusal. spec.RefusesServe refusal (place_of ask.entry.place)
         ask.entry.count (W.contents output.old) (W.contents output.new)) }
     ensures flushed { OnOk result (IsTrue (M.flushed (W.contents output.new))) }

@@ -32,6 +32,17 @@ pub(crate) fn what_of(shown: Shown) -> What
         Shown::Keys => What::Keys,
         Shown::Checks => What::Checks,
         Shown::Verdicts(day) => What::Verdicts(day),
+        Shown::VerdictsOf(day, acc) => What::VerdictsOf(day, acc),
+    }
+}
+
+/// Whether what is asked is of one accession, which may not be there.
+fn names_accession(what: &What) -> bool
+    ensures { result ≡ spec.names_accession what.now }
+{
+    match what {
+        What::VerdictsOf(_, _) => true,
+        _ => false,
     }
 }
 
@@ -66,8 +77,8 @@ fn write_shown<M: Machine, W: Write>(
     write_whole::<M, W>(output, bytes.as_slice())
 }
 
-/// Writes what is asked to be shown. It changes nothing. It fails with the refusal of the caller, with
-/// `Store` when the desk is unavailable, and as `write_shown` does.
+/// Writes what is asked to be shown, and changes nothing. It fails with the refusal of the caller, with
+/// `NoAccession` where it names one that is not there, with `Store`, and as `write_shown` does.
 pub(crate) fn show<S: Alter + Drop, M: Machine, W: Write>(
     alloc: Global,
     what: What,
@@ -82,7 +93,7 @@ pub(crate) fn show<S: Alter + Drop, M: Machine, W: Write>(
     ensures shown { OnOk result (OfDesk S.Store (λ stood after. Shows (λ day. day ≡ asker.day)
         (record { badge = asker.badge; what = what }) stood
         (W.contents output.old) (W.contents output.new)) desk.old.store desk.new.store) }
-    ensures refused { IfErr result (RefusesShow (W.contents output.old) (W.contents output.new)) }
+    ensures refused { IfErr result (RefusesShow what (W.contents output.old) (W.contents output.new)) }
     ensures due { IsSome asker.badge ⊎ ¬ IsForStaff what → IfErr result (IsDueOn S.Store (λ day.
         day ≡ asker.day) (record { badge = asker.badge; what = what }) desk.old.store desk.new.store) }
     ensures opened { IfErr result IsOfOpenDesk }
@@ -90,8 +101,9 @@ pub(crate) fn show<S: Alter + Drop, M: Machine, W: Write>(
     ensures same { LeavesDesk S.Store IsSame desk.old.store desk.new.store }
     ensures flushed { OnOk result (IsTrue (M.flushed (W.contents output.new))) }
 {
+    let named = names_accession(&what);
     let answered = answer_of(alloc, what, asker, desk);
-    let answer = answer_to_show(answered)?;
+    let answer = answer_to_show(named, answered)?;
     let reply = reply_to(alloc, answer)?;
     write_shown::<M, W>(alloc, &reply, output)?;
     Ok(Done::Whole)

@@ -30,7 +30,7 @@ use Rattle.rd_protocol.specs.declared.refusal.Refusal.{Refusal}
 use Rattle.rd_protocol.specs.declared.refusal.Refusal.TheVariants.{UnknownKey, StaffOnly, BadBody, NoAccession, NoFile, NoDeed, Denied, ListedOnly, Faulty, WrongSize, DigestDiffers, Conflict}
 use Rattle.rd_protocol.specs.declared.request.Request.{Request}
 use Rattle.rd_protocol.specs.declared.request.What.{What}
-use Rattle.rd_protocol.specs.declared.request.What.TheVariants.{Images, Listing, Bytes, Catalogue, Survey, Check, Deeds, Takedowns, Keys, Checks, Verdicts, RehearseRule, RehearseDrop, PutRule, DropRule}
+use Rattle.rd_protocol.specs.declared.request.What.TheVariants.{Images, Listing, Bytes, Catalogue, Survey, Check, Deeds, Takedowns, Keys, Checks, Verdicts, VerdictsOf, RehearseRule, RehearseDrop, PutRule, DropRule}
 use Rattle.rd_protocol.specs.declared.response.ImageLine.{ImageLine}
 use Rattle.rd_protocol.specs.declared.response.Line.{Line}
 use Rattle.rd_protocol.specs.declared.response.Listing.{Listing as Lines}
@@ -38,8 +38,8 @@ use Rattle.rd_protocol.specs.declared.response.Response.{Response}
 use Rattle.rd_protocol.specs.declared.response.Response.TheVariants as response
 use Rattle.rd_protocol.proofs.AscendingLists.{one_list}
 use Rattle.rd_protocol.proofs.OneReport.{one_survey}
-use Rattle.rd_protocol.proofs.VerdictLemmas.{one_rehearsal, one_verdicts}
-use Rattle.rd_protocol.proofs.ReplyBodies.{told_bytes, told_catalogue, told_check, told_checks, told_deeds, told_done, told_images, told_keys, told_takedowns, told_verdicts, rehearsed_rule, rehearsed_drop, told_listing, told_survey}
+use Rattle.rd_protocol.proofs.VerdictLemmas.{one_each, one_rehearsal, one_verdicts}
+use Rattle.rd_protocol.proofs.ReplyBodies.{told_bytes, told_catalogue, told_check, told_checks, told_deeds, told_done, told_images, told_keys, told_takedowns, told_verdicts, told_verdicts_of, rehearsed_rule, rehearsed_drop, told_listing, told_survey}
 
 -- ---- the file that is asked for
 
@@ -222,6 +222,10 @@ module _ (desk : Desk) (day : ℤ) (badge : Option (List ℕ)) where
         let a = told_verdicts desk audience day file on one first in
         let b = told_verdicts desk audience day file on other second in
         a.1 ∙ ap response.Verdicts (one_verdicts desk on a.0 b.0 a.2 b.2) ∙ sym b.1
+    one_told (VerdictsOf on acc) asked accepted first second =
+        let a = told_verdicts_of desk audience day file on acc one first in
+        let b = told_verdicts_of desk audience day file on acc other second in
+        a.1 ∙ ap response.Verdicts (one_each desk on (acc ∷ []) a.0 b.0 a.2 b.2) ∙ sym b.1
     one_told (RehearseRule on rule) asked accepted first second =
         let a = rehearsed_rule desk audience day file on rule one first in
         let b = rehearsed_rule desk audience day file on rule other second in

@@ -1,5 +1,5 @@
 -- What is said to each request.
-use Rattle.std.proofs.Common.{◌≡◌, ℕ, ℤ, List, Option, IsSomeAnd, ap, refl}
+use Rattle.std.proofs.Common.{◌≡◌, ℕ, ℤ, List, [], ◌∷◌, Option, IsSomeAnd, ap, refl}
 use Rattle.std.specs.FinMap.{get}
 use Rattle.rd_policy.specs.declared.audience.Audience.{Audience}
 use Rattle.rd_policy.specs.declared.rule.Effect.TheVariants.{Read}
@@ -13,12 +13,12 @@ use Rattle.rd_policy.specs.declared.rule.Band.{Band}
 use Rattle.rd_policy.specs.declared.rule.Rule.{Rule}
 use Rattle.rd_protocol.specs.Rehearsals.{IsRehearsal}
 use Rattle.rd_protocol.specs.Requests.{IsPutOrDrop}
-use Rattle.rd_protocol.specs.Verdicts.{AreVerdicts}
+use Rattle.rd_protocol.specs.Verdicts.{AreVerdicts, AreVerdictsOf}
 use Rattle.rd_protocol.specs.declared.response.Difference.{Difference}
 use Rattle.rd_protocol.specs.declared.response.Verdicts.{Verdicts as Each}
 use Rattle.rd_protocol.specs.StaffLists.{check_lines, deed_lines, key_lines, takedown_lines}
 use Rattle.rd_protocol.specs.declared.request.What.{What}
-use Rattle.rd_protocol.specs.declared.request.What.TheVariants.{Images, Listing, Bytes, Catalogue, Survey, Check, Deeds, Takedowns, Keys, Checks, Verdicts, RehearseRule, RehearseDrop, PutRule, DropRule}
+use Rattle.rd_protocol.specs.declared.request.What.TheVariants.{Images, Listing, Bytes, Catalogue, Survey, Check, Deeds, Takedowns, Keys, Checks, Verdicts, VerdictsOf, RehearseRule, RehearseDrop, PutRule, DropRule}
 use Rattle.rd_protocol.specs.declared.response.ImageLine.{ImageLine}
 use Rattle.rd_protocol.specs.declared.response.Listing.{Listing as Lines}
 use Rattle.rd_protocol.specs.declared.response.Response.{Response}
@@ -42,6 +42,7 @@ module _ (desk : Desk) (audience : Audience) (day : ℤ) (file : Option JudgedFi
   told_done (response.Keys lines) Keys command described = absurd command
   told_done (response.Checks lines) Checks command described = absurd command
   told_done (response.Verdicts all) (Verdicts on) command described = absurd command
+  told_done (response.Verdicts all) (VerdictsOf on acc) command described = absurd command
   told_done (response.Rehearsed differences) (RehearseRule on rule) command described = absurd command
   told_done (response.Rehearsed differences) (RehearseDrop on band scope rank) command described = absurd command
   told_done other what command described = absurd described
@@ -91,6 +92,11 @@ module _ (desk : Desk) (audience : Audience) (day : ℤ) (file : Option JudgedFi
   pub told_verdicts : (on : ℤ) (answer : Response) → Told answer (Verdicts on) → (all : List Each) × (answer ≡ response.Verdicts all) × AreVerdicts desk on all
   told_verdicts on (response.Verdicts all) described = (all, refl, described)
   told_verdicts on other described = absurd described
+
+  pub told_verdicts_of : (on : ℤ) (acc : ℕ) (answer : Response) → Told answer (VerdictsOf on acc)
+      → (all : List Each) × (answer ≡ response.Verdicts all) × AreVerdictsOf desk on (acc ∷ []) all
+  told_verdicts_of on acc (response.Verdicts all) described = (all, refl, described)
+  told_verdicts_of on acc other described = absurd described
 
   pub rehearsed_rule : (on : ℤ) (rule : Rule) (answer : Response) → Told answer (RehearseRule on rule)
       → (differences : List Difference) × (answer ≡ response.Rehearsed differences) × IsRehearsal desk (carried_out day (PutRule rule) desk) on differences

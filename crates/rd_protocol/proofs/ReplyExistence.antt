@@ -1,6 +1,6 @@
 -- Each request has a reply: the file that it asks for, the first reason to refuse it or none, and what is said to it.
 use Rattle.std.proofs.Common.{◌≡◌, ◌≢◌, ◌⊎◌, inl, inr, ◌∙◌, ℕ, ℤ, List, [], ◌∷◌, All, Bool, true, false, Contains, IsSomeAnd, Option, Some, None, ap, length, map, refl, subst, sym}
-use Rattle.std.specs.FinMap.{entries, entries_sorted, get, get-entries, keys}
+use Rattle.std.specs.FinMap.{entries, entries_sorted, get, get-entries}
 use Rattle.std.specs.List.{AllZip}
 use Rattle.std.proofs.lemmas.Bool.{cases_eq}
 use Rattle.std.proofs.lemmas.List.Elements.{All-head, All-tail}
@@ -42,7 +42,7 @@ use Rattle.rd_protocol.specs.declared.refusal.Refusal.{Refusal}
 use Rattle.rd_protocol.specs.declared.refusal.Refusal.TheVariants.{UnknownKey, StaffOnly, BadBody, NoAccession, NoFile, NoDeed, Denied, ListedOnly, Faulty, WrongSize, DigestDiffers, Conflict}
 use Rattle.rd_protocol.specs.declared.request.Request.{Request}
 use Rattle.rd_protocol.specs.declared.request.What.{What}
-use Rattle.rd_protocol.specs.declared.request.What.TheVariants.{Images, Listing, Bytes, Catalogue, Survey, Check, Deeds, Takedowns, Keys, Checks, Verdicts, RehearseRule, RehearseDrop, PutImage, PutRule, DropRule, PutKey, DropKey, Unread}
+use Rattle.rd_protocol.specs.declared.request.What.TheVariants.{Images, Listing, Bytes, Catalogue, Survey, Check, Deeds, Takedowns, Keys, Checks, Verdicts, VerdictsOf, RehearseRule, RehearseDrop, PutImage, PutRule, DropRule, PutKey, DropKey, Unread}
 use Rattle.rd_protocol.specs.declared.response.ImageLine.{ImageLine}
 use Rattle.rd_protocol.specs.declared.response.Line.{Line}
 use Rattle.rd_protocol.specs.declared.response.Listing.{Listing as Lines}
@@ -54,7 +54,7 @@ use Rattle.rd_protocol.proofs.StaffRefusals.{is_for_staff, not_none, is_unread}
 use Rattle.rd_protocol.proofs.CatalogueLemmas.{listings_are}
 use Rattle.rd_protocol.proofs.Numbers.{each_found}
 use Rattle.rd_protocol.proofs.OneAnswer.{named}
-use Rattle.rd_protocol.proofs.VerdictLemmas.{rehearsal_said, verdicts_said}
+use Rattle.rd_protocol.proofs.VerdictLemmas.{rehearsal_said, said_at, verdicts_said}
 use Rattle.rd_protocol.proofs.RefusalOrder.{accepted, to_5, to_6, to_7, to_8, to_9, to_10, to_11, to_12, to_13, to_14, to_15, to_16}
 use Rattle.rd_protocol.proofs.ListedFiles.{image_lines_are, lines_are}
 use Rattle.rd_protocol.proofs.ShownDesks.{denies, done_answered}
@@ -462,6 +462,9 @@ module _ (desk : Desk) (bytes : HoldsBytes desk) (audience : Audience) (day : �
       told_to Keys asked accepted caller = (response.Keys (key_lines desk), refl)
       told_to Checks asked accepted caller = (response.Checks (check_lines desk), refl)
       told_to (Verdicts on) asked accepted caller = let all = verdicts_said desk on bytes in (response.Verdicts all.0, all.1)
+      told_to (VerdictsOf on acc) asked accepted caller =
+          let image = standing_at (VerdictsOf on acc) acc refl accepted in
+          let one = said_at desk on bytes acc image.0 image.1 in (response.Verdicts (one.0 ∷ []), (one.1, tt))
       told_to (RehearseRule on rule) asked accepted caller =
           let differences = rehearsal_said desk (carried_out day (PutRule rule) desk) on bytes bytes in (response.Rehearsed differences.0, differences.1)
       told_to (RehearseDrop on band scope rank) asked accepted caller =

@@ -1,5 +1,5 @@
 -- The catalogue is read off the verdicts, and so is which files are served.
-use Rattle.std.proofs.Common.{◌≡◌, ◌≢◌, ◌⊎◌, ◌∙◌, ◌<◌, inl, inr, ℕ, zero, suc, ℤ, List, [], ◌∷◌, All, Bool, true, false, cond, Contains, IsSomeAnd, Option, Some, None, ap, arith, length, map, refl, subst, sym}
+use Rattle.std.proofs.Common.{◌≡◌, ◌≢◌, ◌⊎◌, ◌∙◌, ◌<◌, inl, inr, ℕ, zero, suc, ℤ, List, [], ◌∷◌, All, cond, Contains, IsSomeAnd, Option, Some, None, ap, arith, length, map, refl, subst, sym}
 use Rattle.std.specs.FinMap.{get, keys}
 use Rattle.std.specs.List.{AllZip}
 use Rattle.std.proofs.lemmas.List.Elements.{All-head, All-tail}
@@ -21,17 +21,16 @@ use Rattle.rd_protocol.specs.Judged.{IsAccepted, IsAcceptedOn, IsAsked, IsJudged
 use Rattle.rd_protocol.specs.Laws.{HoldsBytes}
 use Rattle.rd_protocol.specs.Queries.{AreLinesOf, Standing}
 use Rattle.rd_protocol.specs.Replies.{AreListings, IsListing}
-use Rattle.rd_protocol.specs.VerdictLaws.{CatalogueIsThatOfVerdicts, LetsRead, ServedWhereRead, line_for, lines_for, listing_for, lists}
+use Rattle.rd_protocol.specs.VerdictLaws.{CatalogueIsThatOfVerdicts, LetsRead, OneAccessionIsThatOfAll, ServedWhereRead, line_for, lines_for, listing_for, lists}
 use Rattle.rd_protocol.specs.Verdicts.{AreVerdicts, IsDecided, IsVerdictsOf, verdict_for}
 use Rattle.rd_protocol.specs.declared.refusal.Refusal.TheVariants.{Denied, NoAccession, NoFile}
 use Rattle.rd_protocol.specs.declared.request.Request.{Request}
 use Rattle.rd_protocol.specs.declared.request.What.TheVariants.{Bytes}
 use Rattle.rd_protocol.specs.declared.response.FileVerdicts.{FileVerdicts}
 use Rattle.rd_protocol.specs.declared.response.Line.{Line}
-use Rattle.rd_protocol.specs.declared.response.Listing.{Listing}
 use Rattle.rd_protocol.specs.declared.response.Response.TheVariants.{File}
 use Rattle.rd_protocol.specs.declared.response.Verdicts.{Verdicts}
-use Rattle.rd_protocol.proofs.StaffRefusals.{not_none}
+use Rattle.rd_protocol.proofs.VerdictLemmas.{one_of}
 use Rattle.rd_protocol.proofs.CatalogueLemmas.{listings_are}
 use Rattle.rd_protocol.proofs.Numbers.{among_keys}
 use Rattle.rd_protocol.proofs.OneAnswer.{named, one_listings, sound_file}
@@ -108,6 +107,16 @@ module _ (desk : Desk) (day : ℤ) where
   each_of (acc ∷ accs) (first ∷ all) one zip (zero, within, is) =
       subst (λ (it : Verdicts). IsVerdictsOf desk day it.accession it) is (subst (λ n. IsVerdictsOf desk day n first) (sym zip.0.accession) zip.0)
   each_of (acc ∷ accs) (first ∷ all) one zip (suc k, within, is) = each_of accs all one zip.1 (k, omega (arith, within), is)
+
+-- the verdicts of one accession are those that stand for it among all of the day
+pub one_accession : OneAccessionIsThatOfAll
+one_accession desk day all are acc one = (
+  λ alone.
+      let is : IsVerdictsOf desk day acc one = alone.0 in
+      let there = found_in desk day (keys desk.images) all acc are (among_keys desk.images acc is.image is.standing) in
+      (subst (Contains all) (one_of desk day acc there.0 one there.2 is) there.1, is.accession),
+  λ among. (subst (λ n. IsVerdictsOf desk day n one) among.1 (each_of desk day (keys desk.images) all one are among.0), tt),
+)
 
 -- a file among the files has its verdicts
 file_among : (rules : List Rule) (day : ℤ) (files : List FileVerdicts) (file : Found) → All (IsDecided rules day) files → Contains (map (λ file. file.file) files) file

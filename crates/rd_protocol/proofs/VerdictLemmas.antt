@@ -17,7 +17,7 @@ use Rattle.rd_volume.proofs.OneSurvey.{one_survey}
 use Rattle.rd_holdings.specs.State.{Desk, rules_for}
 use Rattle.rd_protocol.specs.Laws.{HoldsBytes}
 use Rattle.rd_protocol.specs.Rehearsals.{IsRehearsal, differences_between}
-use Rattle.rd_protocol.specs.Verdicts.{AreVerdicts, IsDecided, IsVerdictsOf, verdict_for}
+use Rattle.rd_protocol.specs.Verdicts.{AreVerdicts, AreVerdictsOf, IsDecided, IsVerdictsOf, verdict_for}
 use Rattle.rd_protocol.specs.declared.response.FileVerdicts.{FileVerdicts}
 use Rattle.rd_protocol.specs.declared.response.Difference.{Difference}
 use Rattle.rd_protocol.specs.declared.response.Verdicts.{Verdicts}
@@ -46,7 +46,7 @@ module _ (rules : List Rule) (day : ℤ) (order : AreInOrder rules) where
       (one_files files others rest (All-tail (IsDecided rules day) one files first) (All-tail (IsDecided rules day) other others second))
 
 module _ (desk : Desk) (day : ℤ) where
-  one_of : (acc : ℕ) (one other : Verdicts) → IsVerdictsOf desk day acc one → IsVerdictsOf desk day acc other → one ≡ other
+  pub one_of : (acc : ℕ) (one other : Verdicts) → IsVerdictsOf desk day acc one → IsVerdictsOf desk day acc other → one ≡ other
   one_of acc one other first second =
       let image : first.image ≡ second.image = let here = first.standing in let there = second.standing in cc in
       let accession = first.accession ∙ sym second.accession in
@@ -57,7 +57,7 @@ module _ (desk : Desk) (day : ℤ) where
       let files = one_files (rules_for desk acc) day (for_in_order desk acc) one.files other.files all first.files.decided second.files.decided in
       λ i. record { accession = accession i; deed = deed i; kind = kind i; files = files i }
 
-  one_each : (accs : List ℕ) (all others : List Verdicts) → AllZip (IsVerdictsOf desk day) accs all → AllZip (IsVerdictsOf desk day) accs others → all ≡ others
+  pub one_each : (accs : List ℕ) (all others : List Verdicts) → AreVerdictsOf desk day accs all → AreVerdictsOf desk day accs others → all ≡ others
   one_each [] [] [] first second = refl
   one_each [] [] (other ∷ others) first second = absurd second
   one_each [] (one ∷ all) others first second = absurd first
@@ -89,7 +89,7 @@ module _ (rules : List Rule) (day : ℤ) (order : AreInOrder rules) where
       (line ∷ rest.0, ap (λ more. file ∷ more) rest.1, All-cons (IsDecided rules day) line rest.0 decided rest.2)
 
 module _ (desk : Desk) (day : ℤ) (bytes : HoldsBytes desk) where
-  said_at : (acc : ℕ) (image : ImageRow) → get desk.images acc ≡ Some image → (one : Verdicts) × IsVerdictsOf desk day acc one
+  pub said_at : (acc : ℕ) (image : ImageRow) → get desk.images acc ≡ Some image → (one : Verdicts) × IsVerdictsOf desk day acc one
   said_at acc image stands =
       let files = survey_of image.kind image.bytes (bytes acc image stands) in
       let lines = files_said (rules_for desk acc) day (for_in_order desk acc) files.0 in (

@@ -21,7 +21,7 @@ use Rattle.rd_protocol.specs.declared.refusal.Refusal.{Refusal}
 use Rattle.rd_protocol.specs.declared.refusal.Refusal.TheVariants.{UnknownKey, StaffOnly, BadBody, NoAccession, NoFile, NoDeed, Denied, ListedOnly, Faulty, WrongSize, DigestDiffers, Conflict}
 use Rattle.rd_protocol.specs.declared.request.Request.{Request}
 use Rattle.rd_protocol.specs.declared.request.What.{What}
-use Rattle.rd_protocol.specs.declared.request.What.TheVariants.{Listing, Bytes, Survey, Check, RehearseRule, RehearseDrop, PutImage, PutRule, DropRule, PutKey, DropKey, Unread}
+use Rattle.rd_protocol.specs.declared.request.What.TheVariants.{Listing, Bytes, Survey, Check, VerdictsOf, RehearseRule, RehearseDrop, PutImage, PutRule, DropRule, PutKey, DropKey, Unread}
 
 -- ---- who asks, and what is named
 
@@ -41,13 +41,14 @@ abbrev pub deed_at : Band → ℕ → Option ℕ
 deed_at Takedown scope = None
 deed_at Deed scope = Some scope
 
--- a request that names an accession is refused if none of that number stands: the one in a question, a survey or a
--- check, or that of a takedown; a rehearsal needs what its command needs
+-- a request that names an accession is refused if none of that number stands: the one in a question, a survey, a
+-- check or verdicts, or that of a takedown; a rehearsal needs what its command needs
 abbrev pub accession_of : What → Option ℕ
 accession_of (Listing acc) = Some acc
 accession_of (Bytes acc slot) = Some acc
 accession_of (Survey acc) = Some acc
 accession_of (Check acc) = Some acc
+accession_of (VerdictsOf on acc) = Some acc
 accession_of (PutRule rule) = accession_at rule.band rule.scope
 accession_of (DropRule band scope rank) = accession_at band scope
 accession_of (RehearseRule on rule) = accession_at rule.band rule.scope

@@ -1,5 +1,5 @@
 -- The answer to a request, and the desk that it leaves.
-use Rattle.std.specs.Prelude.{◌≡◌, ◌≢◌, ◌<◌, ◌⊎◌, ℕ, ℤ, List, Option, None, Some, All, AllPairs, Contains, IsSomeAnd, length}
+use Rattle.std.specs.Prelude.{◌≡◌, ◌≢◌, ◌<◌, ◌⊎◌, ◌∷◌, [], ℕ, ℤ, List, Option, None, Some, All, AllPairs, Contains, IsSomeAnd, length}
 use Rattle.std.specs.FinMap.{get}
 use Rattle.rd_policy.specs.Dates.{IsDateOf}
 use Rattle.rd_policy.specs.Verdicts.{IsVerdict}
@@ -18,11 +18,11 @@ use Rattle.rd_protocol.specs.Rehearsals.{IsRehearsal}
 use Rattle.rd_protocol.specs.Requests.{IsPutOrDrop}
 use Rattle.rd_protocol.specs.StaffLists.{check_lines, deed_lines, key_lines, takedown_lines}
 use Rattle.rd_protocol.specs.Texts.{UNAVAILABLE, reply_of}
-use Rattle.rd_protocol.specs.Verdicts.{AreVerdicts}
+use Rattle.rd_protocol.specs.Verdicts.{AreVerdicts, AreVerdictsOf}
 use Rattle.rd_protocol.specs.declared.refusal.Refusal.{Refusal}
 use Rattle.rd_protocol.specs.declared.request.Request.{Request}
 use Rattle.rd_protocol.specs.declared.request.What.{What}
-use Rattle.rd_protocol.specs.declared.request.What.TheVariants.{Images, Listing, Bytes, Catalogue, Survey, Check, Deeds, Takedowns, Keys, Checks, Verdicts, RehearseRule, RehearseDrop, PutImage, PutDeed, PutRule, DropRule, PutKey, DropKey}
+use Rattle.rd_protocol.specs.declared.request.What.TheVariants.{Images, Listing, Bytes, Catalogue, Survey, Check, Deeds, Takedowns, Keys, Checks, Verdicts, VerdictsOf, RehearseRule, RehearseDrop, PutImage, PutDeed, PutRule, DropRule, PutKey, DropKey}
 use Rattle.rd_protocol.specs.declared.response.ImageLine.{ImageLine}
 use Rattle.rd_protocol.specs.declared.response.Line.{Line}
 use Rattle.rd_protocol.specs.declared.response.Listing.{Listing as Lines}
@@ -151,6 +151,7 @@ Tells desk audience day file (response.Takedowns lines) Takedowns = lines ≡ ta
 Tells desk audience day file (response.Keys lines) Keys = lines ≡ key_lines desk
 Tells desk audience day file (response.Checks lines) Checks = lines ≡ check_lines desk
 Tells desk audience day file (response.Verdicts verdicts) (Verdicts on) = AreVerdicts desk on verdicts
+Tells desk audience day file (response.Verdicts verdicts) (VerdictsOf on acc) = AreVerdictsOf desk on (acc ∷ []) verdicts
 Tells desk audience day file (response.Rehearsed differences) (RehearseRule on rule) = IsRehearsal desk (carried_out day (PutRule rule) desk) on differences
 Tells desk audience day file (response.Rehearsed differences) (RehearseDrop on band scope rank) = IsRehearsal desk (carried_out day (DropRule band scope rank) desk) on differences
 Tells desk audience day file answer what = ⊥

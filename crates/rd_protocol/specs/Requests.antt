@@ -7,7 +7,7 @@ use Rattle.rd_policy.specs.Rules.{IsScope, IsRank, IsRule}
 use Rattle.rd_policy.specs.declared.audience.Audience.TheVariants.{Public}
 use Rattle.rd_holdings.specs.Lawful.{IsDeed}
 use Rattle.rd_protocol.specs.declared.request.What.{What}
-use Rattle.rd_protocol.specs.declared.request.What.TheVariants.{Images, Listing, Bytes, Catalogue, Survey, Check, Deeds, Takedowns, Keys, Checks, Verdicts, RehearseRule, RehearseDrop, PutImage, PutDeed, PutRule, DropRule, PutKey, DropKey, Unread}
+use Rattle.rd_protocol.specs.declared.request.What.TheVariants.{Images, Listing, Bytes, Catalogue, Survey, Check, Deeds, Takedowns, Keys, Checks, Verdicts, VerdictsOf, RehearseRule, RehearseDrop, PutImage, PutDeed, PutRule, DropRule, PutKey, DropKey, Unread}
 
 -- each value is within its limits; a digest and the bytes of an image may be any
 abbrev pub IsRequest : What → Type 0
@@ -22,6 +22,7 @@ IsRequest Takedowns = Unit {0}
 IsRequest Keys = Unit {0}
 IsRequest Checks = Unit {0}
 IsRequest (Verdicts on) = IsDay on
+IsRequest (VerdictsOf on acc) = IsDay on × IsScope acc
 IsRequest (RehearseRule on rule) = IsDay on × IsRule rule
 IsRequest (RehearseDrop on band scope rank) = IsDay on × IsScope scope × IsRank rank
 IsRequest (PutImage acc kind deed digest bytes) = IsScope acc × IsScope deed
@@ -35,19 +36,6 @@ IsRequest Unread = Unit {0}
 -- to put something or to take it away, also when the body of the request cannot be read; the reply
 -- says that it is done
 abbrev pub IsPutOrDrop : What → Type 0
-IsPutOrDrop Images = ⊥
-IsPutOrDrop (Listing acc) = ⊥
-IsPutOrDrop (Bytes acc slot) = ⊥
-IsPutOrDrop Catalogue = ⊥
-IsPutOrDrop (Survey acc) = ⊥
-IsPutOrDrop (Check acc) = ⊥
-IsPutOrDrop Deeds = ⊥
-IsPutOrDrop Takedowns = ⊥
-IsPutOrDrop Keys = ⊥
-IsPutOrDrop Checks = ⊥
-IsPutOrDrop (Verdicts on) = ⊥
-IsPutOrDrop (RehearseRule on rule) = ⊥
-IsPutOrDrop (RehearseDrop on band scope rank) = ⊥
 IsPutOrDrop (PutImage acc kind deed digest bytes) = Unit {0}
 IsPutOrDrop (PutDeed num donor signed) = Unit {0}
 IsPutOrDrop (PutRule rule) = Unit {0}
@@ -55,30 +43,18 @@ IsPutOrDrop (DropRule band scope rank) = Unit {0}
 IsPutOrDrop (PutKey digest audience) = Unit {0}
 IsPutOrDrop (DropKey digest) = Unit {0}
 IsPutOrDrop Unread = Unit {0}
+IsPutOrDrop other = ⊥
 
--- for the staff: to put, to drop, surveys, checks, the lists of what stands, verdicts and rehearsals; anyone may ask
--- for the images, a listing, a file and the catalogue
+-- anyone may ask for the images, a listing, a file and the catalogue; all else is for the staff
 abbrev pub IsForStaff : What → Type 0
-IsForStaff (Survey acc) = Unit {0}
-IsForStaff (Check acc) = Unit {0}
-IsForStaff Deeds = Unit {0}
-IsForStaff Takedowns = Unit {0}
-IsForStaff Keys = Unit {0}
-IsForStaff Checks = Unit {0}
-IsForStaff (Verdicts on) = Unit {0}
-IsForStaff (RehearseRule on rule) = Unit {0}
-IsForStaff (RehearseDrop on band scope rank) = Unit {0}
-IsForStaff other = IsPutOrDrop other
+IsForStaff Images = ⊥
+IsForStaff (Listing acc) = ⊥
+IsForStaff (Bytes acc slot) = ⊥
+IsForStaff Catalogue = ⊥
+IsForStaff other = Unit {0}
 
 -- to put, to drop and to check; all other requests only read, and a body that cannot be read is refused
 abbrev pub MayChange : What → Type 0
-MayChange (Survey acc) = ⊥
-MayChange Deeds = ⊥
-MayChange Takedowns = ⊥
-MayChange Keys = ⊥
-MayChange Checks = ⊥
-MayChange (Verdicts on) = ⊥
-MayChange (RehearseRule on rule) = ⊥
-MayChange (RehearseDrop on band scope rank) = ⊥
+MayChange (Check acc) = Unit {0}
 MayChange Unread = ⊥
-MayChange other = IsForStaff other
+MayChange other = IsPutOrDrop other

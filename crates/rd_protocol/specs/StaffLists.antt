@@ -2,7 +2,6 @@
 use Rattle.std.specs.Prelude.{ℕ, List, [], ◌∷◌, Bool, true, false, ◌==◌, map}
 use Rattle.std.specs.FinMap.{entries}
 use Rattle.std.specs.List.{count_by, filter}
-use Rattle.rd_policy.specs.declared.audience.Audience.{Audience}
 use Rattle.rd_policy.specs.declared.rule.Band.TheVariants.{Takedown, Deed}
 use Rattle.rd_policy.specs.declared.rule.Rule.{Rule}
 use Rattle.rd_holdings.specs.Findings.{latest}

@@ -1,5 +1,5 @@
 -- What follows from the verdicts of a day: the catalogue of each audience, and which files are served.
-use Rattle.std.specs.Prelude.{◌≡◌, ◌↔◌, ℕ, ℤ, Bool, true, false, List, Contains, Option, Some, map}
+use Rattle.std.specs.Prelude.{◌≡◌, ◌↔◌, ◌∷◌, [], ℕ, ℤ, Bool, true, false, List, Contains, Option, Some, map}
 use Rattle.std.specs.List.{filter}
 use Rattle.rd_policy.specs.declared.audience.Audience.{Audience}
 use Rattle.rd_policy.specs.declared.rule.Effect.{Effect}
@@ -9,7 +9,7 @@ use Rattle.rd_holdings.specs.State.{Desk}
 use Rattle.rd_protocol.specs.Judged.{IsAcceptedOn, audience_of}
 use Rattle.rd_protocol.specs.Laws.{HoldsBytes}
 use Rattle.rd_protocol.specs.Replies.{AreListings}
-use Rattle.rd_protocol.specs.Verdicts.{AreVerdicts, verdict_for}
+use Rattle.rd_protocol.specs.Verdicts.{AreVerdicts, AreVerdictsOf, verdict_for}
 use Rattle.rd_protocol.specs.declared.request.What.TheVariants.{Bytes}
 use Rattle.rd_protocol.specs.declared.response.FileVerdicts.{FileVerdicts}
 use Rattle.rd_protocol.specs.declared.response.Line.{Line}
@@ -40,6 +40,11 @@ listing_for audience verdicts =
 abbrev pub CatalogueIsThatOfVerdicts : Type 0
 CatalogueIsThatOfVerdicts = (desk : Desk) (audience : Audience) (day : ℤ) (verdicts : List Verdicts) → AreVerdicts desk day verdicts
     → (listings : List Listing) → AreListings desk audience day listings ↔ (listings ≡ map (listing_for audience) verdicts)
+
+-- of an accession that stands, the verdicts of one accession are those that stand for it among all of that day
+abbrev pub OneAccessionIsThatOfAll : Type 0
+OneAccessionIsThatOfAll = (desk : Desk) (day : ℤ) (all : List Verdicts) → AreVerdicts desk day all
+    → (acc : ℕ) (one : Verdicts) → AreVerdictsOf desk day (acc ∷ []) (one ∷ []) ↔ (Contains all one × (one.accession ≡ acc))
 
 -- Among the verdicts is one on the file at a slot of an accession. It lets the audience read the file, which is of a class
 -- that is served, and has no fault.

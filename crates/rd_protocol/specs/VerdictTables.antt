@@ -7,7 +7,6 @@ use Rattle.rd_geometry.specs.Kinds.{word_of}
 use Rattle.rd_policy.specs.Audiences.{audience_word}
 use Rattle.rd_policy.specs.Rules.{effect_word}
 use Rattle.rd_policy.specs.Verdicts.{label_text}
-use Rattle.rd_policy.specs.declared.verdict.Verdict.{Verdict}
 use Rattle.rd_protocol.specs.Catalogues.{faults_text, number_text}
 use Rattle.rd_protocol.specs.declared.response.FileVerdicts.{FileVerdicts}
 use Rattle.rd_protocol.specs.declared.response.Difference.{Difference}

@@ -37,6 +37,10 @@ pub record IsVerdictsOf (desk : Desk) (day : ℤ) (acc : ℕ) (verdicts : Verdic
   pub kind : verdicts.kind ≡ image.kind
   pub files : AreFileVerdicts image (rules_for desk acc) day verdicts.files
 
--- all accessions, ascending, each with all its files
+-- these accessions, each with all its files
+abbrev pub AreVerdictsOf : Desk → ℤ → List ℕ → List Verdicts → Type 0
+AreVerdictsOf desk day accs verdicts = AllZip (IsVerdictsOf desk day) accs verdicts
+
+-- all accessions, ascending
 abbrev pub AreVerdicts : Desk → ℤ → List Verdicts → Type 0
-AreVerdicts desk day verdicts = AllZip (IsVerdictsOf desk day) (keys desk.images) verdicts
+AreVerdicts desk day verdicts = AreVerdictsOf desk day (keys desk.images) verdicts

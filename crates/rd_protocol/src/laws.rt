@@ -4,7 +4,7 @@ ghost use Rattle.rd_protocol.specs.Hidden.{HiddenBytesDoNotShow, LooksAlikeShows
 ghost use Rattle.rd_protocol.specs.RehearsalLaws.{RehearsalsAreExact};
 ghost use Rattle.rd_protocol.specs.StaffListLaws.{StaffListsTellAll};
 ghost use Rattle.rd_protocol.specs.RuleTexts.{RulesAreReadBack};
-ghost use Rattle.rd_protocol.specs.VerdictLaws.{CatalogueIsThatOfVerdicts, ServedWhereRead};
+ghost use Rattle.rd_protocol.specs.VerdictLaws.{CatalogueIsThatOfVerdicts, OneAccessionIsThatOfAll, ServedWhereRead};
 ghost use Rattle.rd_protocol.specs.Laws.{AnswersStep, EachReply, OneReply, SameAgain};
 
 /// Law: a request on a day has at most one reply, and with it one desk afterwards.
@@ -57,9 +57,10 @@ pub fn what_is_shown_decides()
 
 /// Law: the catalogue of an audience on a day is what the verdicts of that day do not deny to that audience, with the
 /// same labels. And a file is served to a caller exactly where the verdict on it is to read it, its class is served and
-/// it has no fault.
+/// it has no fault. The verdicts on one accession alone are those on it among all verdicts of the day.
 pub fn catalogue_is_that_of_verdicts()
     ensures catalogue { CatalogueIsThatOfVerdicts }
+    ensures accession { OneAccessionIsThatOfAll }
     ensures served { ServedWhereRead }
 {}
 

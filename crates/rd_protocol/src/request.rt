@@ -41,6 +41,8 @@ pub enum What {
     Checks,
     /// The verdicts on each file for each audience on a day of the years 1 to 9999, counted from 1970-01-01.
     Verdicts(i32),
+    /// The verdicts on each file of one accession, 1 to 999,999, on a day, counted as for `Verdicts`.
+    VerdictsOf(i32, u32),
     /// What would change in the effects of a day, counted as for `Verdicts`, if this rule were put.
     RehearseRule(i32, Rule),
     /// What would change in the effects of a day if the rule at a place were dropped.
@@ -113,22 +115,7 @@ impl What {
     {
         match self {
             What::Images | What::Listing(_) | What::Bytes(_, _) | What::Catalogue => false,
-            What::Survey(_)
-            | What::Check(_)
-            | What::Deeds
-            | What::Takedowns
-            | What::Keys
-            | What::Checks
-            | What::Verdicts(_)
-            | What::RehearseRule(_, _)
-            | What::RehearseDrop { .. }
-            | What::PutImage { .. }
-            | What::PutDeed { .. }
-            | What::PutRule(_)
-            | What::DropRule { .. }
-            | What::PutKey { .. }
-            | What::DropKey { .. }
-            | What::Unread => true,
+            _ => true,
         }
     }
 }
@@ -158,6 +145,7 @@ impl Request {
             }
             What::PutRule(rule) => rule.fits(),
             What::Verdicts(day) => is_day(*day),
+            What::VerdictsOf(day, acc) => is_day(*day) && is_scope(*acc),
             What::RehearseRule(day, rule) => is_day(*day) && rule.fits(),
             What::RehearseDrop {
                 day,

@@ -230,6 +230,10 @@ module _ (desk other : Desk) (like : IsDescribedLike desk other) (day : ℤ) whe
   same_verdicts on (response.Verdicts verdicts) is = verdicts_same desk other like on verdicts is
   same_verdicts on answer is = absurd is
 
+  same_verdicts_of : (on : ℤ) (acc : ℕ) (answer : Response) → Same (question.VerdictsOf on acc) answer
+  same_verdicts_of on acc (response.Verdicts verdicts) is = verdicts_each desk other like on (acc ∷ []) verdicts is
+  same_verdicts_of on acc answer is = absurd is
+
   same_rehearsed_rule : (on : ℤ) (rule : Rule) (answer : Response) → Same (question.RehearseRule on rule) answer
   same_rehearsed_rule on rule (response.Rehearsed differences) is =
       rehearsal_same desk other (with_rule (place_of rule) (terms_of rule) desk) (with_rule (place_of rule) (terms_of rule) other) like
@@ -248,6 +252,7 @@ module _ (desk other : Desk) (like : IsDescribedLike desk other) (day : ℤ) whe
   same_answer question.Keys asked answer = same_keys answer
   same_answer question.Checks asked answer = same_checks answer
   same_answer (question.Verdicts on) asked answer = same_verdicts on answer
+  same_answer (question.VerdictsOf on acc) asked answer = same_verdicts_of on acc answer
   same_answer (question.RehearseRule on rule) asked answer = same_rehearsed_rule on rule answer
   same_answer (question.RehearseDrop on band scope rank) asked answer = same_rehearsed_drop on band scope rank answer
   same_answer what asked answer = absurd asked

@@ -6,7 +6,7 @@ use crate::running::{Ending, Ran, Report};
 use crate::runs::Run;
 use crate::seen::Seen;
 use anyhow::{Context, Result};
-use rd_played::Tally;
+use rd_fakes::tally::Tally;
 use std::alloc::{AllocError, Global};
 
 /// What opening again finds: the desk before the change that was under way, the one after it, or

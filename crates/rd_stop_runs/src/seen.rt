@@ -5,7 +5,7 @@ use crate::drive::Sort;
 use crate::files::{Pair, connect};
 use anyhow::Result;
 use rd_fakes::desk::{create, into_connection, migrate};
-use rd_played::{answer_of, contents_of};
+use rd_fakes::tables::{answer_of, contents_of};
 use rd_store::{OpenFault, Store};
 use sqlite::{Alter, Connection, Error};
 use std::alloc::{AllocError, Global};

@@ -167,24 +167,24 @@ fn keep_all_but(file: &mut Vec<u8>, steps: &[Step], draws: &mut Pcg32) -> Result
 
 // Each piece by a draw of its own.
 
-/// What a crash does to a piece.
+/// What a crash leaves of a piece.
 #[derive(Clone, Copy)]
-enum Fate {
+enum Remains {
     Kept,
     Lost,
     /// It leaves other bytes there.
     Harmed,
 }
 
-/// Draws the fate of a piece. From an offset on a crash may leave any bytes.
-fn fate_at(place: usize, any_from: usize, draws: &mut Pcg32) -> Fate {
+/// Draws what remains of a piece. From an offset on a crash may leave any bytes.
+fn remains_at(place: usize, any_from: usize, draws: &mut Pcg32) -> Remains {
     let drawn = draws.next_u32();
     if place >= any_from && drawn % 3 == 0 {
-        Fate::Harmed
+        Remains::Harmed
     } else if drawn % 2 == 0 {
-        Fate::Kept
+        Remains::Kept
     } else {
-        Fate::Lost
+        Remains::Lost
     }
 }
 
@@ -201,7 +201,7 @@ fn write_drawn(
     write_over(file, at, bytes.as_slice())
 }
 
-/// Writes the pieces of these bytes over those of a file from an offset on, each as its fate says.
+/// Writes the pieces of these bytes over those of a file from an offset on, each kept, lost or harmed, as is drawn.
 fn write_pieces(
     file: &mut Vec<u8>,
     at: usize,
@@ -211,10 +211,10 @@ fn write_pieces(
 ) -> Result<(), AllocError> {
     let mut place = at;
     for piece in bytes.chunks(PIECE) {
-        match fate_at(place, any_from, draws) {
-            Fate::Kept => write_over(file, place, piece)?,
-            Fate::Lost => {}
-            Fate::Harmed => write_drawn(file, place, piece.len(), draws)?,
+        match remains_at(place, any_from, draws) {
+            Remains::Kept => write_over(file, place, piece)?,
+            Remains::Lost => {}
+            Remains::Harmed => write_drawn(file, place, piece.len(), draws)?,
         }
         place = place.saturating_add(PIECE);
     }

@@ -4,6 +4,7 @@ mod http;
 mod keys;
 mod plans;
 mod store;
+mod streams;
 mod tables;
 
 use rd_geometry::NoMemory;

@@ -1,7 +1,7 @@
 //! Builds bytes line by line.
 
 use anyhow::{Context, Result, bail};
-use rd_played::{add_bytes, bytes_of};
+use rd_fakes::escapes::{add_bytes, bytes_of};
 use std::alloc::{AllocError, Global};
 
 /// A number, and the text after it.

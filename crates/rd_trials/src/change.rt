@@ -2,7 +2,8 @@
 
 use crate::image::build_with;
 use anyhow::{Result, bail};
-use rd_played::{Tally, answer_of};
+use rd_fakes::tables::answer_of;
+use rd_fakes::tally::Tally;
 use sqlite::types::ValueRef;
 use sqlite::{Connection, Error, MemStore};
 use std::alloc::Global;

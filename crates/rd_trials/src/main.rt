@@ -15,7 +15,7 @@ mod script;
 mod visits;
 
 use anyhow::Result;
-use rd_played::Tally;
+use rd_fakes::tally::Tally;
 use script::{Line, parts_of, script_of};
 use std::env;
 use std::process::ExitCode;

@@ -3,8 +3,9 @@
 use super::machine::{add_limits, told_place};
 use crate::bytes::add_out;
 use anyhow::{Result, bail};
+use rd_fakes::escapes::add_bytes;
+use rd_fakes::tally::Tally;
 use rd_http::TimeLimits;
-use rd_played::{Tally, add_bytes};
 use rd_program::Place;
 use std::alloc::{AllocError, Global};
 use std::time::Duration;

@@ -113,7 +113,7 @@ pub(crate) enum Opening {
 
 /// How the desk that tables hold is taken.
 #[derive(Clone, Copy, PartialEq, Eq)]
-pub(crate) enum Way {
+pub(crate) enum Opener {
     /// It is opened as it is.
     Open,
     /// It is opened too where it is of an earlier version, and is then of this one.
@@ -123,11 +123,11 @@ pub(crate) enum Way {
 fn opened(
     alloc: Global,
     conn: Connection<MemStore>,
-    way: Way,
+    opener: Opener,
 ) -> Result<Store<MemStore>, (OpenFault, Connection<MemStore>)> {
-    match way {
-        Way::Open => open_store(alloc, conn),
-        Way::Migrate => migrate(alloc, conn),
+    match opener {
+        Opener::Open => open_store(alloc, conn),
+        Opener::Migrate => migrate(alloc, conn),
     }
 }
 
@@ -136,12 +136,12 @@ pub(crate) fn open(
     alloc: Global,
     conn: Connection<MemStore>,
     zone: Zone,
-    way: Way,
+    opener: Opener,
 ) -> (Stage, Opening) {
     if !conn.is_autocommit() {
         return (Stage::Tables(conn), Opening::Inside);
     }
-    match opened(alloc, conn, way) {
+    match opened(alloc, conn, opener) {
         Ok(store) => (Stage::Open(Desk::new(store, zone)), Opening::Well),
         Err((fault, conn)) => (Stage::Tables(conn), Opening::Fault(fault)),
     }

@@ -1,15 +1,16 @@
 //! Trials of a desk, played line by line.
 
 use super::desk::{
-    Opening, Stage, Way, new_desk, open, visit as make_visit, visit_in_memory, with_zone,
+    Opener, Opening, Stage, new_desk, open, visit as make_visit, visit_in_memory, with_zone,
 };
 use super::visit::{Likeness, Visit, outcome_of};
 use crate::change::{Change, Effect, Question};
 use crate::script::{Line, parts_of};
 use anyhow::{Context, Result, bail};
 use rd_fakes::desk::new_connection;
+use rd_fakes::tables::{KeptTables, contents_of};
+use rd_fakes::tally::Tally;
 use rd_fakes::wire::WHOLE;
-use rd_played::{KeptTables, Tally, contents_of};
 use rd_policy::Zone;
 use rd_samples::days::CENTRAL;
 use rd_store::OpenFault;
@@ -146,8 +147,8 @@ impl<'a> Player<'a> {
             "zone" => self.set_zone(zone_of(text)?),
             "anew" => self.stage_new(rt)?,
             "empty" => self.stage = Stage::Tables(new_connection(rt.alloc())?),
-            "opens" => self.open_twice(rt, (place, word), text, Way::Open)?,
-            "migrates" => self.open_twice(rt, (place, word), text, Way::Migrate)?,
+            "opens" => self.open_twice(rt, (place, word), text, Opener::Open)?,
+            "migrates" => self.open_twice(rt, (place, word), text, Opener::Migrate)?,
             "tables" => self.compare(rt, place, text)?,
             _ => self.item = Item::Change(Change::new(rt.alloc(), place, Effect::of(word), text)),
         }
@@ -263,8 +264,8 @@ impl<'a> Player<'a> {
     }
 
     /// Opens the desk that the tables hold, and gives the word for how that ends.
-    fn open(&mut self, rt: &HostRuntime, way: Way) -> Result<&'static str> {
-        let (stage, opening) = open(rt.alloc(), self.take_tables()?, self.zone, way);
+    fn open(&mut self, rt: &HostRuntime, opener: Opener) -> Result<&'static str> {
+        let (stage, opening) = open(rt.alloc(), self.take_tables()?, self.zone, opener);
         self.stage = stage;
         Ok(word_of(opening))
     }
@@ -277,25 +278,25 @@ impl<'a> Player<'a> {
         rt: &HostRuntime,
         case: (&'a str, &'a str),
         wanted: &'a str,
-        way: Way,
+        opener: Opener,
     ) -> Result<()> {
         if !is_opening(wanted) {
             bail!("no such opening");
         }
         let before = self.contents(rt)?;
-        let first = self.open(rt, way)?;
-        let migrated = way == Way::Migrate
+        let first = self.open(rt, opener)?;
+        let migrated = opener == Opener::Migrate
             && first == "well"
             && before.as_str().contains(FIRST_VERSION);
         let kept = if migrated { self.contents(rt)? } else { before };
-        let second = self.open(rt, way)?;
+        let second = self.open(rt, opener)?;
         let last = self.contents(rt)?;
         let came = if first != second {
             "otherwise the second time"
         } else if kept != last {
             "with other tables"
         } else if first == "well" {
-            self.open(rt, way)?
+            self.open(rt, opener)?
         } else {
             first
         };

@@ -3,7 +3,7 @@ use Rattle.std.proofs.Common.{◌≡◌, ◌∙◌, IfSome, codes, false, refl, 
 use Rattle.clap.proofs.WalkLemmas.{one_text-rows}
 use Rattle.rd_policy.specs.Rules.{IsScope}
 use Rattle.rd_commands.proofs.GetterLemmas.{number_is}
-use Rattle.rd_commands.proofs.Looks.{accession_told}
+use Rattle.rd_commands.proofs.Looks.{accession_is_given}
 use Rattle.rd_commands.proofs.Places.{count_given}
 use Rattle.rd_commands.specs.Serving.{IsCountGiven}
 use Rattle.rd_commands.proofs.asked.accession_asked.Goals as goal
@@ -26,6 +26,6 @@ returns-else-is_scope-clause-number c = λ text acc there parses within.
 
 pub returns-then-is_scope-clause-from : goal.returns-then-is_scope-clause-from
 returns-then-is_scope-clause-from c =
-    accession_told (rows_of (found_of c.args.found.now)) c.get_one.result c.in_ok-acc.acc c.in_ok-acc.was
+    accession_is_given (rows_of (found_of c.args.found.now)) c.get_one.result c.in_ok-acc.acc c.in_ok-acc.was
     (subst (λ told. IfSome c.get_one.result (IsCountGiven told)) (one_text-rows (found_of c.args.found.now) (codes "acc"))
     (count_given _ c.get_one.result c.get_one.ensures.none c.get_one.ensures.value)) (c.if-is_scope.ensures.0 refl)

@@ -14,7 +14,7 @@ pub returns-clause-asked : goal.returns-clause-asked
 returns-clause-asked c = λ store target summed rows. record {
   store_is = text_is (found_of c.args.found.now) (codes "store") _ store c.in_ok-from.ensures rows.store_found;
   target_is = text_is (found_of c.args.found.now) (codes "to") _ target c.in_ok-target.ensures rows.target_found;
-  sums_are = c.sums_asked-has_sums.ensures summed rows.sums_told;
+  sums_are = c.sums_asked-has_sums.ensures summed rows.sums_given;
 }
 
 pub returns-clause-from : goal.returns-clause-from

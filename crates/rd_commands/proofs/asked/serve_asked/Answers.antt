@@ -12,7 +12,7 @@ returns-in_err-place_asked-clause-asked c = λ store place count rule rows. absu
 
 pub returns-in_err-count_asked-clause-asked : goal.returns-in_err-count_asked-clause-asked
 returns-in_err-count_asked-clause-asked c = λ store place count rule rows.
-    let none = c.in_err-count_asked.ensures.asked count rows.count_told in absurd (cc none)
+    let none = c.in_err-count_asked.ensures.asked count rows.count_used in absurd (cc none)
 
 pub returns-in_err-zone_asked-clause-asked : goal.returns-in_err-zone_asked-clause-asked
 returns-in_err-zone_asked-clause-asked c = λ store place count rule rows. absurd (c.in_err-zone_asked.ensures.asked rule rows.rule_named)
@@ -21,7 +21,7 @@ pub returns-clause-asked : goal.returns-clause-asked
 returns-clause-asked c = λ store place count rule rows. record {
   store_is = text_is (found_of c.args.found.now) (codes "store") _ store c.in_ok-get_str.ensures rows.store_found;
   place_is = c.in_ok-place_asked.ensures.asked place rows.place_named;
-  count_is = let same = c.in_ok-count_asked.ensures.asked count rows.count_told in cc;
+  count_is = let same = c.in_ok-count_asked.ensures.asked count rows.count_used in cc;
   zone_is = c.in_ok-zone_asked.ensures.asked rule rows.rule_named;
 }
 
@@ -29,6 +29,6 @@ pub returns-clause-from : goal.returns-clause-from
 returns-clause-from c = record {
   store = sym (c.in_ok-get_str.ensures ∙ first_value-rows (found_of c.args.found.now) (codes "store"));
   place = c.in_ok-place_asked.ensures.named;
-  count = c.in_ok-count_asked.ensures.told;
+  count = c.in_ok-count_asked.ensures.given;
   zone = c.in_ok-zone_asked.ensures.from;
 }

@@ -1,11 +1,11 @@
 use Rattle.clap.specs.Words.{found_of}
 use Rattle.std.proofs.Common.{codes, subst, sym}
 use Rattle.clap.proofs.WalkLemmas.{one_text-rows}
-use Rattle.rd_commands.specs.Zones.{IsFlagTold}
+use Rattle.rd_commands.specs.Zones.{IsFlagGiven}
 use Rattle.rd_commands.proofs.GetterLemmas.{flag_is}
 use Rattle.rd_commands.proofs.asked.sums_asked.Goals as goal
 
 pub returns : goal.returns
 returns c = λ summed told.
     flag_is _ summed c.get_flag.result c.get_flag.ensures.none c.get_flag.ensures.value c.get_flag.ensures.other
-    (subst (λ o. IsFlagTold o summed) (sym (one_text-rows (found_of c.args.found.now) (codes "sums"))) told)
+    (subst (λ o. IsFlagGiven o summed) (sym (one_text-rows (found_of c.args.found.now) (codes "sums"))) told)

@@ -3,7 +3,7 @@ use Rattle.std.specs.Prelude.{IsSomeAnd}
 use Rattle.clap.specs.Words.{first_of, found_of, rows_of}
 use Rattle.rd_policy.specs.Zones.{IsZoneOf, IsZoneRule}
 use Rattle.rd_commands.specs.Zones.{rule_text}
-use Rattle.rd_commands.proofs.GetterLemmas.{rule_is, zone_ruled, zone_told}
+use Rattle.rd_commands.proofs.GetterLemmas.{rule_is, zone_ruled, zone_given}
 use Rattle.rd_commands.proofs.Looks.{zone_of}
 use Rattle.rd_commands.proofs.asked.zone_asked.Goals as goal
 
@@ -18,7 +18,7 @@ pub returns-clause-asked : goal.returns-clause-asked
 returns-clause-asked c = λ rule told.
     let is = same c ∙ sym told.0 in
     subst (λ text. IsSomeAnd c.ok.result (IsZoneOf text)) is
-    (zone_told c.read.result c.ok.result _ c.ok.ensures.value c.read.ensures.taken c.read.ensures.zone (subst IsZoneRule (sym is) told.1))
+    (zone_given c.read.result c.ok.result _ c.ok.ensures.value c.read.ensures.taken c.read.ensures.zone (subst IsZoneRule (sym is) told.1))
 
 pub returns-clause-from : goal.returns-clause-from
 returns-clause-from c = subst (λ rule. IfSome c.ok.result (IsZoneOf rule)) (same c) (zone_of c.read.result c.ok.result _ c.ok.ensures.value c.read.ensures.zone)

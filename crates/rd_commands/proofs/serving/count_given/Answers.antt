@@ -10,7 +10,7 @@ pub returns-clause-asked : goal.returns-clause-asked
 returns-clause-asked c = λ text number there parses.
     number_is 32 text number c.get_one.result (c.get_one.ensures.value text (one_text-rows (found_of c.args.found.now) (codes "count") ∙ there)) parses
 
-pub returns-clause-told : goal.returns-clause-told
-returns-clause-told c =
+pub returns-clause-given : goal.returns-clause-given
+returns-clause-given c =
     subst (λ told. IfSome c.get_one.result (IsCountGiven told)) (one_text-rows (found_of c.args.found.now) (codes "count"))
     (count_given _ c.get_one.result c.get_one.ensures.none c.get_one.ensures.value)

@@ -14,16 +14,16 @@ returns-in-Some-clause-named c =
     socket_named (rows_of (found_of c.args.found.now)) _ c.socket_alone.result
     (c.in-Some.ensures ∙ first_value-rows (found_of c.args.found.now) (codes "socket")) c.socket_alone.ensures.named
 
-pub returns-in_err-port_told-in-None-clause-asked : goal.returns-in_err-port_told-in-None-clause-asked
-returns-in_err-port_told-in-None-clause-asked c = λ place named.
+pub returns-in_err-port_used-in-None-clause-asked : goal.returns-in_err-port_used-in-None-clause-asked
+returns-in_err-port_used-in-None-clause-asked c = λ place named.
     absurd (no_port (rows_of (found_of c.args.found.now)) place
-    (c.in-None.ensures ∙ first_value-rows (found_of c.args.found.now) (codes "socket")) c.in_err-port_told-in-None.ensures.asked named)
+    (c.in-None.ensures ∙ first_value-rows (found_of c.args.found.now) (codes "socket")) c.in_err-port_used-in-None.ensures.asked named)
 
-pub returns-in_ok-port_told-in-None-clause-asked : goal.returns-in_ok-port_told-in-None-clause-asked
-returns-in_ok-port_told-in-None-clause-asked c = λ place named.
+pub returns-in_ok-port_used-in-None-clause-asked : goal.returns-in_ok-port_used-in-None-clause-asked
+returns-in_ok-port_used-in-None-clause-asked c = λ place named.
     port_place (rows_of (found_of c.args.found.now)) _ place
-    (c.in-None.ensures ∙ first_value-rows (found_of c.args.found.now) (codes "socket")) c.in_ok-port_told-in-None.ensures.asked named
+    (c.in-None.ensures ∙ first_value-rows (found_of c.args.found.now) (codes "socket")) c.in_ok-port_used-in-None.ensures.asked named
 
-pub returns-in_ok-port_told-in-None-clause-named : goal.returns-in_ok-port_told-in-None-clause-named
-returns-in_ok-port_told-in-None-clause-named c =
-    (c.in_ok-port_told-in-None.ensures.told, sym (c.in-None.ensures ∙ first_value-rows (found_of c.args.found.now) (codes "socket")))
+pub returns-in_ok-port_used-in-None-clause-named : goal.returns-in_ok-port_used-in-None-clause-named
+returns-in_ok-port_used-in-None-clause-named c =
+    (c.in_ok-port_used-in-None.ensures.given, sym (c.in-None.ensures ∙ first_value-rows (found_of c.args.found.now) (codes "socket")))

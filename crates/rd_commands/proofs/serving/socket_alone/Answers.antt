@@ -1,7 +1,7 @@
 use Rattle.std.proofs.Common.{◌∙◌, codes, refl, sym}
 use Rattle.clap.specs.Words.{found_of}
 use Rattle.clap.proofs.WalkLemmas.{first_value-rows}
-use Rattle.rd_commands.proofs.Places.{there_and_absent}
+use Rattle.rd_commands.proofs.Options.{there_and_absent}
 use Rattle.rd_commands.proofs.serving.socket_alone.Goals as goal
 
 pub returns-in-Some-clause-alone : goal.returns-in-Some-clause-alone

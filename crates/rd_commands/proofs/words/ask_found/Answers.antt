@@ -1,11 +1,11 @@
 use Rattle.std.proofs.Common.{◌≡◌, ◌∙◌, Some, ap, codes, false, inl, inr, refl, subst, sym}
 use Rattle.clap.specs.Words.{one_of, subcommand_rows_of}
-use Rattle.rd_commands.specs.Asks.{AreCatRows, AreCheckRows, AreCopyRows, AreExportRows, AreFilesRows, AreImportRows, AreInitRows, AreServeRows, AreShowRows, AreStaffKeyRows, AreWays, AsksOneQuestion, EntersAs}
+use Rattle.rd_commands.specs.Asks.{AreCatRows, AreCheckRows, AreCopyRows, AreExportRows, AreFilesRows, AreImportRows, AreInitRows, AreServeRows, AreShowRows, AreStaffKeyRows, AreImportFlags, AsksOneQuestion, EntersAs}
 use Rattle.rd_commands.specs.declared.words.Question.TheVariants.{Show}
-use Rattle.rd_commands.specs.Zones.{HasZoneRule, IsFlagTold, TellsTrust}
+use Rattle.rd_commands.specs.Zones.{HasZoneRule, IsFlagGiven, TellsTrust}
 use Rattle.rd_commands.proofs.GetterLemmas.{clockless, entered_as, entered_named, name_met, no_init, rows_met}
 use Rattle.rd_commands.proofs.Looks.{check_name, question_from, sheet_from, sheet_timed, sheet_within, shown_in}
-use Rattle.rd_commands.specs.Told.{question_name}
+use Rattle.rd_commands.specs.Parsed.{question_name}
 use Rattle.rd_commands.proofs.Places.{timed_met}
 use Rattle.rd_commands.proofs.words.ask_found.Goals as goal
 
@@ -38,25 +38,25 @@ pub returns-in_err-sheet_asked-in-import-clause-import : goal.returns-in_err-she
 returns-in_err-sheet_asked-in-import-clause-import c = λ store key sheet moment rule enters.
     let rows = rows_met c.args.matches.now _ enters.rows _ enters.into (sym c.in_ok-name.ensures.rows) in
     absurd (c.in_err-sheet_asked-in-import.ensures.import store key sheet moment rule (subst (λ r. AreImportRows r store key sheet moment rule) rows enters.found)
-    (subst (λ r. AreWays r false false) rows enters.ways))
+    (subst (λ r. AreImportFlags r false false) rows enters.flags))
 
 pub returns-in_ok-sheet_asked-in-import-clause-import : goal.returns-in_ok-sheet_asked-in-import-clause-import
 returns-in_ok-sheet_asked-in-import-clause-import c = λ store key sheet moment rule enters.
     let rows = rows_met c.args.matches.now _ enters.rows _ enters.into (sym c.in_ok-name.ensures.rows) in
     c.in_ok-sheet_asked-in-import.ensures.import store key sheet moment rule (subst (λ r. AreImportRows r store key sheet moment rule) rows enters.found)
-    (subst (λ r. AreWays r false false) rows enters.ways)
+    (subst (λ r. AreImportFlags r false false) rows enters.flags)
 
-pub returns-in_err-sheet_asked-in-import-clause-sift : goal.returns-in_err-sheet_asked-in-import-clause-sift
-returns-in_err-sheet_asked-in-import-clause-sift c = λ store key sheet moment rule dry_run keep_going enters.
+pub returns-in_err-sheet_asked-in-import-clause-flagged_import : goal.returns-in_err-sheet_asked-in-import-clause-flagged_import
+returns-in_err-sheet_asked-in-import-clause-flagged_import c = λ store key sheet moment rule dry_run keep_going enters.
     let rows = rows_met c.args.matches.now _ enters.rows _ enters.into (sym c.in_ok-name.ensures.rows) in
-    absurd (c.in_err-sheet_asked-in-import.ensures.sift store key sheet moment rule dry_run keep_going (subst (λ r. AreImportRows r store key sheet moment rule) rows enters.found)
-    (subst (λ r. AreWays r dry_run keep_going) rows enters.ways) enters.one)
+    absurd (c.in_err-sheet_asked-in-import.ensures.flagged_import store key sheet moment rule dry_run keep_going (subst (λ r. AreImportRows r store key sheet moment rule) rows enters.found)
+    (subst (λ r. AreImportFlags r dry_run keep_going) rows enters.flags) enters.one)
 
-pub returns-in_ok-sheet_asked-in-import-clause-sift : goal.returns-in_ok-sheet_asked-in-import-clause-sift
-returns-in_ok-sheet_asked-in-import-clause-sift c = λ store key sheet moment rule dry_run keep_going enters.
+pub returns-in_ok-sheet_asked-in-import-clause-flagged_import : goal.returns-in_ok-sheet_asked-in-import-clause-flagged_import
+returns-in_ok-sheet_asked-in-import-clause-flagged_import c = λ store key sheet moment rule dry_run keep_going enters.
     let rows = rows_met c.args.matches.now _ enters.rows _ enters.into (sym c.in_ok-name.ensures.rows) in
-    c.in_ok-sheet_asked-in-import.ensures.sift store key sheet moment rule dry_run keep_going (subst (λ r. AreImportRows r store key sheet moment rule) rows enters.found)
-    (subst (λ r. AreWays r dry_run keep_going) rows enters.ways) enters.one
+    c.in_ok-sheet_asked-in-import.ensures.flagged_import store key sheet moment rule dry_run keep_going (subst (λ r. AreImportRows r store key sheet moment rule) rows enters.found)
+    (subst (λ r. AreImportFlags r dry_run keep_going) rows enters.flags) enters.one
 
 pub returns-in_err-extract_asked-in-files-clause-extract : goal.returns-in_err-extract_asked-in-files-clause-extract
 returns-in_err-extract_asked-in-files-clause-extract c = λ kind image folder enters.
@@ -256,7 +256,7 @@ returns-in_ok-show_asked-in-show-clause-trust c = λ trusted told.
 pub returns-in_ok-init_asked-in-init-clause-sums : goal.returns-in_ok-init_asked-in-init-clause-sums
 returns-in_ok-init_asked-in-init-clause-sums c = λ summed told.
     c.in_ok-init_asked-in-init.ensures.sums summed
-    (subst (λ rows. IsFlagTold (one_of (codes "sums") rows) summed) (rows_met c.args.matches.now _ told.0 _ told.1 (sym c.in_ok-name.ensures.rows)) told.2)
+    (subst (λ rows. IsFlagGiven (one_of (codes "sums") rows) summed) (rows_met c.args.matches.now _ told.0 _ told.1 (sym c.in_ok-name.ensures.rows)) told.2)
 
 pub returns-in_ok-file_asked-in-cat-clause-sums : goal.returns-in_ok-file_asked-in-cat-clause-sums
 returns-in_ok-file_asked-in-cat-clause-sums c = λ summed told.

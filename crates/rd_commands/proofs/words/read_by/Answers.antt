@@ -5,7 +5,7 @@ use Rattle.rd_commands.specs.declared.words.Unread.TheVariants.{Day, Place as No
 use Rattle.rd_commands.proofs.GetterLemmas.{GivesRows, ask_given, ask_read, ask_unread, entered_is, fails_for_memory, faultless, names_what_it_shows, no_fault_in, passed_on, sums_read, taken_apart, taken_by, taken_on_output, taken_serving, taken_showing, trust_read, words_at_fault}
 use Rattle.rd_commands.proofs.OneCommand.{gives_kind, gives_matches, gives_memory, gives_no_fault}
 use Rattle.rd_commands.proofs.HelpLine.{help_unread, not_help}
-use Rattle.rd_commands.proofs.Places.{fits_together, look_mistake, look_no_fault, look_not_placed, look_not_shown, look_unread, names_a_place, tells_beside}
+use Rattle.rd_commands.proofs.Places.{fits_together, look_mistake, look_no_fault, look_not_placed, look_not_shown, look_unread, names_a_place, tells_options}
 use Rattle.rd_commands.proofs.VersionLine.{not_version, version_unread}
 use Rattle.rd_commands.proofs.words.read_by.Goals as goal
 
@@ -134,7 +134,7 @@ returns-in_err-seen-in-Ok-clause-of_clap c =
 pub returns-in-Some-clause-read : goal.returns-in-Some-clause-read
 returns-in-Some-clause-read c =
     let words = map (λ word. word.now) c.args.words.now in
-    let rows : GivesRows (subcommand_rows_of c.in-Ok.matches) c.in_ok-seen-in-Ok.seen.shown (Some c.in-Some.ask) = record { file = c.in-Some.ensures.file; files = c.in-Some.ensures.files; init = c.in-Some.ensures.init; serve = c.in-Some.ensures.serve; timeouts = c.in-Some.ensures.timeouts; import = c.in-Some.ensures.import; export = c.in-Some.ensures.export; check = c.in-Some.ensures.check; show = c.in-Some.ensures.show; sift = c.in-Some.ensures.sift; extract = c.in-Some.ensures.extract; staff_key = c.in-Some.ensures.staff_key; copy = c.in-Some.ensures.copy } in
+    let rows : GivesRows (subcommand_rows_of c.in-Ok.matches) c.in_ok-seen-in-Ok.seen.shown (Some c.in-Some.ask) = record { file = c.in-Some.ensures.file; files = c.in-Some.ensures.files; init = c.in-Some.ensures.init; serve = c.in-Some.ensures.serve; timeouts = c.in-Some.ensures.timeouts; import = c.in-Some.ensures.import; export = c.in-Some.ensures.export; check = c.in-Some.ensures.check; show = c.in-Some.ensures.show; flagged_import = c.in-Some.ensures.flagged_import; extract = c.in-Some.ensures.extract; staff_key = c.in-Some.ensures.staff_key; copy = c.in-Some.ensures.copy } in
     ask_read (Some c.in-Some.ask) Usage (Ok c.in-Some.ask) words refl
     (ask_given (Some c.in-Some.ask) c.in_ok-seen-in-Ok.seen.shown c.requires.whole words c.in-Ok.matches c.requires.is_desk (gives_matches (app_of c.args.desk) _ c.in-Ok.matches c.requires c.in-Ok.ensures.matches) c.in_ok-seen-in-Ok.ensures.named rows)
 
@@ -144,7 +144,7 @@ returns-in-Some-clause-accession c = c.in-Some.ensures.accession
 pub returns-in-Ok-clause-unread : goal.returns-in-Ok-clause-unread
 returns-in-Ok-clause-unread c =
     let words = map (λ word. word.now) c.args.words.now in
-    let rows : GivesRows (subcommand_rows_of c.in-Ok.matches) c.in_ok-seen-in-Ok.seen.shown None = record { file = c.in-None.ensures.file; files = c.in-None.ensures.files; init = c.in-None.ensures.init; serve = c.in-None.ensures.serve; timeouts = c.in-None.ensures.timeouts; import = c.in-None.ensures.import; export = c.in-None.ensures.export; check = c.in-None.ensures.check; show = c.in-None.ensures.show; sift = c.in-None.ensures.sift; extract = c.in-None.ensures.extract; staff_key = c.in-None.ensures.staff_key; copy = c.in-None.ensures.copy } in
+    let rows : GivesRows (subcommand_rows_of c.in-Ok.matches) c.in_ok-seen-in-Ok.seen.shown None = record { file = c.in-None.ensures.file; files = c.in-None.ensures.files; init = c.in-None.ensures.init; serve = c.in-None.ensures.serve; timeouts = c.in-None.ensures.timeouts; import = c.in-None.ensures.import; export = c.in-None.ensures.export; check = c.in-None.ensures.check; show = c.in-None.ensures.show; flagged_import = c.in-None.ensures.flagged_import; extract = c.in-None.ensures.extract; staff_key = c.in-None.ensures.staff_key; copy = c.in-None.ensures.copy } in
     ask_unread None Usage (Err Usage) words IsForMemory refl
     (ask_given None c.in_ok-seen-in-Ok.seen.shown c.requires.whole words c.in-Ok.matches c.requires.is_desk (gives_matches (app_of c.args.desk) _ c.in-Ok.matches c.requires c.in-Ok.ensures.matches) c.in_ok-seen-in-Ok.ensures.named rows)
 
@@ -207,9 +207,9 @@ returns-in-Ok-clause-of_clap c = λ none. absurd (none (taken_by c.requires.whol
 
 -- ---- what stands beside
 
-pub returns-in-Some-clause-beside : goal.returns-in-Some-clause-beside
-returns-in-Some-clause-beside c =
-    tells_beside c.requires.whole _ c.in-Ok.matches c.requires.is_desk (gives_matches (app_of c.args.desk) _ c.in-Ok.matches c.requires c.in-Ok.ensures.matches) c.in_ok-seen-in-Ok.seen.beside c.in_ok-seen-in-Ok.ensures.beside
+pub returns-in-Some-clause-options : goal.returns-in-Some-clause-options
+returns-in-Some-clause-options c =
+    tells_options c.requires.whole _ c.in-Ok.matches c.requires.is_desk (gives_matches (app_of c.args.desk) _ c.in-Ok.matches c.requires c.in-Ok.ensures.matches) c.in_ok-seen-in-Ok.seen.options c.in_ok-seen-in-Ok.ensures.options
 
 pub returns-in-Some-clause-together : goal.returns-in-Some-clause-together
 returns-in-Some-clause-together c = fits_together c.requires.whole _ c.in-Ok.matches c.requires.is_desk (gives_matches (app_of c.args.desk) _ c.in-Ok.matches c.requires c.in-Ok.ensures.matches) c.in_ok-seen-in-Ok.ensures.together
@@ -228,7 +228,7 @@ returns-in-Some-clause-all c =
         into = entered_is app words c.in-Ok.matches c.requires.is_desk (gives_matches (app_of c.args.desk) _ c.in-Ok.matches c.requires c.in-Ok.ensures.matches) ∙ from.1;
       };
       asks = from.2;
-      beside = c.in_ok-seen-in-Ok.ensures.beside _ from.0 from.1;
+      options = c.in_ok-seen-in-Ok.ensures.options _ from.0 from.1;
     }
 
 pub returns-clause-apart : goal.returns-clause-apart

@@ -14,9 +14,9 @@ returns-clause-replied g c is_open =
     let served = c.loop-served.served in
     let coming = g.D.Door.coming c.args.door.now in
     let left = g.D.Door.coming c.loop-served.door in
-    let later = g.D.Door.told c.loop-served.door in
+    let later = g.D.Door.so_far c.loop-served.door in
     if_told (λ told. HasRun (IsAnswer g.S.Store) zone told later coming left served old new) (λ told. HasRun IsReplied zone told later coming left served (tables g.S.Store old) (tables g.S.Store new))
-    (g.D.Door.told c.args.door.now) c.loop-served.invariant.run (λ told run. run_replied g.S.Store zone coming left told later served old new run is_open)
+    (g.D.Door.so_far c.args.door.now) c.loop-served.invariant.run (λ told run. run_replied g.S.Store zone coming left told later served old new run is_open)
 
 pub returns-clause-hidden : goal.returns-clause-hidden
 returns-clause-hidden g c is_open =
@@ -26,6 +26,6 @@ returns-clause-hidden g c is_open =
     let served = c.loop-served.served in
     let coming = g.D.Door.coming c.args.door.now in
     let left = g.D.Door.coming c.loop-served.door in
-    let later = g.D.Door.told c.loop-served.door in
+    let later = g.D.Door.so_far c.loop-served.door in
     if_told (λ told. HasRun IsReplied zone told later coming left served old new) (λ told. HasRun RepliesAndHides zone told later coming left served old new)
-    (g.D.Door.told c.args.door.now) (returns-clause-replied g c is_open) (λ told run. run_hidden zone coming left told later served old new run)
+    (g.D.Door.so_far c.args.door.now) (returns-clause-replied g c is_open) (λ told run. run_hidden zone coming left told later served old new run)

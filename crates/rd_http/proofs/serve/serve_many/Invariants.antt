@@ -11,10 +11,10 @@ invariant-loop-served g l = record {
   within : l.served.visits ≤ l.count;
   over : l.served.ended ≢ Count → l.served.visits < l.count;
   faults : l.served.read_faults + l.served.write_faults ≤ l.served.visits;
-  run : IfSome (g.D.Door.told l.fn.door) (λ told. HasRun (IsAnswer g.S.Store) l.fn.desk.zone told (g.D.Door.told l.door) (g.D.Door.coming l.fn.door) (g.D.Door.coming l.door) l.served l.fn.desk.store l.desk.store);
+  run : IfSome (g.D.Door.so_far l.fn.door) (λ told. HasRun (IsAnswer g.S.Store) l.fn.desk.zone told (g.D.Door.so_far l.door) (g.D.Door.coming l.fn.door) (g.D.Door.coming l.door) l.served l.fn.desk.store l.desk.store);
   shut : l.served.ended ≡ Shut → g.D.Door.has_shut l.door ≡ true;
   stays : l.served.ended ≢ Shut → g.D.Door.has_shut l.door ≡ g.D.Door.has_shut l.fn.door;
-  last : l.served.ended ≡ Shut → g.D.Door.has_shut l.fn.door ≡ false → IfSome (g.D.Door.told l.fn.door) (λ told. told.under_way ≡ None → NoneLeft (g.D.Door.coming l.door));
+  last : l.served.ended ≡ Shut → g.D.Door.has_shut l.fn.door ≡ false → IfSome (g.D.Door.so_far l.fn.door) (λ told. told.under_way ≡ None → NoneLeft (g.D.Door.coming l.door));
   lasts : Lasts g.S.Store l.fn.desk.store l.desk.store;
   zone : l.desk.zone ≡ l.fn.desk.zone;
   heard : ((conn : _) → g.D.Conn.Wire.read_failed conn ≡ false) → l.served.read_faults ≡ 0;

@@ -17,11 +17,11 @@ returns-clause-next g c =
     let visit = subst (λ seconds. IsServed g.S.Store g.D.Conn.Wire seconds zone conn left old new ending) (to_z-of_z w64 c.in-Ok.seconds fits) c.serve_visit-ending.ensures.served in
     record {
       run = λ told coming start run.
-          subst (λ served. HasRun (IsAnswer g.S.Store) zone told (g.D.Door.told c.leave.new.self) coming (g.D.Door.coming c.leave.new.self) served start new) (sym c.with.ensures)
+          subst (λ served. HasRun (IsAnswer g.S.Store) zone told (g.D.Door.so_far c.leave.new.self) coming (g.D.Door.coming c.leave.new.self) served start new) (sym c.with.ensures)
           (run_step (IsAnswer g.S.Store) zone coming (g.D.Door.coming c.args.door.now) (g.D.Door.coming c.admit.new.self) (g.D.Door.coming c.leave.new.self)
-          told (g.D.Door.told c.args.door.now) (g.D.Door.told c.admit.new.self) (g.D.Door.told c.leave.new.self) c.args.served start old new c.in-Ok.seconds
+          told (g.D.Door.so_far c.args.door.now) (g.D.Door.so_far c.admit.new.self) (g.D.Door.so_far c.leave.new.self) c.args.served start old new c.in-Ok.seconds
           (g.D.Conn.Wire.came conn) (g.D.Conn.Wire.incoming conn) (g.D.Conn.Wire.came left) (g.D.Conn.Wire.outgoing conn) (g.D.Conn.Wire.outgoing left) (g.D.Conn.Wire.read_failed left) (g.D.Conn.Wire.write_failed left)
-          ending run c.in-Ok.ensures.next c.leave.ensures.kept c.requires.counting c.in-Ok.ensures.told c.in-Ok.ensures.whole c.in-Ok.ensures.tells visit.answered visit.came c.leave.ensures.told
+          ending run c.in-Ok.ensures.next c.leave.ensures.kept c.requires.counting c.in-Ok.ensures.visits c.in-Ok.ensures.whole c.in-Ok.ensures.tells visit.answered visit.came c.leave.ensures.visits
           (record { read = visit.read; write = visit.write; clock = visit.clock }));
       more = search rules;
       over = search rules;

@@ -11,7 +11,7 @@ returns-in-Request-clause-answers g c stream is =
     let serves =
     subst (λ day. Serves g.S.Store c.args.desk.now.store c.answer_on.new.self.store day c.in-Request.request c.answer_on.result)
     (to_z-of_z w32 c.args.day c.ranges.day) c.answer_on.ensures.serves in
-    inl (request c.in-Request.request, rw c.in-Request.is at is, (c.answer_on.result, serves, c.of_desk.ensures.text))
+    inl (request c.in-Request.request, rw c.in-Request.is at is, (c.answer_on.result, serves, c.with_challenge.ensures.text))
 
 pub returns-in-Fault-clause-answers : goal.returns-in-Fault-clause-answers
 returns-in-Fault-clause-answers g c stream is =
@@ -19,4 +19,4 @@ returns-in-Fault-clause-answers g c stream is =
 
 pub returns-in-NoMemory-clause-answers : goal.returns-in-NoMemory-clause-answers
 returns-in-NoMemory-clause-answers g c stream is =
-    inr (record { framed = rw c.in-NoMemory.is at is; same = refl; text_is = c.of_desk-in-NoMemory.ensures.text ∙ ap answer_bytes c.unavailable.ensures })
+    inr (record { framed = rw c.in-NoMemory.is at is; same = refl; text_is = c.with_challenge-in-NoMemory.ensures.text ∙ ap answer_bytes c.unavailable.ensures })

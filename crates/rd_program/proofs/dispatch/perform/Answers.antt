@@ -23,7 +23,7 @@ use Rattle.rd_program.proofs.dispatch.perform.Goals as goal
 
 pub returns-in-File-clause-does : goal.returns-in-File-clause-does
 returns-in-File-clause-does g c =
-    subst (λ ask. Does g.M.Disk.Store g.M.Door.Door.told g.M.Door.Door.coming (g.M.Machine.seen c.args.machine.now) (g.M.Machine.seen c.cat.new.machine)
+    subst (λ ask. Does g.M.Disk.Store g.M.Door.Door.so_far g.M.Door.Door.coming (g.M.Machine.seen c.args.machine.now) (g.M.Machine.seen c.cat.new.machine)
     (record { input = g.R.Read.remaining c.args.input.now; out = g.W.Write.contents c.args.output.now; written = g.W.Write.contents c.cat.new.output }) ask c.whole.result) (sym c.in-File.is) (record {
       same = ap g.M.Machine.seen c.cat.ensures.same;
       so = record {
@@ -35,7 +35,7 @@ returns-in-File-clause-does g c =
 
 pub returns-in-Files-clause-does : goal.returns-in-Files-clause-does
 returns-in-Files-clause-does g c =
-    subst (λ ask. Does g.M.Disk.Store g.M.Door.Door.told g.M.Door.Door.coming (g.M.Machine.seen c.args.machine.now) (g.M.Machine.seen c.list.new.machine)
+    subst (λ ask. Does g.M.Disk.Store g.M.Door.Door.so_far g.M.Door.Door.coming (g.M.Machine.seen c.args.machine.now) (g.M.Machine.seen c.list.new.machine)
     (record { input = g.R.Read.remaining c.args.input.now; out = g.W.Write.contents c.args.output.now; written = g.W.Write.contents c.list.new.output }) ask c.whole-in-Files.result) (sym c.in-Files.is) (record {
       same = ap g.M.Machine.seen c.list.ensures.same;
       so = record {
@@ -47,7 +47,7 @@ returns-in-Files-clause-does g c =
 
 pub returns-in-Extract-clause-does : goal.returns-in-Extract-clause-does
 returns-in-Extract-clause-does g c =
-    subst (λ ask. Does g.M.Disk.Store g.M.Door.Door.told g.M.Door.Door.coming (g.M.Machine.seen c.args.machine.now) (g.M.Machine.seen c.extract.new.machine)
+    subst (λ ask. Does g.M.Disk.Store g.M.Door.Door.so_far g.M.Door.Door.coming (g.M.Machine.seen c.args.machine.now) (g.M.Machine.seen c.extract.new.machine)
     (record { input = g.R.Read.remaining c.args.input.now; out = g.W.Write.contents c.args.output.now; written = g.W.Write.contents c.extract.new.output }) ask c.whole-in-Extract.result) (sym c.in-Extract.is) (record {
       frame = c.extract.ensures.frame;
       so = at_both c.extract.result c.whole-in-Extract.result _ _ c.whole-in-Extract.ensures c.extract.ensures.extracted c.extract.ensures.refused;
@@ -55,42 +55,42 @@ returns-in-Extract-clause-does g c =
 
 pub returns-in-Init-clause-does : goal.returns-in-Init-clause-does
 returns-in-Init-clause-does g c =
-    subst (λ ask. Does g.M.Disk.Store g.M.Door.Door.told g.M.Door.Door.coming (g.M.Machine.seen c.args.machine.now) (g.M.Machine.seen c.init.new.machine)
+    subst (λ ask. Does g.M.Disk.Store g.M.Door.Door.so_far g.M.Door.Door.coming (g.M.Machine.seen c.args.machine.now) (g.M.Machine.seen c.init.new.machine)
     (record { input = g.R.Read.remaining c.args.input.now; out = g.W.Write.contents c.args.output.now; written = g.W.Write.contents c.init.new.output }) ask c.whole-in-Init.result) (sym c.in-Init.is) (subst (DoesInit g.M.Disk.Store (g.M.Machine.seen c.args.machine.now) (g.M.Machine.seen c.init.new.machine) (g.W.Write.contents c.args.output.now) (g.W.Write.contents c.init.new.output) c.in-Init.ask)
     (sym c.whole-in-Init.ensures) c.init.ensures.does)
 
 pub returns-in-StaffKey-clause-does : goal.returns-in-StaffKey-clause-does
 returns-in-StaffKey-clause-does g c =
-    subst (λ ask. Does g.M.Disk.Store g.M.Door.Door.told g.M.Door.Door.coming (g.M.Machine.seen c.args.machine.now) (g.M.Machine.seen c.staff_key.new.machine)
+    subst (λ ask. Does g.M.Disk.Store g.M.Door.Door.so_far g.M.Door.Door.coming (g.M.Machine.seen c.args.machine.now) (g.M.Machine.seen c.staff_key.new.machine)
     (record { input = g.R.Read.remaining c.args.input.now; out = g.W.Write.contents c.args.output.now; written = g.W.Write.contents c.staff_key.new.output }) ask c.whole-in-StaffKey.result) (sym c.in-StaffKey.is) (subst (DoesStaffKey g.M.Disk.Store (g.M.Machine.seen c.args.machine.now) (g.M.Machine.seen c.staff_key.new.machine) (g.W.Write.contents c.args.output.now) (g.W.Write.contents c.staff_key.new.output) c.in-StaffKey.ask)
     (sym c.whole-in-StaffKey.ensures) c.staff_key.ensures.does)
 
 pub returns-in-Copy-clause-does : goal.returns-in-Copy-clause-does
 returns-in-Copy-clause-does g c =
-    subst (λ ask. Does g.M.Disk.Store g.M.Door.Door.told g.M.Door.Door.coming (g.M.Machine.seen c.args.machine.now) (g.M.Machine.seen c.copy.new.machine)
+    subst (λ ask. Does g.M.Disk.Store g.M.Door.Door.so_far g.M.Door.Door.coming (g.M.Machine.seen c.args.machine.now) (g.M.Machine.seen c.copy.new.machine)
     (record { input = g.R.Read.remaining c.args.input.now; out = g.W.Write.contents c.args.output.now; written = g.W.Write.contents c.copy.new.output }) ask c.whole-in-Copy.result) (sym c.in-Copy.is) (subst (DoesCopy g.M.Disk.Store (g.M.Machine.seen c.args.machine.now) (g.M.Machine.seen c.copy.new.machine) (g.W.Write.contents c.args.output.now) (g.W.Write.contents c.copy.new.output) c.in-Copy.ask)
     (sym c.whole-in-Copy.ensures) c.copy.ensures.does)
 
 pub returns-in-OneQuestion-clause-does : goal.returns-in-OneQuestion-clause-does
 returns-in-OneQuestion-clause-does g c =
-    subst (λ ask. Does g.M.Disk.Store g.M.Door.Door.told g.M.Door.Door.coming (g.M.Machine.seen c.args.machine.now) (g.M.Machine.seen c.ask_once.new.machine)
+    subst (λ ask. Does g.M.Disk.Store g.M.Door.Door.so_far g.M.Door.Door.coming (g.M.Machine.seen c.args.machine.now) (g.M.Machine.seen c.ask_once.new.machine)
     (record { input = g.R.Read.remaining c.args.input.now; out = g.W.Write.contents c.args.output.now; written = g.W.Write.contents c.ask_once.new.output }) ask c.ask_once.result) (sym c.in-OneQuestion.is) c.ask_once.ensures.does
 
 pub returns-in-Import-clause-does : goal.returns-in-Import-clause-does
 returns-in-Import-clause-does g c =
-    subst (λ ask. Does g.M.Disk.Store g.M.Door.Door.told g.M.Door.Door.coming (g.M.Machine.seen c.args.machine.now) (g.M.Machine.seen c.import.new.machine)
+    subst (λ ask. Does g.M.Disk.Store g.M.Door.Door.so_far g.M.Door.Door.coming (g.M.Machine.seen c.args.machine.now) (g.M.Machine.seen c.import.new.machine)
     (record { input = g.R.Read.remaining c.args.input.now; out = g.W.Write.contents c.args.output.now; written = g.W.Write.contents c.import.new.output }) ask c.import.result) (sym c.in-Import.is) c.import.ensures.does
 
-pub returns-in-Sift-clause-does : goal.returns-in-Sift-clause-does
-returns-in-Sift-clause-does g c =
-    subst (λ ask. Does g.M.Disk.Store g.M.Door.Door.told g.M.Door.Door.coming (g.M.Machine.seen c.args.machine.now) (g.M.Machine.seen c.import-in-Sift.new.machine)
-    (record { input = g.R.Read.remaining c.args.input.now; out = g.W.Write.contents c.args.output.now; written = g.W.Write.contents c.import-in-Sift.new.output }) ask c.import-in-Sift.result) (sym c.in-Sift.is) c.import-in-Sift.ensures.does
+pub returns-in-FlaggedImport-clause-does : goal.returns-in-FlaggedImport-clause-does
+returns-in-FlaggedImport-clause-does g c =
+    subst (λ ask. Does g.M.Disk.Store g.M.Door.Door.so_far g.M.Door.Door.coming (g.M.Machine.seen c.args.machine.now) (g.M.Machine.seen c.import-in-FlaggedImport.new.machine)
+    (record { input = g.R.Read.remaining c.args.input.now; out = g.W.Write.contents c.args.output.now; written = g.W.Write.contents c.import-in-FlaggedImport.new.output }) ask c.import-in-FlaggedImport.result) (sym c.in-FlaggedImport.is) c.import-in-FlaggedImport.ensures.does
 
 pub returns-in-Serve-clause-does : goal.returns-in-Serve-clause-does
 returns-in-Serve-clause-does g c =
-    subst (λ ask. Does g.M.Disk.Store g.M.Door.Door.told g.M.Door.Door.coming (g.M.Machine.seen c.args.machine.now) (g.M.Machine.seen c.serve.new.machine)
+    subst (λ ask. Does g.M.Disk.Store g.M.Door.Door.so_far g.M.Door.Door.coming (g.M.Machine.seen c.args.machine.now) (g.M.Machine.seen c.serve.new.machine)
     (record { input = g.R.Read.remaining c.args.input.now; out = g.W.Write.contents c.args.output.now; written = g.W.Write.contents c.serve.new.output }) ask c.whole-in-Serve.result) (sym c.in-Serve.is) (subst (DoesServe g.M.Disk.Store (g.M.Machine.seen c.args.machine.now) (g.M.Machine.seen c.serve.new.machine) (g.W.Write.contents c.args.output.now) (g.W.Write.contents c.serve.new.output)
-    g.M.Door.Door.told g.M.Door.Door.coming c.in-Serve.ask) (sym c.whole-in-Serve.ensures) c.serve.ensures.does)
+    g.M.Door.Door.so_far g.M.Door.Door.coming c.in-Serve.ask) (sym c.whole-in-Serve.ensures) c.serve.ensures.does)
 
 -- ---- no refusal is a mistake in the words
 
@@ -200,8 +200,8 @@ returns-in-Copy-clause-flushed g c =
 pub returns-in-Extract-clause-flushed : goal.returns-in-Extract-clause-flushed
 returns-in-Extract-clause-flushed g c = ok_whole _ c.extract.result c.whole-in-Extract.result c.whole-in-Extract.ensures c.extract.ensures.flushed
 
-pub returns-in-Sift-clause-flushed : goal.returns-in-Sift-clause-flushed
-returns-in-Sift-clause-flushed g c = c.import-in-Sift.ensures.flushed
+pub returns-in-FlaggedImport-clause-flushed : goal.returns-in-FlaggedImport-clause-flushed
+returns-in-FlaggedImport-clause-flushed g c = c.import-in-FlaggedImport.ensures.flushed
 
 -- ---- the connection that is given back
 

@@ -16,25 +16,25 @@ use Rattle.rd_commands.proofs.RunLemmas.{not_done, reads_no_input, reads_of_kind
 use Rattle.rd_commands.proofs.ReadLimits.{reads_none}
 use Rattle.rd_commands.proofs.VersionLine.{version_asked, version_no_help, version_not_taken}
 use Rattle.rd_program.proofs.Plain.{extraction_taken, kind_plain, store_plain}
-use Rattle.rd_commands.specs.Told.{TellsAll}
+use Rattle.rd_commands.specs.Parsed.{TellsAll}
 use Rattle.rd_program.proofs.CompletingLemmas.{reads_no_more}
-use Rattle.rd_program.proofs.WhyLemmas.{ends_by, is_told, none_so, some_so}
+use Rattle.rd_program.proofs.WhyLemmas.{ends_by, is_parsed, none_so, some_so}
 use Rattle.rd_program.proofs.dispatch.run.Goals as goal
 
 -- ---- the call
 
-pub perform_told-requires-clause-of_store : goal.perform_told-requires-clause-of_store
-perform_told-requires-clause-of_store g c = λ apart. reads_no_more _ c.in-Ok.told c.in-Ok.ensures.all apart
+pub perform_parsed-requires-clause-of_store : goal.perform_parsed-requires-clause-of_store
+perform_parsed-requires-clause-of_store g c = λ apart. reads_no_more _ c.in-Ok.parsed c.in-Ok.ensures.all apart
 
 -- ---- the words
 
-pub returns-in-Ok-perform_told-clause-by_words : goal.returns-in-Ok-perform_told-clause-by_words
-returns-in-Ok-perform_told-clause-by_words g c = record {
+pub returns-in-Ok-perform_parsed-clause-by_words : goal.returns-in-Ok-perform_parsed-clause-by_words
+returns-in-Ok-perform_parsed-clause-by_words g c = record {
   command = λ zero. inl c.in-Ok.ensures.taken;
   refused_command = λ one. c.in-Ok.ensures.taken;
   zone = λ well. c.in-Ok.ensures.zone;
   no_rule = λ none. absurd (none c.in-Ok.ensures.zone);
-  no_rule_told = λ none named placed fit. absurd (none c.in-Ok.ensures.zone);
+  no_rule_said = λ none named placed fit. absurd (none c.in-Ok.ensures.zone);
   together = λ well. c.in-Ok.ensures.together;
   apart = λ none. absurd (none c.in-Ok.ensures.together);
   named = λ well. c.in-Ok.ensures.shown;
@@ -45,13 +45,13 @@ returns-in-Ok-perform_told-clause-by_words g c = record {
   usage = λ two. absurd (omega (arith, c.status.ensures.most, two));
 }
 
-pub returns-in-Err-perform_told-clause-by_words : goal.returns-in-Err-perform_told-clause-by_words
-returns-in-Err-perform_told-clause-by_words g c = record {
-  command = λ zero. absurd (not_done c.in-Err-perform_told.refused (sym c.tell_and_keep.ensures.status ∙ zero));
+pub returns-in-Err-perform_parsed-clause-by_words : goal.returns-in-Err-perform_parsed-clause-by_words
+returns-in-Err-perform_parsed-clause-by_words g c = record {
+  command = λ zero. absurd (not_done c.in-Err-perform_parsed.refused (sym c.tell_and_keep.ensures.status ∙ zero));
   refused_command = λ one. c.in-Ok.ensures.taken;
   zone = λ well. c.in-Ok.ensures.zone;
   no_rule = λ none. absurd (none c.in-Ok.ensures.zone);
-  no_rule_told = λ none named placed fit. absurd (none c.in-Ok.ensures.zone);
+  no_rule_said = λ none named placed fit. absurd (none c.in-Ok.ensures.zone);
   together = λ well. c.in-Ok.ensures.together;
   apart = λ none. absurd (none c.in-Ok.ensures.together);
   named = λ well. c.in-Ok.ensures.shown;
@@ -59,7 +59,7 @@ returns-in-Err-perform_told-clause-by_words g c = record {
   place = λ well. c.in-Ok.ensures.place;
   no_place = λ none. absurd (none c.in-Ok.ensures.place);
   mistake = λ none. absurd (none c.in-Ok.ensures.taken);
-  usage = λ two. absurd (c.in-Err-perform_told.ensures.never (sym c.tell_and_keep.ensures.status ∙ two));
+  usage = λ two. absurd (c.in-Err-perform_parsed.ensures.never (sym c.tell_and_keep.ensures.status ∙ two));
 }
 
 pub returns-in-Err-clause-by_words : goal.returns-in-Err-clause-by_words
@@ -79,7 +79,7 @@ returns-in-Err-clause-by_words g c = record {
     | inl usage ↦ inl (c.tell_unread.ensures.mistaken usage)
     | inr memory ↦ inr (tells (λ refusal. refusal ≡ NoMemory) NoMemory _ _ _ refl (c.tell_unread.ensures.memory memory).0 (c.tell_unread.ensures.no_memory memory))
   ];
-  no_rule_told = λ none named placed fit. elim (c.in-Err.ensures.no_rule none) [
+  no_rule_said = λ none named placed fit. elim (c.in-Err.ensures.no_rule none) [
     | inl mistake ↦
         let usage = no_other_mistake _ _ _ c.in-Err.unread mistake c.in-Err.ensures.day c.in-Err.ensures.placeless c.in-Err.ensures.mixed named placed fit in
         inl (c.tell_unread.ensures.mistaken (inl usage), c.tell_unread.ensures.mistake_written usage)
@@ -132,32 +132,32 @@ returns-in-Err-clause-by_words g c = record {
 
 -- ---- what is written at each status
 
-pub returns-in-Ok-perform_told-clause-by_status : goal.returns-in-Ok-perform_told-clause-by_status
-returns-in-Ok-perform_told-clause-by_status g c = record {
+pub returns-in-Ok-perform_parsed-clause-by_status : goal.returns-in-Ok-perform_parsed-clause-by_status
+returns-in-Ok-perform_parsed-clause-by_status g c = record {
   silent = λ zero. Keeps-refl _;
   names_failure = λ three. absurd (omega (arith, c.status.ensures.most, three));
   names_refusal = λ one.
-      inr (Keeps-refl _, c.in-Ok.ensures.written_on_output (c.in-Ok-perform_told.ensures.in_part (c.status.ensures.in_part (one_is_some one))), c.in-Ok-perform_told.ensures.flushed);
-  is_flushed = λ zero. c.in-Ok-perform_told.ensures.flushed;
+      inr (Keeps-refl _, c.in-Ok.ensures.written_on_output (c.in-Ok-perform_parsed.ensures.in_part (c.status.ensures.in_part (one_is_some one))), c.in-Ok-perform_parsed.ensures.flushed);
+  is_flushed = λ zero. c.in-Ok-perform_parsed.ensures.flushed;
   refused = λ one.
-      inr (inl (c.in-Ok.ensures.written_on_output (c.in-Ok-perform_told.ensures.in_part (c.status.ensures.in_part (one_is_some one)))));
+      inr (inl (c.in-Ok.ensures.written_on_output (c.in-Ok-perform_parsed.ensures.in_part (c.status.ensures.in_part (one_is_some one)))));
   usage_keeps = λ two. absurd (omega (arith, c.status.ensures.most, two));
 }
 
-pub returns-in-Err-perform_told-clause-by_status : goal.returns-in-Err-perform_told-clause-by_status
-returns-in-Err-perform_told-clause-by_status g c = record {
-  silent = λ zero. absurd (not_done c.in-Err-perform_told.refused (sym c.tell_and_keep.ensures.status ∙ zero));
-  names_failure = λ three. tells (λ _. ⊤) c.in-Err-perform_told.refused _ _ _ tt c.tell_and_keep.ensures.status c.tell_and_keep.ensures.written;
+pub returns-in-Err-perform_parsed-clause-by_status : goal.returns-in-Err-perform_parsed-clause-by_status
+returns-in-Err-perform_parsed-clause-by_status g c = record {
+  silent = λ zero. absurd (not_done c.in-Err-perform_parsed.refused (sym c.tell_and_keep.ensures.status ∙ zero));
+  names_failure = λ three. tells (λ _. ⊤) c.in-Err-perform_parsed.refused _ _ _ tt c.tell_and_keep.ensures.status c.tell_and_keep.ensures.written;
   names_refusal = λ one.
-      inl (tells (λ _. ⊤) c.in-Err-perform_told.refused _ _ _ tt c.tell_and_keep.ensures.status c.tell_and_keep.ensures.written);
-  is_flushed = λ zero. absurd (not_done c.in-Err-perform_told.refused (sym c.tell_and_keep.ensures.status ∙ zero));
+      inl (tells (λ _. ⊤) c.in-Err-perform_parsed.refused _ _ _ tt c.tell_and_keep.ensures.status c.tell_and_keep.ensures.written);
+  is_flushed = λ zero. absurd (not_done c.in-Err-perform_parsed.refused (sym c.tell_and_keep.ensures.status ∙ zero));
   refused = λ one.
-      elim (c.in-Err-perform_told.ensures.kept (sym c.tell_and_keep.ensures.status ∙ one)) [
+      elim (c.in-Err-perform_parsed.ensures.kept (sym c.tell_and_keep.ensures.status ∙ one)) [
         | inl kept ↦ inl kept
-        | inr (inl rows) ↦ inr (inl (c.in-Ok.ensures.written_on_output (rows_tell c.in-Ok.told.ask rows)))
-        | inr (inr files) ↦ inr (inr (extraction_taken _ c.in-Ok.told files c.in-Ok.ensures.all))
+        | inr (inl rows) ↦ inr (inl (c.in-Ok.ensures.written_on_output (rows_tell c.in-Ok.parsed.ask rows)))
+        | inr (inr files) ↦ inr (inr (extraction_taken _ c.in-Ok.parsed files c.in-Ok.ensures.all))
       ];
-  usage_keeps = λ two. absurd (c.in-Err-perform_told.ensures.never (sym c.tell_and_keep.ensures.status ∙ two));
+  usage_keeps = λ two. absurd (c.in-Err-perform_parsed.ensures.never (sym c.tell_and_keep.ensures.status ∙ two));
 }
 
 pub returns-in-Err-clause-by_status : goal.returns-in-Err-clause-by_status
@@ -173,26 +173,26 @@ returns-in-Err-clause-by_status g c = record {
 
 -- ---- what is read
 
-pub returns-in-Ok-perform_told-clause-reads : goal.returns-in-Ok-perform_told-clause-reads
-returns-in-Ok-perform_told-clause-reads g c = record {
-  limit = c.perform_told.ensures.limit;
+pub returns-in-Ok-perform_parsed-clause-reads : goal.returns-in-Ok-perform_parsed-clause-reads
+returns-in-Ok-perform_parsed-clause-reads g c = record {
+  limit = c.perform_parsed.ensures.limit;
   limit_of_store = λ asks.
-      subst (λ most. ReadsUpTo most (g.R.Read.remaining c.args.input.now) (g.R.Read.remaining c.perform_told.new.input))
-      (reads_no_input _ c.in-Ok.told.ask c.in-Ok.ensures.read asks) (c.perform_told.ensures.limit_plain (store_plain _ c.in-Ok.told.beside c.in-Ok.ensures.beside asks));
+      subst (λ most. ReadsUpTo most (g.R.Read.remaining c.args.input.now) (g.R.Read.remaining c.perform_parsed.new.input))
+      (reads_no_input _ c.in-Ok.parsed.ask c.in-Ok.ensures.read asks) (c.perform_parsed.ensures.limit_plain (store_plain _ c.in-Ok.parsed.options c.in-Ok.ensures.options asks));
   limit_of_kind = λ kind asks.
-      subst (λ most. ReadsUpTo most (g.R.Read.remaining c.args.input.now) (g.R.Read.remaining c.perform_told.new.input))
-      (reads_of_kind _ c.in-Ok.told.ask kind c.in-Ok.ensures.read asks) (c.perform_told.ensures.limit_plain (kind_plain _ c.in-Ok.told c.in-Ok.ensures.all c.in-Ok.ensures.read kind asks));
+      subst (λ most. ReadsUpTo most (g.R.Read.remaining c.args.input.now) (g.R.Read.remaining c.perform_parsed.new.input))
+      (reads_of_kind _ c.in-Ok.parsed.ask kind c.in-Ok.ensures.read asks) (c.perform_parsed.ensures.limit_plain (kind_plain _ c.in-Ok.parsed c.in-Ok.ensures.all c.in-Ok.ensures.read kind asks));
 }
 
-pub returns-in-Err-perform_told-clause-reads : goal.returns-in-Err-perform_told-clause-reads
-returns-in-Err-perform_told-clause-reads g c = record {
-  limit = c.perform_told.ensures.limit;
+pub returns-in-Err-perform_parsed-clause-reads : goal.returns-in-Err-perform_parsed-clause-reads
+returns-in-Err-perform_parsed-clause-reads g c = record {
+  limit = c.perform_parsed.ensures.limit;
   limit_of_store = λ asks.
-      subst (λ most. ReadsUpTo most (g.R.Read.remaining c.args.input.now) (g.R.Read.remaining c.perform_told.new.input))
-      (reads_no_input _ c.in-Ok.told.ask c.in-Ok.ensures.read asks) (c.perform_told.ensures.limit_plain (store_plain _ c.in-Ok.told.beside c.in-Ok.ensures.beside asks));
+      subst (λ most. ReadsUpTo most (g.R.Read.remaining c.args.input.now) (g.R.Read.remaining c.perform_parsed.new.input))
+      (reads_no_input _ c.in-Ok.parsed.ask c.in-Ok.ensures.read asks) (c.perform_parsed.ensures.limit_plain (store_plain _ c.in-Ok.parsed.options c.in-Ok.ensures.options asks));
   limit_of_kind = λ kind asks.
-      subst (λ most. ReadsUpTo most (g.R.Read.remaining c.args.input.now) (g.R.Read.remaining c.perform_told.new.input))
-      (reads_of_kind _ c.in-Ok.told.ask kind c.in-Ok.ensures.read asks) (c.perform_told.ensures.limit_plain (kind_plain _ c.in-Ok.told c.in-Ok.ensures.all c.in-Ok.ensures.read kind asks));
+      subst (λ most. ReadsUpTo most (g.R.Read.remaining c.args.input.now) (g.R.Read.remaining c.perform_parsed.new.input))
+      (reads_of_kind _ c.in-Ok.parsed.ask kind c.in-Ok.ensures.read asks) (c.perform_parsed.ensures.limit_plain (kind_plain _ c.in-Ok.parsed c.in-Ok.ensures.all c.in-Ok.ensures.read kind asks));
 }
 
 pub returns-in-Err-clause-reads : goal.returns-in-Err-clause-reads
@@ -204,18 +204,18 @@ returns-in-Err-clause-reads g c = record {
 
 -- ---- the machine
 
-pub returns-in-Ok-perform_told-clause-keeps : goal.returns-in-Ok-perform_told-clause-keeps
-returns-in-Ok-perform_told-clause-keeps g c = record {
-  back = c.perform_told.ensures.back;
+pub returns-in-Ok-perform_parsed-clause-keeps : goal.returns-in-Ok-perform_parsed-clause-keeps
+returns-in-Ok-perform_parsed-clause-keeps g c = record {
+  back = c.perform_parsed.ensures.back;
   untaken_untouched = λ none. absurd (none c.in-Ok.ensures.taken);
   usage_untouched = λ two. absurd (omega (arith, c.status.ensures.most, two));
 }
 
-pub returns-in-Err-perform_told-clause-keeps : goal.returns-in-Err-perform_told-clause-keeps
-returns-in-Err-perform_told-clause-keeps g c = record {
-  back = c.perform_told.ensures.back;
+pub returns-in-Err-perform_parsed-clause-keeps : goal.returns-in-Err-perform_parsed-clause-keeps
+returns-in-Err-perform_parsed-clause-keeps g c = record {
+  back = c.perform_parsed.ensures.back;
   untaken_untouched = λ none. absurd (none c.in-Ok.ensures.taken);
-  usage_untouched = λ two. absurd (c.in-Err-perform_told.ensures.never (sym c.tell_and_keep.ensures.status ∙ two));
+  usage_untouched = λ two. absurd (c.in-Err-perform_parsed.ensures.never (sym c.tell_and_keep.ensures.status ∙ two));
 }
 
 pub returns-in-Err-clause-keeps : goal.returns-in-Err-clause-keeps
@@ -227,16 +227,16 @@ returns-in-Err-clause-keeps g c = record {
 
 -- ---- help and the version
 
-pub returns-in-Ok-perform_told-clause-itself : goal.returns-in-Ok-perform_told-clause-itself
-returns-in-Ok-perform_told-clause-itself g c = record {
+pub returns-in-Ok-perform_parsed-clause-itself : goal.returns-in-Ok-perform_parsed-clause-itself
+returns-in-Ok-perform_parsed-clause-itself g c = record {
   help = λ zero asks. absurd (help_not_taken _ c.in-Ok.ensures.taken asks);
   help_due = λ some asks. absurd (help_not_taken _ c.in-Ok.ensures.taken asks);
   version = λ zero asks. absurd (version_not_taken _ c.in-Ok.ensures.taken asks);
   version_due = λ some asks. absurd (version_not_taken _ c.in-Ok.ensures.taken asks);
 }
 
-pub returns-in-Err-perform_told-clause-itself : goal.returns-in-Err-perform_told-clause-itself
-returns-in-Err-perform_told-clause-itself g c = record {
+pub returns-in-Err-perform_parsed-clause-itself : goal.returns-in-Err-perform_parsed-clause-itself
+returns-in-Err-perform_parsed-clause-itself g c = record {
   help = λ zero asks. absurd (help_not_taken _ c.in-Ok.ensures.taken asks);
   help_due = λ some asks. absurd (help_not_taken _ c.in-Ok.ensures.taken asks);
   version = λ zero asks. absurd (version_not_taken _ c.in-Ok.ensures.taken asks);
@@ -256,9 +256,9 @@ returns-in-Err-clause-itself g c = record {
   help_due = λ some asks. elim (c.in-Err.ensures.help asks) [
     | inl none ↦ let memory = c.tell_unread.ensures.memory none in
         tells _ NoMemory _ _ _ (memory.1, refl) memory.0 (c.tell_unread.ensures.no_memory none)
-    | inr help ↦ let told = c.tell_unread.ensures.help help some in
+    | inr help ↦ let parsed = c.tell_unread.ensures.help help some in
         help_refused c.tell_unread.result (g.W.Write.contents c.args.output.now) (g.W.Write.contents c.tell_unread.new.output) (g.E.Write.contents c.args.errors.now)
-        (g.E.Write.contents c.tell_unread.new.errors) _ _ (help_of_desk _ asks) told
+        (g.E.Write.contents c.tell_unread.new.errors) _ _ (help_of_desk _ asks) parsed
   ];
   version = λ zero asks. elim (c.tell_unread.ensures.shown zero) [
     | inl help ↦ elim (c.in-Err.ensures.version asks) [
@@ -270,58 +270,58 @@ returns-in-Err-clause-itself g c = record {
   version_due = λ some asks. elim (c.in-Err.ensures.version asks) [
     | inl none ↦ let memory = c.tell_unread.ensures.memory none in
         tells _ NoMemory _ _ _ (memory.1, refl) memory.0 (c.tell_unread.ensures.no_memory none)
-    | inr shown ↦ let told = c.tell_unread.ensures.version shown some in
+    | inr shown ↦ let parsed = c.tell_unread.ensures.version shown some in
         subst (λ s. Tells (RefusesVersion (g.W.Write.contents c.args.output.now) (g.W.Write.contents c.tell_unread.new.output)) s (g.E.Write.contents c.args.errors.now)
-        (g.E.Write.contents c.tell_unread.new.errors)) (sym told.0) told.1
+        (g.E.Write.contents c.tell_unread.new.errors)) (sym parsed.0) parsed.1
   ];
 }
 
 -- ---- what it keeps of its words and of its refusal
 
-pub returns-in-Ok-perform_told-clause-why : goal.returns-in-Ok-perform_told-clause-why
-returns-in-Ok-perform_told-clause-why g c = λ none. none_so _ c.args.why.now.refused none
+pub returns-in-Ok-perform_parsed-clause-why : goal.returns-in-Ok-perform_parsed-clause-why
+returns-in-Ok-perform_parsed-clause-why g c = λ none. none_so _ c.args.why.now.refused none
 
-pub returns-in-Err-perform_told-clause-why : goal.returns-in-Err-perform_told-clause-why
-returns-in-Err-perform_told-clause-why g c = λ none.
-    some_so (λ refusal. status_of refusal ≡ c.tell_and_keep.result) _ c.in-Err-perform_told.refused c.tell_and_keep.ensures.kept (sym c.tell_and_keep.ensures.status)
+pub returns-in-Err-perform_parsed-clause-why : goal.returns-in-Err-perform_parsed-clause-why
+returns-in-Err-perform_parsed-clause-why g c = λ none.
+    some_so (λ refusal. status_of refusal ≡ c.tell_and_keep.result) _ c.in-Err-perform_parsed.refused c.tell_and_keep.ensures.kept (sym c.tell_and_keep.ensures.status)
 
 pub returns-in-Err-clause-why : goal.returns-in-Err-clause-why
 returns-in-Err-clause-why g c = λ none. none_so _ c.args.why.now.refused none
 
-pub returns-in-Ok-perform_told-clause-told : goal.returns-in-Ok-perform_told-clause-told
-returns-in-Ok-perform_told-clause-told g c = λ none. c.in-Ok.ensures.all
+pub returns-in-Ok-perform_parsed-clause-parsed : goal.returns-in-Ok-perform_parsed-clause-parsed
+returns-in-Ok-perform_parsed-clause-parsed g c = λ none. c.in-Ok.ensures.all
 
-pub returns-in-Err-perform_told-clause-told : goal.returns-in-Err-perform_told-clause-told
-returns-in-Err-perform_told-clause-told g c = λ none. some_so (TellsAll _) _ c.in-Ok.told c.tell_and_keep.ensures.told c.in-Ok.ensures.all
+pub returns-in-Err-perform_parsed-clause-parsed : goal.returns-in-Err-perform_parsed-clause-parsed
+returns-in-Err-perform_parsed-clause-parsed g c = λ none. some_so (TellsAll _) _ c.in-Ok.parsed c.tell_and_keep.ensures.parsed c.in-Ok.ensures.all
 
-pub returns-in-Err-clause-told : goal.returns-in-Err-clause-told
-returns-in-Err-clause-told g c = λ none. none_so _ c.args.why.now.told none
+pub returns-in-Err-clause-parsed : goal.returns-in-Err-clause-parsed
+returns-in-Err-clause-parsed g c = λ none. none_so _ c.args.why.now.parsed none
 
-pub returns-in-Ok-perform_told-clause-so : goal.returns-in-Ok-perform_told-clause-so
-returns-in-Ok-perform_told-clause-so g c = λ none. record {
-  result = Ok c.in-Ok-perform_told.done;
-  ends = ends_by c.in-Ok-perform_told.done c.status.result (g.E.Write.contents c.args.errors.now) c.status.ensures.most c.status.ensures.whole c.status.ensures.in_part;
-  does = c.in-Ok-perform_told.ensures.so;
+pub returns-in-Ok-perform_parsed-clause-so : goal.returns-in-Ok-perform_parsed-clause-so
+returns-in-Ok-perform_parsed-clause-so g c = λ none. record {
+  result = Ok c.in-Ok-perform_parsed.done;
+  ends = ends_by c.in-Ok-perform_parsed.done c.status.result (g.E.Write.contents c.args.errors.now) c.status.ensures.most c.status.ensures.whole c.status.ensures.in_part;
+  does = c.in-Ok-perform_parsed.ensures.so;
 }
 
-pub returns-in-Err-perform_told-clause-so : goal.returns-in-Err-perform_told-clause-so
-returns-in-Err-perform_told-clause-so g c = λ none. some_so _ _ c.in-Ok.told c.tell_and_keep.ensures.told (record {
-  result = Err c.in-Err-perform_told.refused;
+pub returns-in-Err-perform_parsed-clause-so : goal.returns-in-Err-perform_parsed-clause-so
+returns-in-Err-perform_parsed-clause-so g c = λ none. some_so _ _ c.in-Ok.parsed c.tell_and_keep.ensures.parsed (record {
+  result = Err c.in-Err-perform_parsed.refused;
   ends = (c.tell_and_keep.ensures.status, c.tell_and_keep.ensures.written);
-  does = c.in-Err-perform_told.ensures.so;
+  does = c.in-Err-perform_parsed.ensures.so;
 })
 
 pub returns-in-Err-clause-so : goal.returns-in-Err-clause-so
-returns-in-Err-clause-so g c = λ none. none_so _ c.args.why.now.told none
+returns-in-Err-clause-so g c = λ none. none_so _ c.args.why.now.parsed none
 
-pub returns-in-Ok-perform_told-clause-untold : goal.returns-in-Ok-perform_told-clause-untold
-returns-in-Ok-perform_told-clause-untold g c = λ before none. absurd (is_told c.in-Ok.told _ refl none)
+pub returns-in-Ok-perform_parsed-clause-unparsed : goal.returns-in-Ok-perform_parsed-clause-unparsed
+returns-in-Ok-perform_parsed-clause-unparsed g c = λ before none. absurd (is_parsed c.in-Ok.parsed _ refl none)
 
-pub returns-in-Err-perform_told-clause-untold : goal.returns-in-Err-perform_told-clause-untold
-returns-in-Err-perform_told-clause-untold g c = λ before none. absurd (is_told c.in-Ok.told _ c.tell_and_keep.ensures.told none)
+pub returns-in-Err-perform_parsed-clause-unparsed : goal.returns-in-Err-perform_parsed-clause-unparsed
+returns-in-Err-perform_parsed-clause-unparsed g c = λ before none. absurd (is_parsed c.in-Ok.parsed _ c.tell_and_keep.ensures.parsed none)
 
-pub returns-in-Err-clause-untold : goal.returns-in-Err-clause-untold
-returns-in-Err-clause-untold g c = λ before none. (
+pub returns-in-Err-clause-unparsed : goal.returns-in-Err-clause-unparsed
+returns-in-Err-clause-unparsed g c = λ before none. (
   refl,
   elim c.tell_unread.ensures.one_of [
     | inl two ↦ inl two

@@ -1,4 +1,4 @@
-use Rattle.rd_explanations.specs.Noted.{IsQuiet}
+use Rattle.rd_explanations.specs.Notes.{IsQuiet}
 use Rattle.rd_program.proofs.explaining.note_rows.Given as goal
 
 abbrev pub invariant-loop-line : goal.invariant-loop-line

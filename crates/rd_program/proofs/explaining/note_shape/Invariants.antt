@@ -1,4 +1,4 @@
-use Rattle.rd_explanations.specs.Noted.{IsQuiet}
+use Rattle.rd_explanations.specs.Notes.{IsQuiet}
 use Rattle.rd_program.proofs.explaining.note_shape.Given as goal
 
 abbrev pub invariant-loop-row : goal.invariant-loop-row

@@ -1,4 +1,4 @@
-use Rattle.std.proofs.Common.{◌≡◌, ◌∙◌, FitsSigned, Some, ap, inl, inr, option_map, rules, subst, sym, w32}
+use Rattle.std.proofs.Common.{◌≡◌, ◌∙◌, FitsSigned, IfErr, Some, ap, inl, inr, option_map, rules, subst, sym, w32}
 use Rattle.std.proofs.lemmas.Int.{to_z-of_z}
 use Rattle.std.specs.Prelude.{IsSome}
 use Rattle.std.proofs.KnownBytes.{Keeps-refl}
@@ -7,7 +7,7 @@ use Rattle.sha2.specs.Sha256.{sha256}
 use Rattle.rd_commands.specs.Asks.{IsCheckOf}
 use Rattle.rd_protocol.specs.declared.request.What.TheVariants as request
 use Rattle.rd_program.specs.Leaves.{IsDayAt, StepsOf, moment_of}
-use Rattle.rd_program.specs.Showing.{Finds, Shows, asked_of, found_by, request_of, what_of, what_to_show}
+use Rattle.rd_program.specs.Showing.{Finds, RefusesShow, Shows, asked_of, found_by, request_of, what_of, what_to_show}
 use Rattle.rd_program.proofs.ShowLemmas.{badge_there, due_asked, finds_asked, key_of_check, key_of_show, no_check, passed_on, shows_asked}
 use Rattle.rd_program.specs.OnTime.{is_dated}
 use Rattle.rd_program.proofs.LeftStores.{still_same}
@@ -18,7 +18,7 @@ use Rattle.rd_program.proofs.export_check.tell_asked.Goals as goal
 pub returns-in_err-day-clause-not_shown : goal.returns-in_err-day-clause-not_shown
 returns-in_err-day-clause-not_shown g c = λ what is.
     passed_on c.from_residual.result c.in_err-day.field-0.0 _ c.from_residual.ensures.1
-    (inl (day_asks c.in_err-day.field-0.0 c.in_err-day.ensures.refused, Keeps-refl _), day_no_accession c.in_err-day.field-0.0 c.in_err-day.ensures.refused)
+    (inl (day_asks c.in_err-day.field-0.0 c.in_err-day.ensures.refused, Keeps-refl _), λ none. absurd (day_no_accession c.in_err-day.field-0.0 c.in_err-day.ensures.refused none))
 
 pub returns-in_err-day-clause-due : goal.returns-in_err-day-clause-due
 returns-in_err-day-clause-due g c = λ judged.
@@ -42,7 +42,10 @@ returns-in-Catalogue-clause-shown g c = λ what is.
     (g.W.Write.contents c.args.output.now) (g.W.Write.contents c.show.new.output) same c.show.ensures.shown)
 
 pub returns-in-Catalogue-clause-not_shown : goal.returns-in-Catalogue-clause-not_shown
-returns-in-Catalogue-clause-not_shown g c = λ what is. c.show.ensures.refused
+returns-in-Catalogue-clause-not_shown g c = λ what is.
+    let both : Some request.Catalogue ≡ Some what = sym (ap what_to_show c.in-Catalogue.is) ∙ is in
+    let same : request.Catalogue ≡ what = cc both in
+    subst (λ w. IfErr c.show.result (RefusesShow w (g.W.Write.contents c.args.output.now) (g.W.Write.contents c.show.new.output))) same c.show.ensures.refused
 
 pub returns-in-Catalogue-clause-refused : goal.returns-in-Catalogue-clause-refused
 returns-in-Catalogue-clause-refused g c = IfErr-weaker c.show.result _ _ (λ refusal why. why.0) c.show.ensures.refused
@@ -112,7 +115,10 @@ returns-in-Show-clause-shown g c = λ what is.
     (g.W.Write.contents c.args.output.now) (g.W.Write.contents c.show-in-Show.new.output) (c.what_of.ensures.asks ∙ named) c.show-in-Show.ensures.shown)
 
 pub returns-in-Show-clause-not_shown : goal.returns-in-Show-clause-not_shown
-returns-in-Show-clause-not_shown g c = λ what is. c.show-in-Show.ensures.refused
+returns-in-Show-clause-not_shown g c = λ what is.
+    let both : Some (what_of c.in-Show.shown) ≡ Some what = sym (ap what_to_show c.in-Show.is) ∙ is in
+    let named : what_of c.in-Show.shown ≡ what = cc both in
+    subst (λ w. IfErr c.show-in-Show.result (RefusesShow w (g.W.Write.contents c.args.output.now) (g.W.Write.contents c.show-in-Show.new.output))) (c.what_of.ensures.asks ∙ named) c.show-in-Show.ensures.refused
 
 pub returns-in-Show-clause-found : goal.returns-in-Show-clause-found
 returns-in-Show-clause-found g c = λ acc is. absurd (subst (IsCheckOf acc) c.in-Show.is is)

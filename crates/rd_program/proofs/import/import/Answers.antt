@@ -3,7 +3,7 @@ use Rattle.sha2.specs.Sha256.{sha256}
 use Rattle.rd_commands.specs.declared.done.Done.{Done}
 use Rattle.rd_program.specs.Leaves.{IsDayAt, IsSame, LeavesDesk, TakesUnlessDry, moment_of}
 use Rattle.rd_program.proofs.RowLemmas.{opening_no_sheet, shown_before}
-use Rattle.rd_program.proofs.SiftLemmas.{sift_ended, stop_ended}
+use Rattle.rd_program.proofs.ImportedRows.{import_ended, stop_ended}
 use Rattle.std.proofs.KnownBytes.{Keeps-refl}
 use Rattle.rd_program.specs.Does.{DoesImport}
 use Rattle.rd_program.proofs.PerformLemmas.{match_both}
@@ -35,10 +35,10 @@ returns-clause-does g c = record {
       let badge = sha256 c.args.ask.key.now in
       let told = c.args.ask.when.seconds in
       let clock = (g.M.Machine.seen c.args.machine.now).clock in
-      let later = subst (λ m. LeavesDesk g.M.Disk.Store (TakesUnlessDry c.args.way.dry_run badge (IsDayAt (moment_of told m) c.in_ok-desk.desk.zone)) opened last) (ap (λ (w : World _ _). w.clock) c.open_desk.ensures.frame) c.import_sheet-imported.ensures.takes in
-      let takes = subst (λ z. LeavesDesk g.M.Disk.Store (TakesUnlessDry c.args.way.dry_run badge (IsDayAt (moment_of told clock) z)) opened last) c.in_ok-desk.ensures.zone later in
+      let later = subst (λ m. LeavesDesk g.M.Disk.Store (TakesUnlessDry c.args.flags.dry_run badge (IsDayAt (moment_of told m) c.in_ok-desk.desk.zone)) opened last) (ap (λ (w : World _ _). w.clock) c.open_desk.ensures.frame) c.import_sheet-imported.ensures.takes in
+      let takes = subst (λ z. LeavesDesk g.M.Disk.Store (TakesUnlessDry c.args.flags.dry_run badge (IsDayAt (moment_of told clock) z)) opened last) c.in_ok-desk.ensures.zone later in
       desk_left g.M.Disk.Store (g.M.Machine.seen c.args.machine.now).left ((g.M.Machine.seen c.args.machine.now).stands c.args.ask.store.now) (g.M.Machine.seen c.release.new.self).left
-      (TakesUnlessDry c.args.way.dry_run badge (IsDayAt (moment_of told clock) c.args.ask.when.zone)) opened last c.into_connection.result
+      (TakesUnlessDry c.args.flags.dry_run badge (IsDayAt (moment_of told clock) c.args.ask.when.zone)) opened last c.into_connection.result
       c.in_ok-desk.ensures.opened takes (c.into_connection.ensures.same ∙ c.into_store.ensures) c.release.ensures.left;
   moment = asked_at g.M.Disk.Store (g.M.Machine.seen c.args.machine.now) (g.M.Machine.seen c.open_desk.new.machine) (g.M.Machine.seen c.release.new.self) c.args.ask.store.now c.args.ask.when true c.import_sheet-imported.result
       c.in_ok-desk.desk.store c.import_sheet-imported.new.desk.store c.into_connection.result c.in_ok-desk.desk.zone c.open_desk.ensures.frame c.in_ok-desk.ensures.zone c.in_ok-desk.ensures.opened
@@ -46,7 +46,7 @@ returns-clause-does g c = record {
   rows = let told = c.args.ask.when.seconds in
       let before = c.args.machine.now in
       let opened = c.open_desk.new.machine in
-      sift_ended g.M.Disk.Store (g.M.Machine.seen before).files (g.M.Machine.seen opened).files c.args.way
+      import_ended g.M.Disk.Store (g.M.Machine.seen before).files (g.M.Machine.seen opened).files c.args.flags
       (IsDayAt (moment_of told (g.M.Machine.seen before).clock) c.args.ask.when.zone) ((g.M.Machine.seen before).sheets c.args.ask.sheet.now)
       (g.W.Write.contents c.args.output.now) (g.W.Write.contents c.import_sheet-imported.new.output) c.import_sheet-imported.result (sha256 c.args.ask.key.now)
       (IsDayAt (moment_of told (g.M.Machine.seen opened).clock) c.in_ok-desk.desk.zone) ((g.M.Machine.seen opened).sheets c.args.ask.sheet.now)
@@ -57,7 +57,7 @@ returns-clause-does g c = record {
   stopped = let told = c.args.ask.when.seconds in
       let before = c.args.machine.now in
       let opened = c.open_desk.new.machine in
-      stop_ended g.M.Disk.Store (g.M.Machine.seen before).files (g.M.Machine.seen opened).files c.args.way
+      stop_ended g.M.Disk.Store (g.M.Machine.seen before).files (g.M.Machine.seen opened).files c.args.flags
       (IsDayAt (moment_of told (g.M.Machine.seen before).clock) c.args.ask.when.zone) ((g.M.Machine.seen before).sheets c.args.ask.sheet.now)
       (g.W.Write.contents c.args.output.now) (g.W.Write.contents c.import_sheet-imported.new.output) c.import_sheet-imported.result (sha256 c.args.ask.key.now)
       (IsDayAt (moment_of told (g.M.Machine.seen opened).clock) c.in_ok-desk.desk.zone) ((g.M.Machine.seen opened).sheets c.args.ask.sheet.now)
@@ -79,11 +79,11 @@ returns-in_err-desk-clause-does g c =
     let refusal = c.in_err-desk.field-0.0 in
     let opening = c.in_err-desk.ensures.refused in
     let left = c.in_err-desk.ensures.left in
-    subst (DoesImport g.M.Disk.Store before after out out c.args.ask c.args.way) (sym (is_err c.from_residual.result refusal c.from_residual.ensures.1)) (record {
+    subst (DoesImport g.M.Disk.Store before after out out c.args.ask c.args.flags) (sym (is_err c.from_residual.result refusal c.from_residual.ensures.1)) (record {
       frame = opened_clock before after after c.open_desk.ensures.frame refl;
       store = record { asked = c.open_desk.ensures.asked; there = opening_fails {T = Done} (Err refusal) refusal _ refl opening };
       leaves = unopened_left g.M.Disk.Store before.left (before.stands c.args.ask.store.now) after.left
-          (TakesUnlessDry c.args.way.dry_run (sha256 c.args.ask.key.now) (IsDayAt (moment_of c.args.ask.when.seconds before.clock) c.args.ask.when.zone)) refusal opening left;
+          (TakesUnlessDry c.args.flags.dry_run (sha256 c.args.ask.key.now) (IsDayAt (moment_of c.args.ask.when.seconds before.clock) c.args.ask.when.zone)) refusal opening left;
       moment = unopened_at g.M.Disk.Store before after after c.args.ask.store.now c.args.ask.when true (Err refusal) refusal refl opening;
       rows = tt;
       stopped = inl (Keeps-refl out, unopened_left g.M.Disk.Store before.left (before.stands c.args.ask.store.now) after.left IsSame refusal opening left);

@@ -8,7 +8,7 @@ use Rattle.rd_store.proofs.Laws.{lasts_still}
 use Rattle.rd_program.proofs.ImportLemmas.{day_failed, front_kept, machine_failed, on_err, rows_of, rows_why, sheet_failed}
 use Rattle.rd_program.proofs.LeftStores.{still_same}
 use Rattle.rd_program.proofs.ShowLemmas.{passed_on}
-use Rattle.rd_program.proofs.SiftLemmas.{sifted_on, sifts_from, still_sifts, stops_on, whole_front}
+use Rattle.rd_program.proofs.ImportedRows.{imported_on, imports_from, still_imports, stops_on, whole_front}
 use Rattle.rd_program.proofs.Moments.{asks_none, asks_then, row_never, row_opened}
 use Rattle.rd_program.specs.World.{World}
 use Rattle.rd_program.specs.Importing.{TellsRows}
@@ -18,20 +18,20 @@ use Rattle.rd_program.proofs.import.import_sheet.Goals as goal
 
 pub returns-in_err-day-clause-takes : goal.returns-in_err-day-clause-takes
 returns-in_err-day-clause-takes g c =
-    still_sifts g.M.Disk.Store c.args.way.dry_run c.args.desk.now.store c.day_on_time.new.desk.store (sha256 c.args.ask.key.now)
+    still_imports g.M.Disk.Store c.args.flags.dry_run c.args.desk.now.store c.day_on_time.new.desk.store (sha256 c.args.ask.key.now)
     (IsDayAt (moment_of c.args.ask.when.seconds (g.M.Machine.seen c.args.machine.now).clock) c.args.desk.now.zone)
     (still_same g.M.Disk.Store c.args.desk.now.store c.day_on_time.new.desk.store c.day_on_time.ensures.reads)
 
 pub returns-in-Err-clause-takes : goal.returns-in-Err-clause-takes
 returns-in-Err-clause-takes g c =
-    still_sifts g.M.Disk.Store c.args.way.dry_run c.args.desk.now.store c.day_on_time.new.desk.store (sha256 c.args.ask.key.now)
+    still_imports g.M.Disk.Store c.args.flags.dry_run c.args.desk.now.store c.day_on_time.new.desk.store (sha256 c.args.ask.key.now)
     (IsDayAt (moment_of c.args.ask.when.seconds (g.M.Machine.seen c.args.machine.now).clock) c.args.desk.now.zone)
     (still_same g.M.Disk.Store c.args.desk.now.store c.day_on_time.new.desk.store c.day_on_time.ensures.reads)
 
 pub returns-in_err-import_rows-clause-takes : goal.returns-in_err-import_rows-clause-takes
 returns-in_err-import_rows-clause-takes g c =
     let fits : FitsSigned w32 c.in_ok-day.day = search rules in
-    sifts_from g.M.Disk.Store c.args.way.dry_run c.args.desk.now.store c.day_on_time.new.desk.store c.import_rows.new.desk.store _ (sha256 c.args.ask.key.now) _
+    imports_from g.M.Disk.Store c.args.flags.dry_run c.args.desk.now.store c.day_on_time.new.desk.store c.import_rows.new.desk.store _ (sha256 c.args.ask.key.now) _
     (IsDayAt (moment_of c.args.ask.when.seconds (g.M.Machine.seen c.args.machine.now).clock) c.args.desk.now.zone)
     (still_same g.M.Disk.Store c.args.desk.now.store c.day_on_time.new.desk.store c.day_on_time.ensures.reads)
     (subst (IsDayAt (moment_of c.args.ask.when.seconds (g.M.Machine.seen c.args.machine.now).clock) c.args.desk.now.zone) (sym (to_z-of_z w32 c.in_ok-day.day fits)) c.in_ok-day.ensures.day)
@@ -40,7 +40,7 @@ returns-in_err-import_rows-clause-takes g c =
 pub returns-clause-takes : goal.returns-clause-takes
 returns-clause-takes g c =
     let fits : FitsSigned w32 c.in_ok-day.day = search rules in
-    sifts_from g.M.Disk.Store c.args.way.dry_run c.args.desk.now.store c.day_on_time.new.desk.store c.import_rows.new.desk.store _ (sha256 c.args.ask.key.now) _
+    imports_from g.M.Disk.Store c.args.flags.dry_run c.args.desk.now.store c.day_on_time.new.desk.store c.import_rows.new.desk.store _ (sha256 c.args.ask.key.now) _
     (IsDayAt (moment_of c.args.ask.when.seconds (g.M.Machine.seen c.args.machine.now).clock) c.args.desk.now.zone)
     (still_same g.M.Disk.Store c.args.desk.now.store c.day_on_time.new.desk.store c.day_on_time.ensures.reads)
     (subst (IsDayAt (moment_of c.args.ask.when.seconds (g.M.Machine.seen c.args.machine.now).clock) c.args.desk.now.zone) (sym (to_z-of_z w32 c.in_ok-day.day fits)) c.in_ok-day.ensures.day)
@@ -52,7 +52,7 @@ returns-clause-rows g c =
     let opened = c.day_on_time.new.machine in
     let path = c.args.ask.sheet.now in
     let read = subst (λ b. IfSome ((g.M.Machine.seen opened).sheets path) (λ sheet. b ≡ sheet)) (sym c.as_slice.ensures.value) c.in-Ok.ensures.bytes in
-    sifted_on g.M.Disk.Store (g.M.Machine.seen c.args.machine.now).files (g.M.Machine.seen c.sheet_at.new.machine).files c.args.way
+    imported_on g.M.Disk.Store (g.M.Machine.seen c.args.machine.now).files (g.M.Machine.seen c.sheet_at.new.machine).files c.args.flags
     (IsDayAt (moment_of c.args.ask.when.seconds (g.M.Machine.seen c.args.machine.now).clock) c.args.desk.now.zone)
     ((g.M.Machine.seen c.args.machine.now).sheets path) (g.W.Write.contents c.args.output.now) (g.W.Write.contents c.import_rows.new.output) c.ended_by.result
     c.digest-badge.result (sha256 c.args.ask.key.now) c.as_slice.result.now _ c.args.desk.now.store c.day_on_time.new.desk.store
@@ -102,11 +102,11 @@ returns-in_err-import_rows-clause-refused g c =
 
 pub returns-clause-refused : goal.returns-clause-refused
 returns-clause-refused g c =
-    IfErr-weaker c.ended_by.result _ _ (λ refusal is. inl (inr (inl is.0, front_kept _ _ (rows_of c.args.way.dry_run c.in_ok-import_rows.field-0 _ _ c.in_ok-import_rows.ensures.written)))) c.ended_by.ensures.lost
+    IfErr-weaker c.ended_by.result _ _ (λ refusal is. inl (inr (inl is.0, front_kept _ _ (rows_of c.args.flags.dry_run c.in_ok-import_rows.field-0 _ _ c.in_ok-import_rows.ensures.written)))) c.ended_by.ensures.lost
 
 pub returns-clause-written : goal.returns-clause-written
 returns-clause-written g c =
-    IfOk-weaker c.ended_by.result _ _ (λ done is. subst (TellsRows c.args.way.dry_run (g.W.Write.contents c.args.output.now) (g.W.Write.contents c.import_rows.new.output)) is c.in_ok-import_rows.ensures.written) c.ended_by.ensures.ended
+    IfOk-weaker c.ended_by.result _ _ (λ done is. subst (TellsRows c.args.flags.dry_run (g.W.Write.contents c.args.output.now) (g.W.Write.contents c.import_rows.new.output)) is c.in_ok-import_rows.ensures.written) c.ended_by.ensures.ended
 
 pub returns-in_err-import_rows-clause-bad_sheet : goal.returns-in_err-import_rows-clause-bad_sheet
 returns-in_err-import_rows-clause-bad_sheet g c =
@@ -133,7 +133,7 @@ returns-in_err-import_rows-clause-stopped g c =
     let fits : FitsSigned w32 c.in_ok-day.day = search rules in
     let path = c.args.ask.sheet.now in
     let read = subst (λ b. IfSome ((g.M.Machine.seen c.day_on_time.new.machine).sheets path) (λ sheet. b ≡ sheet)) (sym c.as_slice.ensures.value) c.in-Ok.ensures.bytes in
-    on_err c.from_residual-in_err-import_rows.result _ (stops_on g.M.Disk.Store (g.M.Machine.seen c.args.machine.now).files (g.M.Machine.seen c.sheet_at.new.machine).files c.args.way
+    on_err c.from_residual-in_err-import_rows.result _ (stops_on g.M.Disk.Store (g.M.Machine.seen c.args.machine.now).files (g.M.Machine.seen c.sheet_at.new.machine).files c.args.flags
     (IsDayAt (moment_of c.args.ask.when.seconds (g.M.Machine.seen c.args.machine.now).clock) c.args.desk.now.zone)
     ((g.M.Machine.seen c.args.machine.now).sheets path) (g.W.Write.contents c.args.output.now) (g.W.Write.contents c.import_rows.new.output)
     c.digest-badge.result (sha256 c.args.ask.key.now) c.as_slice.result.now _ c.args.desk.now.store c.day_on_time.new.desk.store c.import_rows.new.desk.store
@@ -147,7 +147,7 @@ returns-clause-stopped g c =
     let fits : FitsSigned w32 c.in_ok-day.day = search rules in
     let path = c.args.ask.sheet.now in
     let read = subst (λ b. IfSome ((g.M.Machine.seen c.day_on_time.new.machine).sheets path) (λ sheet. b ≡ sheet)) (sym c.as_slice.ensures.value) c.in-Ok.ensures.bytes in
-    on_err c.ended_by.result _ (stops_on g.M.Disk.Store (g.M.Machine.seen c.args.machine.now).files (g.M.Machine.seen c.sheet_at.new.machine).files c.args.way
+    on_err c.ended_by.result _ (stops_on g.M.Disk.Store (g.M.Machine.seen c.args.machine.now).files (g.M.Machine.seen c.sheet_at.new.machine).files c.args.flags
     (IsDayAt (moment_of c.args.ask.when.seconds (g.M.Machine.seen c.args.machine.now).clock) c.args.desk.now.zone)
     ((g.M.Machine.seen c.args.machine.now).sheets path) (g.W.Write.contents c.args.output.now) (g.W.Write.contents c.import_rows.new.output)
     c.digest-badge.result (sha256 c.args.ask.key.now) c.as_slice.result.now _ c.args.desk.now.store c.day_on_time.new.desk.store c.import_rows.new.desk.store

@@ -65,7 +65,7 @@ returns-clause-does g c = record {
       (let at = place_of c.args.ask.place in
       serve_ended g.M.Disk.Store c.tell_ended.result (g.M.Machine.seen c.args.machine.now).left ((g.M.Machine.seen c.args.machine.now).stands c.args.ask.store.now)
       (g.M.Machine.seen c.release.new.self).left c.in_ok-served.field-0.ended at c.in_ok-served.field-0.visits _ _ _ _
-      (serves_with g.M.Disk.Store g.M.Door.Door.told g.M.Door.Door.coming (λ served. ⊤) c.in_ok-served.field-0 c.in_ok-desk.desk.zone c.args.ask.zone ((g.M.Machine.seen c.open_desk.new.machine).doors at) ((g.M.Machine.seen c.args.machine.now).doors at) ((g.M.Machine.seen c.serve_visits-served.new.machine).doors at)
+      (serves_with g.M.Disk.Store g.M.Door.Door.so_far g.M.Door.Door.coming (λ served. ⊤) c.in_ok-served.field-0 c.in_ok-desk.desk.zone c.args.ask.zone ((g.M.Machine.seen c.open_desk.new.machine).doors at) ((g.M.Machine.seen c.args.machine.now).doors at) ((g.M.Machine.seen c.serve_visits-served.new.machine).doors at)
       ((g.M.Machine.seen c.release.new.self).doors at) ((g.M.Machine.seen c.args.machine.now).stands c.args.ask.store.now) (g.M.Machine.seen c.release.new.self).left
       c.in_ok-desk.desk.store c.serve_visits-served.new.desk.store c.into_connection.result tt
       c.in_ok-desk.ensures.zone (ap (λ (w : World _ _). w.doors at) c.open_desk.ensures.frame) (ap (λ (w : World _ _). w.doors at) c.release.ensures.frame) c.in_ok-desk.ensures.opened
@@ -73,10 +73,10 @@ returns-clause-does g c = record {
       c.in_ok-served.ensures.listening c.tell_ended.ensures.refused));
   visits = ok_whole _ c.tell_ended.result (whole c.tell_ended.result) refl
       (let at = place_of c.args.ask.place in
-      serves_door g.M.Disk.Store g.M.Door.Door.told g.M.Door.Door.coming c.tell_ended.result c.in_ok-served.field-0 c.args.ask.count ((g.M.Machine.seen c.args.machine.now).doors at)
+      serves_door g.M.Disk.Store g.M.Door.Door.so_far g.M.Door.Door.coming c.tell_ended.result c.in_ok-served.field-0 c.args.ask.count ((g.M.Machine.seen c.args.machine.now).doors at)
       ((g.M.Machine.seen c.release.new.self).doors at) c.args.ask.zone ((g.M.Machine.seen c.args.machine.now).stands c.args.ask.store.now) (g.M.Machine.seen c.release.new.self).left
       c.in_ok-served.ensures.count c.tell_ended.ensures.count
-      (λ ends. serves_with g.M.Disk.Store g.M.Door.Door.told g.M.Door.Door.coming (λ served. (served.visits ≡ c.args.ask.count) × (served.ended ≡ Count)) c.in_ok-served.field-0
+      (λ ends. serves_with g.M.Disk.Store g.M.Door.Door.so_far g.M.Door.Door.coming (λ served. (served.visits ≡ c.args.ask.count) × (served.ended ≡ Count)) c.in_ok-served.field-0
       c.in_ok-desk.desk.zone c.args.ask.zone ((g.M.Machine.seen c.open_desk.new.machine).doors at) ((g.M.Machine.seen c.args.machine.now).doors at) ((g.M.Machine.seen c.serve_visits-served.new.machine).doors at)
       ((g.M.Machine.seen c.release.new.self).doors at) ((g.M.Machine.seen c.args.machine.now).stands c.args.ask.store.now) (g.M.Machine.seen c.release.new.self).left
       c.in_ok-desk.desk.store c.serve_visits-served.new.desk.store c.into_connection.result ends
@@ -95,7 +95,7 @@ pub returns-in_err-served-clause-does : goal.returns-in_err-served-clause-does
 returns-in_err-served-clause-does g c =
     let refusal = c.in_err-served.field-0.0 in
     subst (λ r. DoesServe g.M.Disk.Store (g.M.Machine.seen c.args.machine.now) (g.M.Machine.seen c.release.new.self) (g.W.Write.contents c.args.output.now) (g.W.Write.contents c.serve_visits-served.new.output)
-    g.M.Door.Door.told g.M.Door.Door.coming c.args.ask (whole r)) (sym (is_err c.from_residual-in_err-served.result refusal c.from_residual-in_err-served.ensures.1)) (record {
+    g.M.Door.Door.so_far g.M.Door.Door.coming c.args.ask (whole r)) (sym (is_err c.from_residual-in_err-served.result refusal c.from_residual-in_err-served.ensures.1)) (record {
       frame = doors_back (g.M.Machine.seen c.args.machine.now) (g.M.Machine.seen c.serve_visits-served.new.machine) (g.M.Machine.seen c.release.new.self)
           (opened_doors (g.M.Machine.seen c.args.machine.now) (g.M.Machine.seen c.open_desk.new.machine) (g.M.Machine.seen c.serve_visits-served.new.machine) c.open_desk.ensures.frame c.serve_visits-served.ensures.frame) c.release.ensures.frame;
       asked = asked_more (g.M.Machine.seen c.args.machine.now).wanted (g.M.Machine.seen c.open_desk.new.machine).wanted (g.M.Machine.seen c.serve_visits-served.new.machine).wanted (g.M.Machine.seen c.release.new.self).wanted
@@ -125,7 +125,7 @@ pub returns-in_err-desk-clause-does : goal.returns-in_err-desk-clause-does
 returns-in_err-desk-clause-does g c =
     let refusal = c.in_err-desk.field-0.0 in
     subst (λ r. DoesServe g.M.Disk.Store (g.M.Machine.seen c.args.machine.now) (g.M.Machine.seen c.open_desk.new.machine) (g.W.Write.contents c.args.output.now) (g.W.Write.contents c.args.output.now)
-    g.M.Door.Door.told g.M.Door.Door.coming c.args.ask (whole r)) (sym (is_err c.from_residual.result refusal c.from_residual.ensures.1)) (record {
+    g.M.Door.Door.so_far g.M.Door.Door.coming c.args.ask (whole r)) (sym (is_err c.from_residual.result refusal c.from_residual.ensures.1)) (record {
       frame = opened_doors (g.M.Machine.seen c.args.machine.now) (g.M.Machine.seen c.open_desk.new.machine) (g.M.Machine.seen c.open_desk.new.machine) c.open_desk.ensures.frame refl;
       asked = let mid = (g.M.Machine.seen c.open_desk.new.machine).wanted in
           asked_more (g.M.Machine.seen c.args.machine.now).wanted mid mid mid (StoreAt c.args.ask.store.now false false) (DoorAt (place_of c.args.ask.place)) ⊤ c.open_desk.ensures.asked (asked_none mid mid _ ⊤ refl) refl;

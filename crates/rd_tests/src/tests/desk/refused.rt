@@ -14,6 +14,7 @@ use super::requests::{Ask, request_of};
 use super::state::{GIVEN, answer};
 use crate::tests::desks::{assert_tables, new_desk_again};
 use crate::tests::keys::{Key, NOBODY, PUBLIC, ROOM, STAFF};
+use crate::tests::plans::{asked, is_asked};
 use rd_desk::{Reply, Request};
 use rd_fakes::desk::Memory;
 use rd_geometry::NoMemory;
@@ -166,33 +167,17 @@ const DEED: Ask = Ask::PutDeed(7, "A. Curator", 18_020);
 
 const HELD: &[Ask] = &[DEED, Ask::PutRule(OPEN), Ask::PutImage(PROGRAM_12)];
 
-const IMAGES: Plan = Plan {
-    label: "images",
-    given: HELD,
-    visits: &[(PUBLIC, AFTER, Ask::Images, ONE_IMAGE)],
-    then: &[],
-};
-
-const LISTING: Plan = Plan {
-    label: "a listing",
-    given: HELD,
-    visits: &[(PUBLIC, AFTER, Ask::Listing(12), ALL_OF_12)],
-    then: &[],
-};
-
-const BYTES: Plan = Plan {
-    label: "bytes",
-    given: HELD,
-    visits: &[(PUBLIC, AFTER, Ask::Bytes(12, 0), HELLO)],
-    then: &[],
-};
-
-const DENIAL: Plan = Plan {
-    label: "a denial",
-    given: &[DEED, Ask::PutRule(CLOSED), Ask::PutImage(PROGRAM_12)],
-    visits: &[(PUBLIC, BEFORE, Ask::Bytes(12, 0), UNTIL_2030)],
-    then: &[],
-};
+/// A plan: its label, what the desk is given, the visits, and those that come then.
+macro_rules! plan {
+    ($label:literal, $given:expr, $visits:expr, $then:expr) => {
+        Plan {
+            label: $label,
+            given: $given,
+            visits: $visits,
+            then: $then,
+        }
+    };
+}
 
 /// Disks with files of each kind, with faults, with names that are quoted, and with a takedown that lists.
 const TOLD: &[Ask] = table![
@@ -233,75 +218,6 @@ const TEXTS: &[Visit] = table![
     ]));
 ];
 
-const SURVEY: Plan = Plan {
-    label: "a survey",
-    given: HELD,
-    visits: &[(STAFF, AFTER, Ask::Survey(12), SURVEY_OF_12)],
-    then: &[],
-};
-
-const CHECK: Plan = Plan {
-    label: "a check",
-    given: HELD,
-    visits: &[(STAFF, AFTER, Ask::Check(12), SOUND)],
-    then: &[(STAFF, AFTER, Ask::Check(12), SOUND)],
-};
-
-/// The image has error bytes, so that all is asked for that one without them asks for, and more.
-const PUT_IMAGE: Plan = Plan {
-    label: "an image",
-    given: &[DEED, Ask::PutRule(OPEN)],
-    visits: &[(STAFF, AFTER, Ask::PutImage(MARKED_12), DONE)],
-    then: &[(PUBLIC, AFTER, Ask::Bytes(12, 0), HELLO)],
-};
-
-const PUT_DEED: Plan = Plan {
-    label: "a deed",
-    given: &[],
-    visits: &[(STAFF, AFTER, DEED, DONE)],
-    then: &[(STAFF, AFTER, Ask::PutRule(OPEN), DONE)],
-};
-
-const PUT_RULE: Plan = Plan {
-    label: "a rule",
-    given: HELD,
-    visits: &[(STAFF, AFTER, Ask::PutRule(CLOSED), DONE)],
-    then: &[(PUBLIC, BEFORE, Ask::Bytes(12, 0), UNTIL_2030)],
-};
-
-const DROP_RULE: Plan = Plan {
-    label: "a rule dropped",
-    given: &[
-        DEED,
-        Ask::PutRule(OPEN),
-        Ask::PutImage(PROGRAM_12),
-        Ask::PutRule(TAKEDOWN),
-    ],
-    visits: &[(STAFF, AFTER, Ask::DropRule(Band::Takedown, 12, 1), DONE)],
-    then: &[(PUBLIC, AFTER, Ask::Bytes(12, 0), HELLO)],
-};
-
-const PUT_KEY: Plan = Plan {
-    label: "a key",
-    given: &[],
-    visits: &[(STAFF, AFTER, Ask::PutKey("hello", Audience::Room), DONE)],
-    then: &[(ROOM, AFTER, Ask::Unread, STAFF_ONLY)],
-};
-
-const DROP_KEY: Plan = Plan {
-    label: "a key dropped",
-    given: &[Ask::PutKey("hello", Audience::Room)],
-    visits: &[(STAFF, AFTER, Ask::DropKey("hello"), DONE)],
-    then: &[(ROOM, AFTER, Ask::Unread, UNKNOWN_KEY)],
-};
-
-const UNREAD: Plan = Plan {
-    label: "a body that was not read",
-    given: &[],
-    visits: &[(STAFF, AFTER, Ask::Unread, BAD_BODY)],
-    then: &[],
-};
-
 /// What a caller may ask, before the file is open and after.
 const OPENING: &[Visit] = &[
     (PUBLIC, BEFORE, Ask::Bytes(12, 0), UNTIL_2030),
@@ -340,65 +256,25 @@ const VERDICTS: &[Visit] = &[
 ];
 
 /// What stands on a desk of which accession 12 is taken down.
-const STAFF_LISTS: &[Visit] = &[
-    (
-        STAFF,
-        AFTER,
-        Ask::Deeds,
-        Wanted::Json(
-            200,
-            r#"{"deeds":[{"accessions":1,"deed":7,"donor":"A. Curator","rules":[{"audiences":["public","room","staff"],"effect":"read","from":null,"rank":20,"select":{"all":true},"until":null}],"signed":"2019-05-04"},{"accessions":1,"deed":8,"donor":"B. Donor","rules":[],"signed":"2020-02-29"}]}"#,
-        ),
-    ),
-    (
-        STAFF,
-        AFTER,
-        Ask::Takedowns,
-        Wanted::Json(
-            200,
-            r#"{"takedowns":[{"accession":12,"rules":[{"audiences":["public","room"],"effect":"deny","from":null,"rank":1,"select":{"slot":0},"until":null}]}]}"#,
-        ),
-    ),
-    (
-        STAFF,
-        AFTER,
-        Ask::Keys,
-        Wanted::Json(
-            200,
-            r#"{"keys":[{"audience":"room","digest":"2cf24dba5fb0a30e26e83b2ac5b9e29e1b161e5c1fa7425e73043362938b9824"},{"audience":"staff","digest":"ba7816bf8f01cfea414140de5dae2223b00361a396177a9cb410ff61f20015ad"}]}"#,
-        ),
-    ),
-    (ROOM, AFTER, Ask::Deeds, STAFF_ONLY),
-    (PUBLIC, AFTER, Ask::Checks, STAFF_ONLY),
-    (NOBODY, AFTER, Ask::Keys, UNKNOWN_KEY),
+const STAFF_LISTS: &[Visit] = table![
+    (STAFF, AFTER, Ask::Deeds, Wanted::Json(200, r#"{"deeds":[{"accessions":1,"deed":7,"donor":"A. Curator","rules":[{"audiences":["public","room","staff"],"effect":"read","from":null,"rank":20,"select":{"all":true},"until":null}],"signed":"2019-05-04"},{"accessions":1,"deed":8,"donor":"B. Donor","rules":[],"signed":"2020-02-29"}]}"#));
+    (STAFF, AFTER, Ask::Takedowns, Wanted::Json(200, r#"{"takedowns":[{"accession":12,"rules":[{"audiences":["public","room"],"effect":"deny","from":null,"rank":1,"select":{"slot":0},"until":null}]}]}"#));
+    (STAFF, AFTER, Ask::Keys, Wanted::Json(200, r#"{"keys":[{"audience":"room","digest":"2cf24dba5fb0a30e26e83b2ac5b9e29e1b161e5c1fa7425e73043362938b9824"},{"audience":"staff","digest":"ba7816bf8f01cfea414140de5dae2223b00361a396177a9cb410ff61f20015ad"}]}"#));
+    (ROOM, AFTER, Ask::Deeds, STAFF_ONLY);
+    (PUBLIC, AFTER, Ask::Checks, STAFF_ONLY);
+    (NOBODY, AFTER, Ask::Keys, UNKNOWN_KEY);
 ];
 
-/// The latest checks, before accession 12 was checked and after.
-const LATEST_CHECKS: Plan = Plan {
-    label: "latest checks",
-    given: HELD,
-    visits: &[(
-        STAFF,
-        AFTER,
-        Ask::Checks,
-        Wanted::Json(
-            200,
-            r#"{"checks":[{"accession":12,"day":null,"outcome":null}]}"#,
-        ),
-    )],
-    then: &[
-        (STAFF, AFTER, Ask::Check(12), SOUND),
-        (
-            STAFF,
-            AFTER,
-            Ask::Checks,
-            Wanted::Json(
-                200,
-                r#"{"checks":[{"accession":12,"day":"2030-01-01","outcome":"sound"}]}"#,
-            ),
-        ),
-    ],
-};
+/// The latest checks, before accession 12 is checked and after.
+const UNCHECKED: Wanted = Wanted::Json(
+    200,
+    r#"{"checks":[{"accession":12,"day":null,"outcome":null}]}"#,
+);
+
+const CHECKED: Wanted = Wanted::Json(
+    200,
+    r#"{"checks":[{"accession":12,"day":"2030-01-01","outcome":"sound"}]}"#,
+);
 
 /// The first line of a table of verdicts.
 const VERDICT_COLUMNS: &str =
@@ -409,64 +285,43 @@ const REHEARSAL_COLUMNS: &str = "accession,slot,name,audience,effect,rule,then_e
 
 const NO_DIFFERENCE: Wanted = Wanted::Table(&[REHEARSAL_COLUMNS]);
 
+/// The verdicts of one accession, which stands or does not.
+const ONE_ACCESSION: &[Visit] = table![
+    (STAFF, BEFORE, Ask::VerdictsOf(NEW_YEAR, 12), Wanted::Table(&[
+        VERDICT_COLUMNS,
+        "12,7,d64,0,,HELLO,PRG,258,,deny,T12.1,deny,T12.1,read,R7.20",
+    ]));
+    (STAFF, AFTER, Ask::VerdictsOf(NEW_YEAR, 13), Wanted::Table(&[
+        VERDICT_COLUMNS,
+        "13,8,d64,0,,HELLO,PRG,258,,deny,D0,deny,D0,deny,D0",
+    ]));
+    (STAFF, AFTER, Ask::VerdictsOf(NEW_YEAR, 99), NO_ACCESSION);
+    (ROOM, AFTER, Ask::VerdictsOf(NEW_YEAR, 99), STAFF_ONLY);
+];
+
 /// All verdicts, and what commands would change of them.
-const REHEARSALS: &[Visit] = &[
-    (
-        STAFF,
-        BEFORE,
-        Ask::Verdicts(NEW_YEAR),
-        Wanted::Table(&[
-            VERDICT_COLUMNS,
-            "12,7,d64,0,,HELLO,PRG,258,,deny,T12.1,deny,T12.1,read,R7.20",
-            "13,8,d64,0,,HELLO,PRG,258,,deny,D0,deny,D0,deny,D0",
-        ]),
-    ),
-    (
-        STAFF,
-        AFTER,
-        Ask::RehearseDrop(NEW_YEAR, Band::Takedown, 12, 1),
-        Wanted::Table(&[
-            REHEARSAL_COLUMNS,
-            "12,0,HELLO,public,deny,T12.1,read,R7.20",
-            "12,0,HELLO,room,deny,T12.1,read,R7.20",
-        ]),
-    ),
-    (
-        STAFF,
-        AFTER,
-        Ask::RehearseRule(NEW_YEAR, like!(NewRule, OPEN, scope: 8)),
-        Wanted::Table(&[
-            REHEARSAL_COLUMNS,
-            "13,0,HELLO,public,deny,D0,read,R8.20",
-            "13,0,HELLO,room,deny,D0,read,R8.20",
-            "13,0,HELLO,staff,deny,D0,read,R8.20",
-        ]),
-    ),
-    (
-        STAFF,
-        AFTER,
-        Ask::RehearseRule(NEW_YEAR, TAKEDOWN),
-        NO_DIFFERENCE,
-    ),
-    (
-        STAFF,
-        AFTER,
-        Ask::RehearseDrop(NEW_YEAR, Band::Deed, 8, 1),
-        NO_DIFFERENCE,
-    ),
-    (
-        STAFF,
-        AFTER,
-        Ask::RehearseDrop(NEW_YEAR, Band::Deed, 9, 1),
-        NO_DEED,
-    ),
-    (
-        STAFF,
-        AFTER,
-        Ask::RehearseDrop(NEW_YEAR, Band::Takedown, 99, 1),
-        NO_ACCESSION,
-    ),
-    (ROOM, AFTER, Ask::RehearseRule(NEW_YEAR, OPEN), STAFF_ONLY),
+const REHEARSALS: &[Visit] = table![
+    (STAFF, BEFORE, Ask::Verdicts(NEW_YEAR), Wanted::Table(&[
+        VERDICT_COLUMNS,
+        "12,7,d64,0,,HELLO,PRG,258,,deny,T12.1,deny,T12.1,read,R7.20",
+        "13,8,d64,0,,HELLO,PRG,258,,deny,D0,deny,D0,deny,D0",
+    ]));
+    (STAFF, AFTER, Ask::RehearseDrop(NEW_YEAR, Band::Takedown, 12, 1), Wanted::Table(&[
+        REHEARSAL_COLUMNS,
+        "12,0,HELLO,public,deny,T12.1,read,R7.20",
+        "12,0,HELLO,room,deny,T12.1,read,R7.20",
+    ]));
+    (STAFF, AFTER, Ask::RehearseRule(NEW_YEAR, like!(NewRule, OPEN, scope: 8)), Wanted::Table(&[
+        REHEARSAL_COLUMNS,
+        "13,0,HELLO,public,deny,D0,read,R8.20",
+        "13,0,HELLO,room,deny,D0,read,R8.20",
+        "13,0,HELLO,staff,deny,D0,read,R8.20",
+    ]));
+    (STAFF, AFTER, Ask::RehearseRule(NEW_YEAR, TAKEDOWN), NO_DIFFERENCE);
+    (STAFF, AFTER, Ask::RehearseDrop(NEW_YEAR, Band::Deed, 8, 1), NO_DIFFERENCE);
+    (STAFF, AFTER, Ask::RehearseDrop(NEW_YEAR, Band::Deed, 9, 1), NO_DEED);
+    (STAFF, AFTER, Ask::RehearseDrop(NEW_YEAR, Band::Takedown, 99, 1), NO_ACCESSION);
+    (ROOM, AFTER, Ask::RehearseRule(NEW_YEAR, OPEN), STAFF_ONLY);
 ];
 
 const CONFLICT: Wanted = Wanted::Json(409, r#"{"error":"conflict"}"#);
@@ -501,156 +356,68 @@ const COMMANDS: &[Visit] = table![
     (STAFF, AFTER, Ask::Check(12), NO_ACCESSION);
 ];
 
-#[test]
-fn images_when_memory_is_refused(rt: HostRuntime) -> Result<(), Fail> {
-    assert_plan(&rt, rt.alloc(), &IMAGES)
+/// Tries plans, or the one of them that a script asks for, by its place.
+fn assert_plans(
+    rt: &impl Abort,
+    alloc: Global,
+    asked: Option<usize>,
+    plans: &[Plan],
+) -> Result<(), Fail> {
+    let mut is_tried = false;
+    for (number, plan) in plans.iter().enumerate() {
+        if is_asked(asked, number) {
+            assert_plan(rt, alloc, plan)?;
+            is_tried = true;
+        }
+    }
+    assert!(rt; is_tried, "no plan has this number");
+    Ok(())
 }
 
+const OF_READERS: &[Plan] = table![
+    plan!("images", HELD, &[(PUBLIC, AFTER, Ask::Images, ONE_IMAGE)], &[]);
+    plan!("a listing", HELD, &[(PUBLIC, AFTER, Ask::Listing(12), ALL_OF_12)], &[]);
+    plan!("bytes", HELD, &[(PUBLIC, AFTER, Ask::Bytes(12, 0), HELLO)], &[]);
+    plan!("a denial", &[DEED, Ask::PutRule(CLOSED), Ask::PutImage(PROGRAM_12)], &[(PUBLIC, BEFORE, Ask::Bytes(12, 0), UNTIL_2030)], &[]);
+    plan!("questions", GIVEN, OPENING, &[]);
+    plan!("verdicts", TAKEN, VERDICTS, &[]);
+    plan!("texts", TOLD, TEXTS, &[]);
+];
+
 #[test]
-fn a_listing_when_memory_is_refused(rt: HostRuntime) -> Result<(), Fail> {
-    assert_plan(&rt, rt.alloc(), &LISTING)
+fn plans_of_readers_when_memory_is_refused(rt: HostRuntime) -> Result<(), Fail> {
+    assert_plans(&rt, rt.alloc(), asked(&rt), OF_READERS)
 }
 
+/// What the staff asks for.
+const OF_STAFF: &[Plan] = table![
+    plan!("a survey", HELD, &[(STAFF, AFTER, Ask::Survey(12), SURVEY_OF_12)], &[]);
+    plan!("a check", HELD, &[(STAFF, AFTER, Ask::Check(12), SOUND)], &[(STAFF, AFTER, Ask::Check(12), SOUND)]);
+    plan!("staff lists", TAKEN, STAFF_LISTS, &[]);
+    plan!("latest checks", HELD, &[(STAFF, AFTER, Ask::Checks, UNCHECKED)], &[(STAFF, AFTER, Ask::Check(12), SOUND), (STAFF, AFTER, Ask::Checks, CHECKED)]);
+    plan!("verdicts of one accession", TAKEN, ONE_ACCESSION, &[]);
+    plan!("rehearsals", TAKEN, REHEARSALS, &[]);
+    plan!("a body that was not read", &[], &[(STAFF, AFTER, Ask::Unread, BAD_BODY)], &[]);
+];
+
 #[test]
-fn bytes_when_memory_is_refused(rt: HostRuntime) -> Result<(), Fail> {
-    assert_plan(&rt, rt.alloc(), &BYTES)
+fn plans_of_the_staff_when_memory_is_refused(rt: HostRuntime) -> Result<(), Fail> {
+    assert_plans(&rt, rt.alloc(), asked(&rt), OF_STAFF)
 }
 
-#[test]
-fn a_denial_when_memory_is_refused(rt: HostRuntime) -> Result<(), Fail> {
-    assert_plan(&rt, rt.alloc(), &DENIAL)
-}
-
-const ALL_TEXTS: Plan = Plan {
-    label: "texts",
-    given: TOLD,
-    visits: TEXTS,
-    then: &[],
-};
-
-#[test]
-fn texts_when_memory_is_refused(rt: HostRuntime) -> Result<(), Fail> {
-    assert_plan(&rt, rt.alloc(), &ALL_TEXTS)
-}
+/// The image of the first has error bytes, so that all is asked for that one without them asks for, and more.
+const OF_COMMANDS: &[Plan] = table![
+    plan!("an image", RULED, &[(STAFF, AFTER, Ask::PutImage(MARKED_12), DONE)], &[(PUBLIC, AFTER, Ask::Bytes(12, 0), HELLO)]);
+    plan!("a deed", &[], &[(STAFF, AFTER, DEED, DONE)], &[(STAFF, AFTER, Ask::PutRule(OPEN), DONE)]);
+    plan!("a rule", HELD, &[(STAFF, AFTER, Ask::PutRule(CLOSED), DONE)], &[(PUBLIC, BEFORE, Ask::Bytes(12, 0), UNTIL_2030)]);
+    plan!("a rule dropped", &[DEED, Ask::PutRule(OPEN), Ask::PutImage(PROGRAM_12), Ask::PutRule(TAKEDOWN)], &[(STAFF, AFTER, Ask::DropRule(Band::Takedown, 12, 1), DONE)], &[(PUBLIC, AFTER, Ask::Bytes(12, 0), HELLO)]);
+    plan!("a key", &[], &[(STAFF, AFTER, Ask::PutKey("hello", Audience::Room), DONE)], &[(ROOM, AFTER, Ask::Unread, STAFF_ONLY)]);
+    plan!("a key dropped", &[Ask::PutKey("hello", Audience::Room)], &[(STAFF, AFTER, Ask::DropKey("hello"), DONE)], &[(ROOM, AFTER, Ask::Unread, UNKNOWN_KEY)]);
+    plan!("images again", HELD, REPEATS, &[]);
+    plan!("commands again", RULED, COMMANDS, &[]);
+];
 
 #[test]
-fn a_survey_when_memory_is_refused(rt: HostRuntime) -> Result<(), Fail> {
-    assert_plan(&rt, rt.alloc(), &SURVEY)
-}
-
-#[test]
-fn a_check_when_memory_is_refused(rt: HostRuntime) -> Result<(), Fail> {
-    assert_plan(&rt, rt.alloc(), &CHECK)
-}
-
-#[test]
-fn an_image_when_memory_is_refused(rt: HostRuntime) -> Result<(), Fail> {
-    assert_plan(&rt, rt.alloc(), &PUT_IMAGE)
-}
-
-#[test]
-fn a_deed_when_memory_is_refused(rt: HostRuntime) -> Result<(), Fail> {
-    assert_plan(&rt, rt.alloc(), &PUT_DEED)
-}
-
-#[test]
-fn a_rule_when_memory_is_refused(rt: HostRuntime) -> Result<(), Fail> {
-    assert_plan(&rt, rt.alloc(), &PUT_RULE)
-}
-
-#[test]
-fn a_rule_dropped_when_memory_is_refused(rt: HostRuntime) -> Result<(), Fail> {
-    assert_plan(&rt, rt.alloc(), &DROP_RULE)
-}
-
-#[test]
-fn a_key_when_memory_is_refused(rt: HostRuntime) -> Result<(), Fail> {
-    assert_plan(&rt, rt.alloc(), &PUT_KEY)
-}
-
-#[test]
-fn a_key_dropped_when_memory_is_refused(rt: HostRuntime) -> Result<(), Fail> {
-    assert_plan(&rt, rt.alloc(), &DROP_KEY)
-}
-
-#[test]
-fn a_body_that_was_not_read_when_memory_is_refused(rt: HostRuntime) -> Result<(), Fail> {
-    assert_plan(&rt, rt.alloc(), &UNREAD)
-}
-
-const QUESTIONS: Plan = Plan {
-    label: "questions",
-    given: GIVEN,
-    visits: OPENING,
-    then: &[],
-};
-
-#[test]
-fn questions_when_memory_is_refused(rt: HostRuntime) -> Result<(), Fail> {
-    assert_plan(&rt, rt.alloc(), &QUESTIONS)
-}
-
-const DAYS: Plan = Plan {
-    label: "verdicts",
-    given: TAKEN,
-    visits: VERDICTS,
-    then: &[],
-};
-
-#[test]
-fn verdicts_when_memory_is_refused(rt: HostRuntime) -> Result<(), Fail> {
-    assert_plan(&rt, rt.alloc(), &DAYS)
-}
-
-const LISTS: Plan = Plan {
-    label: "staff lists",
-    given: TAKEN,
-    visits: STAFF_LISTS,
-    then: &[],
-};
-
-#[test]
-fn staff_lists_when_memory_is_refused(rt: HostRuntime) -> Result<(), Fail> {
-    assert_plan(&rt, rt.alloc(), &LISTS)
-}
-
-#[test]
-fn latest_checks_when_memory_is_refused(rt: HostRuntime) -> Result<(), Fail> {
-    assert_plan(&rt, rt.alloc(), &LATEST_CHECKS)
-}
-
-const REHEARSED: Plan = Plan {
-    label: "rehearsals",
-    given: TAKEN,
-    visits: REHEARSALS,
-    then: &[],
-};
-
-#[test]
-fn rehearsals_when_memory_is_refused(rt: HostRuntime) -> Result<(), Fail> {
-    assert_plan(&rt, rt.alloc(), &REHEARSED)
-}
-
-const IMAGES_AGAIN: Plan = Plan {
-    label: "images again",
-    given: HELD,
-    visits: REPEATS,
-    then: &[],
-};
-
-#[test]
-fn images_again_when_memory_is_refused(rt: HostRuntime) -> Result<(), Fail> {
-    assert_plan(&rt, rt.alloc(), &IMAGES_AGAIN)
-}
-
-const COMMANDS_AGAIN: Plan = Plan {
-    label: "commands again",
-    given: RULED,
-    visits: COMMANDS,
-    then: &[],
-};
-
-#[test]
-fn commands_again_when_memory_is_refused(rt: HostRuntime) -> Result<(), Fail> {
-    assert_plan(&rt, rt.alloc(), &COMMANDS_AGAIN)
+fn plans_of_commands_when_memory_is_refused(rt: HostRuntime) -> Result<(), Fail> {
+    assert_plans(&rt, rt.alloc(), asked(&rt), OF_COMMANDS)
 }

@@ -24,6 +24,8 @@ pub(super) enum Ask {
     Checks,
     /// Of a day.
     Verdicts(i32),
+    /// Of a day and an accession.
+    VerdictsOf(i32, u32),
     /// Of a day, and a rule that would be put.
     RehearseRule(i32, NewRule),
     /// Of a day, and the place of a rule that would be dropped.
@@ -77,6 +79,7 @@ fn what_of(alloc: Global, ask: Ask) -> Result<What, NoMemory> {
         Ask::Keys => What::Keys,
         Ask::Checks => What::Checks,
         Ask::Verdicts(day) => What::Verdicts(day),
+        Ask::VerdictsOf(day, acc) => What::VerdictsOf(day, acc),
         Ask::RehearseRule(day, rule) => What::RehearseRule(day, rule_of(alloc, rule)?),
         Ask::RehearseDrop(day, band, scope, rank) => What::RehearseDrop {
             day,

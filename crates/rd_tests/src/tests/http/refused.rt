@@ -10,12 +10,13 @@ use super::cases::{
 use super::doors::{out_of, run};
 use crate::tests::desks::{assert_tables, new_desk_again};
 use crate::tests::keys::STAFF;
+use crate::tests::plans::{asked, is_asked};
 use rd_fakes::desk::Memory;
 use rd_fakes::wire::{add_visit, door_of, new_door};
 use rd_geometry::NoMemory;
 use rd_http::{Door, Ended, MemoryDoor, MemoryVisit, Served, WireFault, serve_one};
 use rd_samples::days::{AFTER, BEFORE};
-use rd_samples::like;
+use rd_samples::{like, table};
 use std::alloc::Global;
 use std::process::Abort;
 use std::test::Fail;
@@ -241,39 +242,95 @@ fn assert_plan(rt: &impl Abort, alloc: Global, plan: &Plan) -> Result<(), Fail> 
     assert_done(rt, alloc, desk, plan, left)
 }
 
-const HELD_DEED: Visit = (
+/// A command of the staff that is done: its name, its method and its path, and its body.
+macro_rules! done {
+    ($label:literal, $line:literal, $body:literal) => {
+        ($label, AFTER, Came::Asked($line, STAFF, $body), DONE)
+    };
+}
+
+/// The image with one program is put, which is done: the name of the visit, its method and its path.
+macro_rules! image {
+    ($label:literal, $line:literal) => {
+        ($label, AFTER, Came::Image($line, Picture::Program), DONE)
+    };
+}
+
+const HELD_DEED: Visit = done!(
     "deed",
-    AFTER,
-    Came::Asked(
-        "PUT /deeds/7",
-        STAFF,
-        r#"{"donor":"A. Curator","signed":"2019-05-04"}"#,
-    ),
-    DONE,
+    "PUT /deeds/7",
+    r#"{"donor":"A. Curator","signed":"2019-05-04"}"#
 );
 
-const HELD_RULE: Visit = (
+const HELD_RULE: Visit = done!(
     "rule",
-    AFTER,
-    Came::Asked(
-        "PUT /deeds/7/rules/20",
-        STAFF,
-        r#"{"audiences":["public"],"effect":"read","select":{"all":true}}"#,
-    ),
-    DONE,
+    "PUT /deeds/7/rules/20",
+    r#"{"audiences":["public"],"effect":"read","select":{"all":true}}"#
 );
 
-const HELD_IMAGE: Visit = (
+const HELD_IMAGE: Visit = image!(
     "image",
-    AFTER,
-    Came::Image(
-        "PUT /accessions/12/d64/7/ee352834e06f2b572e65490eb845939724cc38542aed18acdf81eded76912afb",
-        Picture::Program,
-    ),
-    DONE,
+    "PUT /accessions/12/d64/7/ee352834e06f2b572e65490eb845939724cc38542aed18acdf81eded76912afb"
 );
 
 const HELD: &[Visit] = &[HELD_DEED, HELD_RULE, HELD_IMAGE];
+
+const TAKE_DOWN: Visit = done!(
+    "takedown",
+    "PUT /images/12/rules/1",
+    r#"{"audiences":["public"],"effect":"deny","select":{"prefix":"HELLO"}}"#
+);
+
+const PUT_9: Visit = done!(
+    "deed",
+    "PUT /deeds/9",
+    r#"{"donor":"D","signed":"2021-01-01"}"#
+);
+
+const PUT_10: Visit = done!(
+    "another deed",
+    "PUT /deeds/10",
+    r#"{"donor":"E","signed":"2021-01-01"}"#
+);
+
+const PUT_12: Visit = image!(
+    "image",
+    "PUT /accessions/12/d64/9/ee352834e06f2b572e65490eb845939724cc38542aed18acdf81eded76912afb"
+);
+
+const PUT_KEY: Visit = done!(
+    "key",
+    "PUT /badges/2cf24dba5fb0a30e26e83b2ac5b9e29e1b161e5c1fa7425e73043362938b9824",
+    r#"{"audience":"room"}"#
+);
+
+const CONFLICT: Wanted = reply!("409 Conflict", r#"{"error":"conflict"}"#);
+
+const STAFF_ONLY: Wanted = reply!("403 Forbidden", r#"{"error":"staff-only","rule":"S0"}"#);
+
+const UNKNOWN_KEY: Wanted = reply!(
+    "401 Unauthorized",
+    "WWW-Authenticate: Desk-Key\r\n",
+    r#"{"error":"unknown-key","rule":"K0"}"#
+);
+
+/// Tries plans, or the one of them that a script asks for, by its place.
+fn assert_plans(
+    rt: &impl Abort,
+    alloc: Global,
+    asked: Option<usize>,
+    plans: &[Plan],
+) -> Result<(), Fail> {
+    let mut is_tried = false;
+    for (number, plan) in plans.iter().enumerate() {
+        if is_asked(asked, number) {
+            assert_plan(rt, alloc, plan)?;
+            is_tried = true;
+        }
+    }
+    assert!(rt; is_tried, "no plan has this number");
+    Ok(())
+}
 
 const LISTING: Plan = Plan {
     given: HELD,
@@ -284,381 +341,104 @@ const LISTING: Plan = Plan {
     is_fixed: false,
 };
 
-const FILE: Plan = like!(Plan, LISTING, visit: ("file", AFTER, FOR_HELLO, HELLO));
+/// A visit of a reader who finds nothing, where accession 12 is closed.
+const NONE: Plan =
+    like!(Plan, LISTING, given: GIVEN, visit: ("no images", BEFORE, get!("/images"), reply!("200 OK", r#"{"images":[]}"#)));
 
-const CATALOGUE: Plan =
+const OF_READERS: &[Plan] = table![
+    LISTING;
+    like!(Plan, LISTING, visit: ("file", AFTER, FOR_HELLO, HELLO));
     like!(Plan, LISTING, visit: ("catalogue", AFTER, get!("/catalogue"), ROW_OF_12));
+    like!(Plan, LISTING, visit: ("images", AFTER, get!("/images"), reply!("200 OK", r#"{"images":[{"accession":12,"deed":7,"files":1,"kind":"d64"}]}"#)));
+    NONE;
+    like!(Plan, NONE, visit: ("denied", BEFORE, FOR_HELLO, CLOSED));
+    like!(Plan, NONE, visit: ("closed", BEFORE, get!("/images/12"), reply!("200 OK", r#"{"accession":12,"deed":7,"files":[],"kind":"d64"}"#)));
+];
 
-const SURVEY: Plan =
+#[test]
+fn plans_of_readers_when_memory_is_refused(rt: HostRuntime) -> Result<(), Fail> {
+    assert_plans(&rt, rt.alloc(), asked(&rt), OF_READERS)
+}
+
+/// What the staff asks for.
+const OF_STAFF: &[Plan] = table![
     like!(Plan, LISTING, visit: ("survey", AFTER, Came::Asked("GET /images/12/survey", STAFF, ""), SURVEY_OF_12));
-
-const CHECK: Plan =
     like!(Plan, LISTING, visit: ("check", AFTER, Came::Asked("POST /images/12/check", STAFF, ""), SOUND));
+    like!(Plan, LISTING, visit: ("the deeds", AFTER, Came::Asked("GET /staff/deeds", STAFF, ""), reply!("200 OK", r#"{"deeds":[{"accessions":1,"deed":7,"donor":"A. Curator","rules":[{"audiences":["public"],"effect":"read","from":null,"rank":20,"select":{"all":true},"until":null}],"signed":"2019-05-04"}]}"#)));
+    like!(Plan, LISTING, visit: ("the takedowns", AFTER, Came::Asked("GET /staff/takedowns", STAFF, ""), reply!("200 OK", r#"{"takedowns":[]}"#)));
+    like!(Plan, LISTING, visit: ("the keys", AFTER, Came::Asked("GET /staff/keys", STAFF, ""), reply!("200 OK", r#"{"keys":[{"audience":"staff","digest":"ba7816bf8f01cfea414140de5dae2223b00361a396177a9cb410ff61f20015ad"}]}"#)));
+    like!(Plan, LISTING, visit: ("the latest checks", AFTER, Came::Asked("GET /staff/checks", STAFF, ""), reply!("200 OK", r#"{"checks":[{"accession":12,"day":null,"outcome":null}]}"#)));
+    like!(Plan, LISTING, visit: ("the verdicts", AFTER, Came::Asked("GET /staff/verdicts/2030-01-01", STAFF, ""), csv!("157", "accession,deed,kind,slot,user,name,type,size,faults,public,public_rule,room,room_rule,staff,staff_rule\n12,7,d64,0,,HELLO,PRG,258,,read,R7.20,deny,D0,deny,D0\n")));
+    like!(Plan, LISTING, visit: ("the verdicts of one accession", AFTER, Came::Asked("GET /staff/verdicts/2030-01-01/12", STAFF, ""), csv!("157", "accession,deed,kind,slot,user,name,type,size,faults,public,public_rule,room,room_rule,staff,staff_rule\n12,7,d64,0,,HELLO,PRG,258,,read,R7.20,deny,D0,deny,D0\n")));
+    like!(Plan, LISTING, visit: ("verdicts of no date", AFTER, Came::Asked("GET /staff/verdicts/2030-02-30", STAFF, ""), NO_ROUTE));
+];
 
-const TAKE_DOWN: Visit = (
-    "takedown",
-    AFTER,
-    Came::Asked(
-        "PUT /images/12/rules/1",
-        STAFF,
-        r#"{"audiences":["public"],"effect":"deny","select":{"prefix":"HELLO"}}"#,
-    ),
-    DONE,
-);
-
-const TAKEDOWN: Plan = like!(Plan, LISTING, visit: TAKE_DOWN, after: TAKEN_DOWN);
-
-const PUT_9: Visit = (
-    "deed",
-    AFTER,
-    Came::Asked(
-        "PUT /deeds/9",
-        STAFF,
-        r#"{"donor":"D","signed":"2021-01-01"}"#,
-    ),
-    DONE,
-);
+#[test]
+fn plans_of_the_staff_when_memory_is_refused(rt: HostRuntime) -> Result<(), Fail> {
+    assert_plans(&rt, rt.alloc(), asked(&rt), OF_STAFF)
+}
 
 const DEED: Plan =
     like!(Plan, LISTING, given: &[], visit: PUT_9, question: Came::Asked("DELETE /deeds/9/rules/1", STAFF, ""), before: NO_DEED, after: DONE);
 
-const PUT_12: Visit = (
-    "image",
-    AFTER,
-    Came::Image(
-        "PUT /accessions/12/d64/9/ee352834e06f2b572e65490eb845939724cc38542aed18acdf81eded76912afb",
-        Picture::Program,
-    ),
-    DONE,
-);
+const KEY: Plan =
+    like!(Plan, LISTING, given: &[], visit: PUT_KEY, question: Came::Asked("GET /images/12/survey", Some("hello"), ""), before: UNKNOWN_KEY, after: STAFF_ONLY);
+
+/// Commands, and what rehearses them. The last one drops the last key of the staff, which stays.
+const OF_COMMANDS: &[Plan] = table![
+    like!(Plan, LISTING, visit: TAKE_DOWN, after: TAKEN_DOWN);
+    like!(Plan, LISTING, given: &[HELD_DEED, HELD_RULE, HELD_IMAGE, TAKE_DOWN], visit: done!("drop", "DELETE /images/12/rules/1", ""), before: TAKEN_DOWN);
+    like!(Plan, LISTING, visit: ("a takedown rehearsed", AFTER, Came::Asked("PUT /staff/rehearsals/2030-01-01/images/12/rules/1", STAFF, r#"{"audiences":["public"],"effect":"deny","select":{"prefix":"HELLO"}}"#), csv!("103", "accession,slot,name,audience,effect,rule,then_effect,then_rule\n12,0,HELLO,public,read,R7.20,deny,T12.1\n")));
+    like!(Plan, LISTING, visit: ("a rule dropped in a rehearsal", AFTER, Came::Asked("DELETE /staff/rehearsals/2030-01-01/deeds/7/rules/20", STAFF, ""), csv!("100", "accession,slot,name,audience,effect,rule,then_effect,then_rule\n12,0,HELLO,public,read,R7.20,deny,D0\n")));
+    like!(Plan, LISTING, visit: ("a rehearsal with a bad body", AFTER, Came::Asked("PUT /staff/rehearsals/2030-01-01/deeds/7/rules/20", STAFF, r#"{"audiences":[]}"#), BAD_BODY));
+    DEED;
+    KEY;
+    like!(Plan, KEY, given: &[PUT_KEY], visit: done!("no key", "DELETE /badges/2cf24dba5fb0a30e26e83b2ac5b9e29e1b161e5c1fa7425e73043362938b9824", ""), before: STAFF_ONLY, after: UNKNOWN_KEY);
+    like!(Plan, DEED, visit: ("last key", AFTER, Came::Asked("DELETE /badges/ba7816bf8f01cfea414140de5dae2223b00361a396177a9cb410ff61f20015ad", STAFF, ""), CONFLICT), after: NO_DEED);
+];
+
+#[test]
+fn plans_of_commands_when_memory_is_refused(rt: HostRuntime) -> Result<(), Fail> {
+    assert_plans(&rt, rt.alloc(), asked(&rt), OF_COMMANDS)
+}
 
 const IMAGE: Plan =
     like!(Plan, LISTING, given: &[PUT_9], visit: PUT_12, before: NO_ACCESSION, after: NO_RULE);
 
+/// Images that are put: one that stands, one under another deed than the one that it has, and some that are refused.
+const OF_IMAGES: &[Plan] = table![
+    IMAGE;
+    like!(Plan, LISTING, visit: HELD_IMAGE);
+    like!(Plan, IMAGE, given: &[PUT_9, PUT_12, PUT_10], visit: ("another", AFTER, Came::Image("PUT /accessions/12/d64/10/ee352834e06f2b572e65490eb845939724cc38542aed18acdf81eded76912afb", Picture::Program), CONFLICT), before: NO_RULE);
+    like!(Plan, IMAGE, visit: ("digest", AFTER, Came::Image("PUT /accessions/12/d64/9/ba7816bf8f01cfea414140de5dae2223b00361a396177a9cb410ff61f20015ad", Picture::Program), reply!("422 Unprocessable Content", r#"{"error":"digest-differs"}"#)), after: NO_ACCESSION);
+    like!(Plan, IMAGE, visit: ("size", AFTER, Came::Image("PUT /accessions/12/cpm8/9/ee352834e06f2b572e65490eb845939724cc38542aed18acdf81eded76912afb", Picture::Program), reply!("422 Unprocessable Content", r#"{"error":"wrong-size"}"#)), after: NO_ACCESSION);
+    like!(Plan, IMAGE, given: &[], visit: ("no deed", AFTER, Came::Image("PUT /accessions/12/d64/9/ee352834e06f2b572e65490eb845939724cc38542aed18acdf81eded76912afb", Picture::Program), NO_DEED), after: NO_ACCESSION);
+];
+
+#[test]
+fn plans_of_images_when_memory_is_refused(rt: HostRuntime) -> Result<(), Fail> {
+    assert_plans(&rt, rt.alloc(), asked(&rt), OF_IMAGES)
+}
+
 const BODY: Plan =
     like!(Plan, DEED, visit: ("body", AFTER, Came::Asked("PUT /deeds/9", STAFF, r#"{"donor":"D","signed":"2021-01-32"}"#), BAD_BODY), after: NO_DEED);
 
-/// The body ends one byte before its length.
-const SHORT: Plan =
+/// Bytes that are no request, as a body that ends one byte before its length, and requests whose path, method or key nobody
+/// knows, or whose caller is not the staff.
+const OF_NO_REQUESTS: &[Plan] = table![
+    BODY;
     like!(Plan, BODY, visit: ("short", AFTER, Came::Text("PUT /deeds/9 HTTP/1.1\r\nDesk-Key: abc\r\nContent-Length: 5\r\n\r\nhell"), FRAMING));
-
-const PATH: Plan = like!(Plan, BODY, visit: ("path", AFTER, get!("/images/012"), NO_ROUTE));
-
-const HEAD: Plan =
+    like!(Plan, BODY, visit: ("path", AFTER, get!("/images/012"), NO_ROUTE));
     like!(Plan, BODY, visit: ("head", AFTER, with!("Host: desk\r\n"), BAD_HEAD), is_fixed: true);
-
-const LENGTH: Plan =
-    like!(Plan, HEAD, visit: ("length", AFTER, with!("Content-Length: +5\r\n\r\nhello"), FRAMING));
-
-const ONE_IMAGE: Wanted = reply!(
-    "200 OK",
-    r#"{"images":[{"accession":12,"deed":7,"files":1,"kind":"d64"}]}"#
-);
-
-const IMAGES: Plan = like!(Plan, LISTING, visit: ("images", AFTER, get!("/images"), ONE_IMAGE));
-
-const NO_IMAGES: Wanted = reply!("200 OK", r#"{"images":[]}"#);
-
-const NONE: Plan =
-    like!(Plan, LISTING, given: GIVEN, visit: ("no images", BEFORE, get!("/images"), NO_IMAGES));
-
-const DENIED: Plan = like!(Plan, NONE, visit: ("denied", BEFORE, FOR_HELLO, CLOSED));
-
-const CLOSED_LISTING: Plan = like!(Plan, NONE, visit: ("closed", BEFORE, get!("/images/12"), reply!(
-    "200 OK",
-    r#"{"accession":12,"deed":7,"files":[],"kind":"d64"}"#
-)));
-
-const SAME: Plan = like!(Plan, LISTING, visit: HELD_IMAGE);
-
-const CONFLICT: Wanted = reply!("409 Conflict", r#"{"error":"conflict"}"#);
-
-/// The image of accession 12 under another deed than the one that it has.
-const ANOTHER: Plan =
-    like!(Plan, IMAGE, given: &[PUT_9, PUT_12, PUT_10], visit: ("another", AFTER, Came::Image("PUT /accessions/12/d64/10/ee352834e06f2b572e65490eb845939724cc38542aed18acdf81eded76912afb", Picture::Program), CONFLICT), before: NO_RULE);
-
-const PUT_10: Visit = (
-    "another deed",
-    AFTER,
-    Came::Asked(
-        "PUT /deeds/10",
-        STAFF,
-        r#"{"donor":"E","signed":"2021-01-01"}"#,
-    ),
-    DONE,
-);
-
-const DIFFERS: Plan =
-    like!(Plan, IMAGE, visit: ("digest", AFTER, Came::Image("PUT /accessions/12/d64/9/ba7816bf8f01cfea414140de5dae2223b00361a396177a9cb410ff61f20015ad", Picture::Program), reply!("422 Unprocessable Content", r#"{"error":"digest-differs"}"#)), after: NO_ACCESSION);
-
-const SIZE: Plan =
-    like!(Plan, DIFFERS, visit: ("size", AFTER, Came::Image("PUT /accessions/12/cpm8/9/ee352834e06f2b572e65490eb845939724cc38542aed18acdf81eded76912afb", Picture::Program), reply!("422 Unprocessable Content", r#"{"error":"wrong-size"}"#)));
-
-const MISSING: Plan =
-    like!(Plan, DIFFERS, given: &[], visit: ("no deed", AFTER, Came::Image("PUT /accessions/12/d64/9/ee352834e06f2b572e65490eb845939724cc38542aed18acdf81eded76912afb", Picture::Program), NO_DEED));
-
-const DROPPED: Plan =
-    like!(Plan, LISTING, given: &[HELD_DEED, HELD_RULE, HELD_IMAGE, TAKE_DOWN], visit: ("drop", AFTER, Came::Asked("DELETE /images/12/rules/1", STAFF, ""), DONE), before: TAKEN_DOWN);
-
-const UNKNOWN_KEY: Wanted = reply!(
-    "401 Unauthorized",
-    "WWW-Authenticate: Desk-Key\r\n",
-    r#"{"error":"unknown-key","rule":"K0"}"#
-);
-
-const STAFF_ONLY: Wanted = reply!("403 Forbidden", r#"{"error":"staff-only","rule":"S0"}"#);
-
-const PUT_KEY: Visit = (
-    "key",
-    AFTER,
-    Came::Asked(
-        "PUT /badges/2cf24dba5fb0a30e26e83b2ac5b9e29e1b161e5c1fa7425e73043362938b9824",
-        STAFF,
-        r#"{"audience":"room"}"#,
-    ),
-    DONE,
-);
-
-const KEY: Plan = Plan {
-    given: &[],
-    visit: PUT_KEY,
-    question: Came::Asked("GET /images/12/survey", Some("hello"), ""),
-    before: UNKNOWN_KEY,
-    after: STAFF_ONLY,
-    is_fixed: false,
-};
-
-const NO_KEY: Plan =
-    like!(Plan, KEY, given: &[PUT_KEY], visit: ("no key", AFTER, Came::Asked("DELETE /badges/2cf24dba5fb0a30e26e83b2ac5b9e29e1b161e5c1fa7425e73043362938b9824", STAFF, ""), DONE), before: STAFF_ONLY, after: UNKNOWN_KEY);
-
-/// The reading room asks for what is for the staff.
-const ROOM: Plan =
-    like!(Plan, NO_KEY, visit: ("room", AFTER, Came::Asked("GET /images/12/survey", Some("hello"), ""), STAFF_ONLY), after: STAFF_ONLY);
-
-const LAST_KEY: Plan =
-    like!(Plan, DEED, visit: ("last key", AFTER, Came::Asked("DELETE /badges/ba7816bf8f01cfea414140de5dae2223b00361a396177a9cb410ff61f20015ad", STAFF, ""), CONFLICT), after: NO_DEED);
-
-const NOBODY: Plan =
-    like!(Plan, BODY, visit: ("nobody", AFTER, Came::Asked("GET /images", Some("nobody"), ""), UNKNOWN_KEY));
-
-const METHOD: Plan =
+    like!(Plan, BODY, visit: ("length", AFTER, with!("Content-Length: +5\r\n\r\nhello"), FRAMING), is_fixed: true);
     like!(Plan, BODY, visit: ("method", AFTER, Came::Text("POST /images HTTP/1.1\r\n\r\n"), reply!("405 Method Not Allowed", "Allow: GET\r\n", r#"{"error":"method"}"#)));
-
-const DEEDS: Plan =
-    like!(Plan, LISTING, visit: ("the deeds", AFTER, Came::Asked("GET /staff/deeds", STAFF, ""), reply!("200 OK", r#"{"deeds":[{"accessions":1,"deed":7,"donor":"A. Curator","rules":[{"audiences":["public"],"effect":"read","from":null,"rank":20,"select":{"all":true},"until":null}],"signed":"2019-05-04"}]}"#)));
-
-const NO_TAKEDOWNS: Plan =
-    like!(Plan, LISTING, visit: ("the takedowns", AFTER, Came::Asked("GET /staff/takedowns", STAFF, ""), reply!("200 OK", r#"{"takedowns":[]}"#)));
-
-const KEYS: Plan =
-    like!(Plan, LISTING, visit: ("the keys", AFTER, Came::Asked("GET /staff/keys", STAFF, ""), reply!("200 OK", r#"{"keys":[{"audience":"staff","digest":"ba7816bf8f01cfea414140de5dae2223b00361a396177a9cb410ff61f20015ad"}]}"#)));
-
-const CHECKS: Plan =
-    like!(Plan, LISTING, visit: ("the latest checks", AFTER, Came::Asked("GET /staff/checks", STAFF, ""), reply!("200 OK", r#"{"checks":[{"accession":12,"day":null,"outcome":null}]}"#)));
-
-const VERDICTS: Plan =
-    like!(Plan, LISTING, visit: ("the verdicts", AFTER, Came::Asked("GET /staff/verdicts/2030-01-01", STAFF, ""), csv!("157", "accession,deed,kind,slot,user,name,type,size,faults,public,public_rule,room,room_rule,staff,staff_rule\n12,7,d64,0,,HELLO,PRG,258,,read,R7.20,deny,D0,deny,D0\n")));
-
-const REHEARSED: Plan =
-    like!(Plan, LISTING, visit: ("a takedown rehearsed", AFTER, Came::Asked("PUT /staff/rehearsals/2030-01-01/images/12/rules/1", STAFF, r#"{"audiences":["public"],"effect":"deny","select":{"prefix":"HELLO"}}"#), csv!("103", "accession,slot,name,audience,effect,rule,then_effect,then_rule\n12,0,HELLO,public,read,R7.20,deny,T12.1\n")));
-
-const DROP_REHEARSED: Plan =
-    like!(Plan, LISTING, visit: ("a rule dropped in a rehearsal", AFTER, Came::Asked("DELETE /staff/rehearsals/2030-01-01/deeds/7/rules/20", STAFF, ""), csv!("100", "accession,slot,name,audience,effect,rule,then_effect,then_rule\n12,0,HELLO,public,read,R7.20,deny,D0\n")));
-
-const BAD_REHEARSAL: Plan =
-    like!(Plan, LISTING, visit: ("a rehearsal with a bad body", AFTER, Came::Asked("PUT /staff/rehearsals/2030-01-01/deeds/7/rules/20", STAFF, r#"{"audiences":[]}"#), BAD_BODY));
-
-const NO_DATE: Plan =
-    like!(Plan, LISTING, visit: ("verdicts of no date", AFTER, Came::Asked("GET /staff/verdicts/2030-02-30", STAFF, ""), NO_ROUTE));
+    like!(Plan, BODY, visit: ("nobody", AFTER, Came::Asked("GET /images", Some("nobody"), ""), UNKNOWN_KEY));
+    like!(Plan, KEY, given: &[PUT_KEY], visit: ("room", AFTER, Came::Asked("GET /images/12/survey", Some("hello"), ""), STAFF_ONLY), before: STAFF_ONLY);
+];
 
 #[test]
-fn a_listing_when_memory_is_refused(rt: HostRuntime) -> Result<(), Fail> {
-    assert_plan(&rt, rt.alloc(), &LISTING)
-}
-
-#[test]
-fn a_file_when_memory_is_refused(rt: HostRuntime) -> Result<(), Fail> {
-    assert_plan(&rt, rt.alloc(), &FILE)
-}
-
-#[test]
-fn the_catalogue_when_memory_is_refused(rt: HostRuntime) -> Result<(), Fail> {
-    assert_plan(&rt, rt.alloc(), &CATALOGUE)
-}
-
-#[test]
-fn a_survey_when_memory_is_refused(rt: HostRuntime) -> Result<(), Fail> {
-    assert_plan(&rt, rt.alloc(), &SURVEY)
-}
-
-#[test]
-fn a_check_when_memory_is_refused(rt: HostRuntime) -> Result<(), Fail> {
-    assert_plan(&rt, rt.alloc(), &CHECK)
-}
-
-#[test]
-fn a_rule_when_memory_is_refused(rt: HostRuntime) -> Result<(), Fail> {
-    assert_plan(&rt, rt.alloc(), &TAKEDOWN)
-}
-
-#[test]
-fn a_deed_when_memory_is_refused(rt: HostRuntime) -> Result<(), Fail> {
-    assert_plan(&rt, rt.alloc(), &DEED)
-}
-
-#[test]
-fn an_image_when_memory_is_refused(rt: HostRuntime) -> Result<(), Fail> {
-    assert_plan(&rt, rt.alloc(), &IMAGE)
-}
-
-#[test]
-fn a_bad_body_when_memory_is_refused(rt: HostRuntime) -> Result<(), Fail> {
-    assert_plan(&rt, rt.alloc(), &BODY)
-}
-
-#[test]
-fn a_short_body_when_memory_is_refused(rt: HostRuntime) -> Result<(), Fail> {
-    assert_plan(&rt, rt.alloc(), &SHORT)
-}
-
-#[test]
-fn a_path_when_memory_is_refused(rt: HostRuntime) -> Result<(), Fail> {
-    assert_plan(&rt, rt.alloc(), &PATH)
-}
-
-#[test]
-fn a_bad_head_when_memory_is_refused(rt: HostRuntime) -> Result<(), Fail> {
-    assert_plan(&rt, rt.alloc(), &HEAD)
-}
-
-#[test]
-fn a_length_when_memory_is_refused(rt: HostRuntime) -> Result<(), Fail> {
-    assert_plan(&rt, rt.alloc(), &LENGTH)
-}
-
-#[test]
-fn the_images_when_memory_is_refused(rt: HostRuntime) -> Result<(), Fail> {
-    assert_plan(&rt, rt.alloc(), &IMAGES)
-}
-
-#[test]
-fn no_images_when_memory_is_refused(rt: HostRuntime) -> Result<(), Fail> {
-    assert_plan(&rt, rt.alloc(), &NONE)
-}
-
-#[test]
-fn a_denial_when_memory_is_refused(rt: HostRuntime) -> Result<(), Fail> {
-    assert_plan(&rt, rt.alloc(), &DENIED)
-}
-
-#[test]
-fn an_empty_listing_when_memory_is_refused(rt: HostRuntime) -> Result<(), Fail> {
-    assert_plan(&rt, rt.alloc(), &CLOSED_LISTING)
-}
-
-#[test]
-fn the_same_image_when_memory_is_refused(rt: HostRuntime) -> Result<(), Fail> {
-    assert_plan(&rt, rt.alloc(), &SAME)
-}
-
-#[test]
-fn another_image_when_memory_is_refused(rt: HostRuntime) -> Result<(), Fail> {
-    assert_plan(&rt, rt.alloc(), &ANOTHER)
-}
-
-#[test]
-fn another_digest_when_memory_is_refused(rt: HostRuntime) -> Result<(), Fail> {
-    assert_plan(&rt, rt.alloc(), &DIFFERS)
-}
-
-#[test]
-fn another_size_when_memory_is_refused(rt: HostRuntime) -> Result<(), Fail> {
-    assert_plan(&rt, rt.alloc(), &SIZE)
-}
-
-#[test]
-fn an_image_without_a_deed_when_memory_is_refused(rt: HostRuntime) -> Result<(), Fail> {
-    assert_plan(&rt, rt.alloc(), &MISSING)
-}
-
-#[test]
-fn a_rule_dropped_when_memory_is_refused(rt: HostRuntime) -> Result<(), Fail> {
-    assert_plan(&rt, rt.alloc(), &DROPPED)
-}
-
-#[test]
-fn a_key_when_memory_is_refused(rt: HostRuntime) -> Result<(), Fail> {
-    assert_plan(&rt, rt.alloc(), &KEY)
-}
-
-#[test]
-fn a_key_dropped_when_memory_is_refused(rt: HostRuntime) -> Result<(), Fail> {
-    assert_plan(&rt, rt.alloc(), &NO_KEY)
-}
-
-#[test]
-fn a_question_of_the_staff_when_memory_is_refused(rt: HostRuntime) -> Result<(), Fail> {
-    assert_plan(&rt, rt.alloc(), &ROOM)
-}
-
-#[test]
-fn the_last_key_when_memory_is_refused(rt: HostRuntime) -> Result<(), Fail> {
-    assert_plan(&rt, rt.alloc(), &LAST_KEY)
-}
-
-#[test]
-fn an_unknown_key_when_memory_is_refused(rt: HostRuntime) -> Result<(), Fail> {
-    assert_plan(&rt, rt.alloc(), &NOBODY)
-}
-
-#[test]
-fn another_method_when_memory_is_refused(rt: HostRuntime) -> Result<(), Fail> {
-    assert_plan(&rt, rt.alloc(), &METHOD)
-}
-
-#[test]
-fn the_deeds_when_memory_is_refused(rt: HostRuntime) -> Result<(), Fail> {
-    assert_plan(&rt, rt.alloc(), &DEEDS)
-}
-
-#[test]
-fn the_takedowns_when_memory_is_refused(rt: HostRuntime) -> Result<(), Fail> {
-    assert_plan(&rt, rt.alloc(), &NO_TAKEDOWNS)
-}
-
-#[test]
-fn the_keys_when_memory_is_refused(rt: HostRuntime) -> Result<(), Fail> {
-    assert_plan(&rt, rt.alloc(), &KEYS)
-}
-
-#[test]
-fn the_latest_checks_when_memory_is_refused(rt: HostRuntime) -> Result<(), Fail> {
-    assert_plan(&rt, rt.alloc(), &CHECKS)
-}
-
-#[test]
-fn the_verdicts_when_memory_is_refused(rt: HostRuntime) -> Result<(), Fail> {
-    assert_plan(&rt, rt.alloc(), &VERDICTS)
-}
-
-#[test]
-fn a_takedown_rehearsed_when_memory_is_refused(rt: HostRuntime) -> Result<(), Fail> {
-    assert_plan(&rt, rt.alloc(), &REHEARSED)
-}
-
-#[test]
-fn a_rule_dropped_in_a_rehearsal_when_memory_is_refused(rt: HostRuntime) -> Result<(), Fail> {
-    assert_plan(&rt, rt.alloc(), &DROP_REHEARSED)
-}
-
-#[test]
-fn a_rehearsal_with_a_bad_body_when_memory_is_refused(rt: HostRuntime) -> Result<(), Fail> {
-    assert_plan(&rt, rt.alloc(), &BAD_REHEARSAL)
-}
-
-#[test]
-fn verdicts_of_no_date_when_memory_is_refused(rt: HostRuntime) -> Result<(), Fail> {
-    assert_plan(&rt, rt.alloc(), &NO_DATE)
+fn plans_of_no_requests_when_memory_is_refused(rt: HostRuntime) -> Result<(), Fail> {
+    assert_plans(&rt, rt.alloc(), asked(&rt), OF_NO_REQUESTS)
 }
 
 /// A door of two visits that ask for the program, before it is open and after.

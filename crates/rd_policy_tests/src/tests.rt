@@ -1,4 +1,0 @@
-mod days;
-mod decisions;
-mod limits;
-mod refused;
