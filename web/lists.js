@@ -5,12 +5,12 @@ import { box, cell, element, table } from "./shared.js";
 
 const BLOCK = 100;
 const NEAR = "1200px 0px";
+// How high a row is before one was measured, in pixels.
+const ROW = 40;
 
 class Block {
-  constructor(items, rowOf, columns) {
-    // the first block that is drawn shows how high the rows of the others will be
-    const height = `calc(${items.length} * var(--row, 40px))`;
-    Object.assign(this, { items, rowOf, columns, height, body: element("tbody", null), isDrawn: true });
+  constructor(items, rowOf, columns, list) {
+    Object.assign(this, { items, rowOf, columns, list, height: 0, body: element("tbody", null), isDrawn: true });
     this.clear();
   }
 
@@ -18,11 +18,11 @@ class Block {
     if (this.isDrawn) return;
     this.isDrawn = true;
     this.body.replaceChildren(...this.items.map(this.rowOf));
-    const { height } = this.body.getBoundingClientRect();
-    if (height === 0) return;
-    this.height = `${height}px`;
-    const { style } = this.body.parentNode;
-    if (!style.getPropertyValue("--row")) style.setProperty("--row", `${height / this.items.length}px`);
+    this.height = this.body.getBoundingClientRect().height;
+    if (this.height === 0 || this.list.isMeasured) return;
+    // the first block that is drawn shows how high the rows of the others will be
+    Object.assign(this.list, { isMeasured: true, row: this.height / this.items.length });
+    this.list.blocks.forEach((block) => block.isDrawn || block.stretch());
   }
 
   // A block in which somebody is at work stays.
@@ -31,8 +31,12 @@ class Block {
     this.isDrawn = false;
     const space = box("tr", "space", element("td", null, { colSpan: this.columns }));
     space.ariaHidden = "true";
-    space.firstChild.style.height = this.height;
     this.body.replaceChildren(space);
+    this.stretch();
+  }
+
+  stretch() {
+    this.body.firstChild.firstChild.style.height = `${this.height || this.items.length * this.list.row}px`;
   }
 }
 
@@ -40,11 +44,11 @@ class Block {
 export function longTable(caption, columns, items, rowOf) {
   if (items.length <= 2 * BLOCK) return table(caption, columns, items.map(rowOf));
   const made = table(caption, columns, []);
-  const blocks = new Map();
+  const list = { isMeasured: false, row: ROW, blocks: [] };
   for (let at = 0; at < items.length; at += BLOCK) {
-    const block = new Block(items.slice(at, at + BLOCK), rowOf, columns.length);
-    blocks.set(block.body, block);
+    list.blocks.push(new Block(items.slice(at, at + BLOCK), rowOf, columns.length, list));
   }
+  const blocks = new Map(list.blocks.map((block) => [block.body, block]));
   const seen = ({ target, isIntersecting }) => blocks.get(target)[isIntersecting ? "draw" : "clear"]();
   const observer = new IntersectionObserver((entries) => entries.forEach(seen), { rootMargin: NEAR });
   [...blocks.keys()].forEach((body) => observer.observe(body));

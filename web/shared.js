@@ -104,8 +104,6 @@ export class Refused extends Error {
   }
 }
 
-// Elements
-
 export function element(name, text, fields = {}) {
   const made = document.createElement(name);
   if (text !== null) made.textContent = text;
@@ -139,8 +137,6 @@ export const counted = (count, word) => `${count.toLocaleString("en")} ${word}${
 export const listOf = (value) => (Array.isArray(value) ? value : []);
 export const own = (words, word) => (Object.hasOwn(words, word) ? words[word] : "");
 export const kindWords = (kind) => own(KINDS, textOf(kind)).words || textOf(kind);
-
-// The desk
 
 // A key may be any text; a field of HTTP holds bytes, so it goes as UTF-8.
 export function fields() {

@@ -29,7 +29,7 @@ function said(change, words) {
 // A rule as the desk shows it, from the body that puts it.
 export const ruleOfBody = (body) => ({ from: null, until: null, ...body, audiences: [...body.audiences].sort() });
 
-const ruleSaid = (change) => said(change, (body) => ruleWords(ruleOfBody(body)));
+const ruleSaid = (change, names) => said(change, (body) => ruleWords(ruleOfBody(body), names));
 
 function deedSaid(change) {
   return said(change, ({ donor, signed }) => textOf(donor) && `${donor}, signed on ${textOf(signed)}`);
@@ -40,36 +40,31 @@ function keySaid(change, { digest }) {
   return `Put a key${audience && ` of ${audience}`}, SHA-256 ${digest}`;
 }
 
+// The parts of a path, by their names.
+const [NUMBER, DIGEST] = ["[0-9]+", "[0-9A-Fa-f]{64}"];
+const PARTS = { deed: NUMBER, accession: NUMBER, rank: NUMBER, kind: "[a-z0-9]+", digest: DIGEST, check: "check" };
+
 // What is changed at a path, which names its parts, by its method: the words.
+function way(path, words) {
+  const parts = path.replace(/:([a-z]+)/g, (_, name) => `(?<${name}>${PARTS[name]})`);
+  return { ...words, path: new RegExp(`^${parts}$`) };
+}
+
+const wayOfRules = (path, name, of) => way(path, {
+  PUT: (change, parts, names) => `Put ${RULES[name].words(parts[of], parts.rank)}${ruleSaid(change, names)}`,
+  DELETE: (_, parts) => `Drop ${RULES[name].words(parts[of], parts.rank)}`,
+});
+
+const diskPut = (_, { accession, kind, deed, digest }) =>
+  `Put disk ${accession}, ${kindWords(kind)}, under deed ${deed}, SHA-256 ${digest}`;
+
 const PATHS = [
-  {
-    path: /^\/deeds\/(?<deed>[0-9]+)$/,
-    PUT: (change, { deed }) => `Put deed ${deed}${deedSaid(change)}`,
-  },
-  {
-    path: /^\/deeds\/(?<deed>[0-9]+)\/rules\/(?<rank>[0-9]+)$/,
-    PUT: (change, { deed, rank }) => `Put ${RULES.rules.words(deed, rank)}${ruleSaid(change)}`,
-    DELETE: (_, { deed, rank }) => `Drop ${RULES.rules.words(deed, rank)}`,
-  },
-  {
-    path: /^\/images\/(?<accession>[0-9]+)\/rules\/(?<rank>[0-9]+)$/,
-    PUT: (change, { accession, rank }) => `Put ${RULES.takedowns.words(accession, rank)}${ruleSaid(change)}`,
-    DELETE: (_, { accession, rank }) => `Drop ${RULES.takedowns.words(accession, rank)}`,
-  },
-  {
-    path: /^\/accessions\/(?<accession>[0-9]+)\/(?<kind>[a-z0-9]+)\/(?<deed>[0-9]+)\/(?<digest>[0-9A-Fa-f]{64})$/,
-    PUT: (_, { accession, kind, deed, digest }) =>
-      `Put disk ${accession}, ${kindWords(kind)}, under deed ${deed}, SHA-256 ${digest}`,
-  },
-  {
-    path: /^\/badges\/(?<digest>[0-9A-Fa-f]{64})$/,
-    PUT: keySaid,
-    DELETE: (_, { digest }) => `Drop the key with SHA-256 ${digest}`,
-  },
-  {
-    path: /^\/images\/(?<accession>[0-9]+)\/(?<check>check)$/,
-    POST: (_, { accession }) => `Check disk ${accession}`,
-  },
+  way("/deeds/:deed", { PUT: (change, { deed }) => `Put deed ${deed}${deedSaid(change)}` }),
+  wayOfRules("/deeds/:deed/rules/:rank", "rules", "deed"),
+  wayOfRules("/images/:accession/rules/:rank", "takedowns", "accession"),
+  way("/accessions/:accession/:kind/:deed/:digest", { PUT: diskPut }),
+  way("/badges/:digest", { PUT: keySaid, DELETE: (_, { digest }) => `Drop the key with SHA-256 ${digest}` }),
+  way("/images/:accession/:check", { POST: (_, { accession }) => `Check disk ${accession}` }),
 ];
 
 // The words for a method at a path, and the parts of that; or none.
@@ -82,9 +77,10 @@ function wayOf({ method, path }) {
   return null;
 }
 
-export function changeWords(change) {
+// What a change does; `names` has those of the files of its disk, by their slots.
+export function changeWords(change, names) {
   const found = wayOf(change);
-  return found ? found.words(change, found.groups) : `${change.method} ${short(change.path)}`;
+  return found ? found.words(change, found.groups, names) : `${change.method} ${short(change.path)}`;
 }
 
 const REFUSED = {
@@ -120,8 +116,9 @@ function typed(text) {
   }
 }
 
-// The day and the time of a change, by the clock of the museum's machine.
-export const timeOf = ({ moment }) => moment.slice(0, 19).replace("T", " ");
+// A moment with a blank in it; and the day and the time of a change, by the clock of the museum's machine.
+export const spaced = (moment) => moment.replace("T", " ");
+export const timeOf = ({ moment }) => spaced(moment.slice(0, 19));
 
 // All changes that were read, from lines in any order.
 export class AllChanges {
@@ -161,7 +158,7 @@ function changeOf({ moment, at, status, method, path, staff, note, body }) {
   const change = { moment, at, status: textOf(status), method: textOf(method), path: textOf(path), body: textOf(body) };
   const [name, reason] = [typed(textOf(staff)), typed(textOf(note))];
   const { accession, deed, check } = wayOf(change)?.groups ?? {};
-  const target = change.path.split("?")[0].toLowerCase();
+  const place = change.path.split("?")[0].toLowerCase().replace(/^(\/accessions\/.*)\/[0-9a-f]{64}$/, "$1");
   const search = `${name}\n${reason}`.toLowerCase();
-  return { ...change, target, name, reason, search, accession, deed, isCheck: check !== undefined };
+  return { ...change, place, name, reason, search, accession, deed, isCheck: check !== undefined };
 }

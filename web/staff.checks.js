@@ -1,10 +1,10 @@
 // Survey and check of disks, and the latest check of each.
 import { listTable } from "./lists.js";
 import { box, cell, counted, element, kindWords, own, part, row } from "./shared.js";
-import { change, changed, dated, diskCell, formOf, held, readHeld, shownAnew, showsAnew } from "./staff.desk.js";
+import { buttonsCell, change, changed, dated, diskCell, formOf, held, readHeld } from "./staff.desk.js";
+import { shownAnew, showsAnew } from "./staff.desk.js";
 import { isDone, sendMany } from "./staff.many.js";
 import { limitFields } from "./staff.ruleform.js";
-import { buttonsCell } from "./staff.rules.js";
 import { dayAfter, today } from "./staff.words.js";
 
 // After how many days a disk is due to be checked again.
@@ -98,7 +98,7 @@ function summary(checks) {
 }
 
 // Reads the checks anew, and shows them.
-export async function showChecks() {
+async function showChecks() {
   const checks = await readHeld("checks");
   const columns = { Disk: (one) => one.accession, "Checked on": (one) => one.day ?? "never" };
   Object.assign(columns, { Outcome: (one) => one.outcome ?? "", "": null });
@@ -107,7 +107,9 @@ export async function showChecks() {
   part("checks").querySelector(".stands").replaceChildren(words, ...(checks.length ? [made] : []));
 }
 
-export function listenForChecks() {
+export const open = showChecks;
+
+export function listen() {
   const form = formOf("checks");
   const { before } = form.elements;
   showsAnew("checks", showChecks);

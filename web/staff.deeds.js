@@ -1,9 +1,9 @@
 // Deeds: who gave disks, and when they signed; each with its rules.
 import { listTable } from "./lists.js";
 import { box, cell, counted, element, part, row } from "./shared.js";
-import { change, dated, formOf, held, readHeld, send, shownAnew, showsAnew, sure } from "./staff.desk.js";
+import { buttonsCell, change, dated, formOf, held, readHeld, send } from "./staff.desk.js";
+import { showChange, shownAnew, showsAnew, sure } from "./staff.desk.js";
 import { limitFields } from "./staff.ruleform.js";
-import { buttonsCell, showChange } from "./staff.rules.js";
 import { ruleWords } from "./staff.words.js";
 
 const signedWords = ({ donor, signed }) => `${donor}, signed on ${signed}`;
@@ -34,7 +34,7 @@ function changeDeed({ deed, donor, signed }) {
 // The rules of a deed in short, and the way to all that can be done with them.
 function rulesCell({ deed, rules }) {
   const lines = rules.map((rule) => dated("li", `${rule.rank}: ${ruleWords(rule)}`));
-  const words = rules.length ? "Rules" : "No rule: nobody sees its disks";
+  const words = rules.length ? "Rules" : "No rule: closed to everybody";
   const link = element("a", words, { href: `#/rules/${deed}`, ariaLabel: `${words}, of deed ${deed}` });
   return cell("Rules", box("div", "", lines.length ? box("ul", "", ...lines) : null, link));
 }

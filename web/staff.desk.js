@@ -16,8 +16,6 @@ const LONGEST_WORDS = 1000;
 
 export const formOf = (name) => part(name).querySelector("form");
 
-// What stands
-
 // What the desk holds, as it was when it was read last.
 export const held = { deeds: [], takedowns: [], keys: [], checks: [] };
 
@@ -32,7 +30,11 @@ export function rulesOf(name, scope) {
   return all.find((one) => one[number] === scope)?.rules ?? [];
 }
 
-// Who changes something, and why
+// All rules or takedowns that stood then: each with the deed or the accession that it is of.
+export function standing(name) {
+  if (name === "rules") return held.deeds.flatMap(({ deed, rules }) => rules.map((rule) => ({ scope: deed, rule })));
+  return held.takedowns.flatMap(({ accession, rules }) => rules.map((rule) => ({ scope: accession, rule })));
+}
 
 const sentWords = (text) => encodeURIComponent(text.trim());
 
@@ -59,8 +61,6 @@ export function keepReason() {
   isSpent = false;
 }
 
-// Changes
-
 export async function changed(method, path, body) {
   const { name, reason } = whoNow();
   const headers = { ...fields(), "Desk-Staff": sentWords(name), "Desk-Note": sentWords(reason) };
@@ -76,8 +76,6 @@ export async function send(method, path, body) {
   if (said.done !== true) throw new TypeError("it is not done");
 }
 
-// Work of a section
-
 export function show(name, ...parts) {
   part(name).querySelector(".result").replaceChildren(...parts);
 }
@@ -87,9 +85,18 @@ export const paragraph = (words) => (words instanceof Node ? words : dated("p", 
 // An element with a text, whose days are not broken at the end of a line, and whose disks lead to their pages.
 export function dated(name, text, fields = {}) {
   const made = element(name, null, fields);
-  const parts = text.split(/([0-9]{4}-[0-9]{2}-[0-9]{2}|(?<=\bdisk |CHANGED: (?:[0-9]+, )*)[1-9][0-9]{0,5}\b)/);
-  const special = (words) => (words.includes("-") ? element("span", words, { className: "date" }) : diskLink(words));
-  made.append(...parts.map((words, at) => (at % 2 ? special(words) : words)));
+  let [from, end, isList] = [0, 0, false];
+  for (const { 0: words, index } of text.matchAll(/\b[0-9]+(?:-[0-9]{2}-[0-9]{2})?\b/g)) {
+    const gap = text.slice(end, index);
+    isList = gap.endsWith("CHANGED: ") || (isList && gap === ", ");
+    end = index + words.length;
+    const isDisk = (isList || /\bdisk $/.test(gap)) && /^[1-9][0-9]{0,5}$/.test(words);
+    if (!isDisk && !/^[0-9]{4}-/.test(words)) continue;
+    if (from < index) made.append(text.slice(from, index));
+    made.append(isDisk ? diskLink(words) : element("span", words, { className: "date" }));
+    from = end;
+  }
+  if (from < text.length) made.append(text.slice(from));
   return made;
 }
 
@@ -97,6 +104,24 @@ export function button(words, press, fields = {}) {
   const made = element("button", words, { type: "button", ...fields });
   made.addEventListener("click", press);
   return made;
+}
+
+export function buttonsCell(words, presses) {
+  const made = Object.entries(presses).map(([text, press]) => button(text, press, { ariaLabel: `${text} ${words}` }));
+  return cell("", box("div", "choices", ...made), "work");
+}
+
+// Shows a form in a dialog, which closes before what is typed there is used.
+export function showChange(heading, form, use) {
+  const dialog = part("change");
+  form.append(button("Leave it as it is", () => dialog.close(), { name: "leave" }));
+  form.addEventListener("submit", () => {
+    dialog.close();
+    use();
+  });
+  part("change-heading").textContent = heading;
+  dialog.querySelector("form").replaceWith(form);
+  dialog.showModal();
 }
 
 const diskLink = (accession) => element("a", String(accession), { href: `#/disk/${accession}` });
@@ -125,6 +150,9 @@ export async function shownAnew(name, words) {
   return fault === null ? words : [words, older(name), refusal(fault)];
 }
 
+// The latest report of each address: the view has it again when it is opened again.
+const reports = new Map();
+
 // What opens the view that is shown: its section, what stops it, and its end; and the other work of each section.
 let opened = { stop: () => {} };
 const running = {};
@@ -152,8 +180,10 @@ async function openAfter(before, mine, doing) {
     stands.hidden = false;
     return doing(tools);
   };
+  const report = reports.get(location.hash);
   await workAlone(mine.name, go);
   if (kept) result.replaceChildren(...kept);
+  else if (report) result.append(report);
 }
 
 // Does some work of a section, one at a time, shows the outcome there, and says whether it was done. The work gets a
@@ -168,6 +198,7 @@ export async function work(name, doing) {
 }
 
 async function workAlone(name, doing) {
+  const { hash } = location;
   part(name).setAttribute("aria-busy", "true");
   show(name);
   const stop = new AbortController();
@@ -182,6 +213,8 @@ async function workAlone(name, doing) {
       (came) => ({ outcome: isStopped(came) ? "Stopped." : refusedWork(came), done: false, fault: came }),
     );
   if (outcome !== null && outcome !== undefined) show(name, ...[outcome].flat().map(paragraph));
+  const report = part(name).querySelector(".result > .report");
+  if (report) reports.set(hash, report);
   if (fault && isUnsure(fault)) {
     await again(name).catch(() => part(name).querySelector(".result").append(older(name)));
   }
@@ -189,15 +222,20 @@ async function workAlone(name, doing) {
   return done;
 }
 
-// Work that changes something: only with a name and a reason. Where the button that was pressed is gone with its line,
-// the outcome gets the focus.
+// Work that changes something: only with a name and a reason. Where its outcome is out of sight, or the button that was
+// pressed is gone with its line, the outcome comes into view and gets the focus.
 export async function change(name, doing) {
   isSpent = false;
-  const done = hasWho() && (await work(name, doing));
+  if (!hasWho()) return false;
+  const done = await work(name, doing);
   if (done && isSpent) part("who").elements.reason.value = "";
+  const [at, result] = [document.activeElement, part(name).querySelector(".result")];
+  const { top, bottom } = result.getBoundingClientRect();
+  const isSeen = top >= 0 && bottom <= window.innerHeight;
   // a dialog that has just closed may still have the focus
-  const at = document.activeElement;
-  if (at === document.body || at.closest("dialog:not([open])")) part(name).querySelector(".result").focus();
+  if (isSeen && at !== document.body && !at.closest("dialog:not([open])")) return done;
+  result.focus({ preventScroll: true });
+  if (!isSeen) result.scrollIntoView();
   return done;
 }
 
@@ -220,7 +258,7 @@ export function sure({ words, more = [], go, keep }) {
   part("sure-words").textContent = words;
   part("sure-who").textContent = `By ${name}. Reason: ${reason}`;
   part("sure-more").replaceChildren(...more);
-  const [yes, no] = dialog.querySelectorAll("button");
+  const [yes, no] = dialog.querySelectorAll("button[value]");
   yes.textContent = go;
   no.textContent = keep;
   dialog.returnValue = "";

@@ -1,55 +1,65 @@
 // One disk on one page: what it is, who gets what of it by which rules, its journal, and takedowns of ticked files.
 import { nameCell } from "./lists.js";
-import { shownName } from "./names.js";
 import { askObject, box, cell, counted, element, part, row, table } from "./shared.js";
 import { checkWords, checked, surveyed } from "./staff.checks.js";
 import { button, change, dated, formOf, readHeld, rulesOf, showsAnew } from "./staff.desk.js";
 import { COLUMNS as CHANGES, changeRow } from "./staff.journal.js";
 import { audienceCounts } from "./staff.forecast.js";
-import { PUT, UNREAD, originsOf, standingDisk, standingRule } from "./staff.origins.js";
+import { PUT, SINCE, UNREAD, originsOf, sinceWords, standingDisk, standingRule } from "./staff.origins.js";
 import { freeRank } from "./staff.ranks.js";
-import { rehearsalDays, rehearsed } from "./staff.rehearsal.js";
+import { SAVE_FIRST, rehearsalDays, rehearsed } from "./staff.rehearsal.js";
 import { makeRuleForm, ruleIn } from "./staff.ruleform.js";
 import { putMany } from "./staff.rules.js";
 import { saveTable } from "./staff.saved.js";
 import { COLUMNS, EFFECT_AT, SAVED_HEADS, UNSAID, byWhichRules, effectOf, mayWords } from "./staff.verdicts.js";
-import { ruleShown, savedVerdict, verdictsOf } from "./staff.verdicts.js";
-import { AUDIENCES, RULES, listed, ruleTexts, ruleWords, today } from "./staff.words.js";
+import { nameOf, namesOf, ruleShown, savedVerdict, verdictsOf } from "./staff.verdicts.js";
+import { AUDIENCES, RULES, listed, momentNow, newRuleWords, ruleTexts, ruleWords, today } from "./staff.words.js";
 import { noteOf, titleOf } from "./titles.js";
 
 // How many changes of the journal are shown at most.
 const MOST_CHANGES = 20;
 
-// The disk that is shown: its survey, who put it and its rules, and its files with their verdicts; and where it is.
+// The disk that is shown: its survey, who put it and its rules, its files with their verdicts, and their names; where.
 let shown = null;
 const frames = { about: box("div", ""), files: box("div", ""), rules: box("div", "") };
-
-const nameOf = (record) => shownName(record[COLUMNS.kind], record[COLUMNS.name]);
 
 // Reads the disk anew, and shows it: what is known of it at once, then who gets what of it, and what the journal says.
 async function readDisk(accession, tools) {
   const survey = await askObject(`/images/${accession}/survey`, { signal: tools.signal });
   for (const what of ["deeds", "takedowns", "checks"]) await readHeld(what, tools.signal);
-  const asked = { day: today(), rules: byWhichRules(today()), moment: new Date().toISOString() };
+  const asked = { day: today(), rules: byWhichRules(today()), moment: momentNow() };
   const things = [{ ...standingDisk(survey), origin: UNREAD }, ...decidingRules(survey)];
   shown = { survey, things, files: [], asked };
   draw(null);
   frames.files.replaceChildren(element("p", "Who gets what of it is not read yet."));
   shown.files = await verdictsOf(survey, asked.day, tools);
+  shown.names = namesOf(shown.files);
   drawFiles();
-  const { origins, changes } = await originsOf(things, tools);
-  things.forEach((thing, at) => Object.assign(thing, { origin: origins[at] }));
+  const { told, changes } = await originsOf(things, tools);
+  things.forEach((thing, at) => Object.assign(thing, told[at]));
+  shown.changes = changes;
+  for (const span of frames.files.querySelectorAll(".since")) span.textContent = ` ${sinceOf(span.dataset.label)}`;
   draw(changes);
 }
 
 // All rules that decide on a disk, in the order in which the desk tries them.
 function decidingRules({ accession, deed }) {
-  const of = (name, scope, letter) =>
+  const of = (name, scope) =>
     rulesOf(name, scope).map((rule) => {
-      const label = `${letter}${scope}.${rule.rank}`;
+      const label = `${RULES[name].letter}${scope}.${rule.rank}`;
       return { ...standingRule(RULES[name].path(scope, rule.rank), rule), rule, label, name, scope, origin: UNREAD };
     });
-  return [...of("takedowns", accession, "T"), ...of("rules", deed, "R")];
+  return [...of("takedowns", accession), ...of("rules", deed)];
+}
+
+// Since when a rule lets a file be read.
+const sinceOf = (label) => (shown.changes ? sinceWords(shown.survey, shown.things, label, shown.changes) : UNREAD);
+
+// The rule that decides, and, of a file that can be read, a place for since when.
+function ruleParts(record, audience) {
+  const since = element("span", "", { className: "title since" });
+  since.dataset.label = record[EFFECT_AT[audience] + 1];
+  return [ruleShown(record, audience), effectOf(record, audience) === "read" ? since : null];
 }
 
 function fileRow(record) {
@@ -59,7 +69,7 @@ function fileRow(record) {
   const name = nameCell(record[COLUMNS.kind], record[COLUMNS.name]);
   const cells = [cell("Take down", tick), cell("Slot", slot, "number"), name, cell("Type", record[COLUMNS.type])];
   const verdicts = Object.entries(AUDIENCES).map(([audience, words]) =>
-    cell(words, box("span", "", `${mayWords(record, audience, shown.asked)} `, ruleShown(record, audience))),
+    cell(words, box("span", "", `${mayWords(record, audience, shown.asked)} `, ...ruleParts(record, audience))),
   );
   return row([...cells, cell("Bytes", size && Number(size).toLocaleString("en"), "number"), ...verdicts]);
 }
@@ -67,12 +77,12 @@ function fileRow(record) {
 function rulesTable(rules) {
   const columns = ["Rule", "For whom", "Which files", "They may", "Days", PUT];
   const rowOf = ({ rule, label, name, scope, origin }) => {
-    const texts = { ...ruleTexts(rule), [PUT]: origin };
+    const texts = { ...ruleTexts(rule, shown.names), [PUT]: origin };
     const cells = columns.slice(1).map((column) => cell(column, dated("span", texts[column])));
     const words = `${RULES[name].words(scope, rule.rank)} (${label})`;
     return row([cell("Rule", element("a", words, { href: `#/${name}/${scope}` })), ...cells]);
   };
-  if (rules.length === 0) return element("p", "No rule: nobody sees it.");
+  if (rules.length === 0) return element("p", "No rule: all of it is closed to everybody.");
   return table("rules that decide", columns, rules.map(rowOf));
 }
 
@@ -80,8 +90,9 @@ function rulesTable(rules) {
 function journalParts({ accession, deed }, changes) {
   const [disk, ofDeed] = [String(accession), String(deed)];
   const mine = changes.filter((one) => one.accession === disk || (one.deed === ofDeed && !one.accession));
-  const link = element("a", `Changes of disk ${disk}, without those of its deed`, { href: `#/journal/${disk}` });
-  const made = mine.length ? [table("latest changes", CHANGES, mine.slice(0, MOST_CHANGES).map(changeRow))] : [];
+  const link = element("a", `All changes of disk ${disk} and its deed`, { href: `#/journal/${disk}` });
+  const rows = mine.slice(0, MOST_CHANGES).map((one) => changeRow(one, { deed: ofDeed, names: shown.names }));
+  const made = mine.length ? [table("latest changes", CHANGES, rows)] : [];
   return [element("h2", "The latest changes of the disk and its deed"), ...made, box("p", "", link)];
 }
 
@@ -95,7 +106,8 @@ function draw(changes) {
   const press = () => change("disk", () => checked(accession, "disk"));
   frames.about.replaceChildren(about, checkWords(accession), button("Check it", press, { disabled: changes === null }));
   const heading = element("h2", "The rules, in their order: the first that matches decides");
-  frames.rules.replaceChildren(heading, rulesTable(rules), ...journalParts(survey, changes ?? []));
+  const words = "Each says when it was put itself, not since when files have been open or closed.";
+  frames.rules.replaceChildren(heading, element("p", words), rulesTable(rules), ...journalParts(survey, changes ?? []));
 }
 
 function drawFiles() {
@@ -105,6 +117,7 @@ function drawFiles() {
   frames.files.replaceChildren(
     dated("h2", `Who gets what on ${asked.day}`),
     box("ul", "", ...counts.map((text) => element("li", text))),
+    element("p", SINCE),
     files.length ? table("files", columns, files.map(fileRow)) : element("p", "It has no file."),
     button("Save who gets what as CSV", saveShown),
   );
@@ -116,14 +129,19 @@ function saveShown() {
   const { survey, things, files, asked } = shown;
   const deciding = (label) => {
     const found = things.find((one) => one.label === label);
-    return found ? [ruleWords(found.rule), found.origin] : ["", ""];
+    return found ? [ruleWords(found.rule, shown.names), found.origin] : ["", ""];
   };
-  const rowOf = ([file, who]) => [...savedVerdict(file, who, asked), ...deciding(file[EFFECT_AT[who] + 1])];
+  const rowOf = ([file, who]) => {
+    const label = file[EFFECT_AT[who] + 1];
+    const since = effectOf(file, who) === "read" ? sinceOf(label) : "";
+    return [...savedVerdict(file, who, asked), ...deciding(label), since];
+  };
   const items = files.flatMap((record) => Object.keys(AUDIENCES).map((audience) => [record, audience]));
   const { accession, deed, donor, signed } = survey;
   const whose = `under deed ${deed} of ${donor}, signed on ${signed}; taken in: ${things[0].origin}`;
-  const about = `Who gets what of disk ${accession}, ${whose}. It has all ${counted(files.length, "file")}. ${UNSAID}`;
-  const heads = [...SAVED_HEADS, "what the rule says", PUT.toLowerCase()];
+  const all = `It has all ${counted(files.length, "file")}. ${SINCE} ${UNSAID}`;
+  const about = `Who gets what of disk ${accession}, ${whose}. ${all}`;
+  const heads = [...SAVED_HEADS, "what the rule says", PUT.toLowerCase(), "since when"];
   return saveTable(`disk-${accession}-${asked.day}`, about, heads, items, rowOf);
 }
 
@@ -141,8 +159,9 @@ async function takeDown(records, tools) {
   });
   if (commands.some(({ rank }) => rank === null)) return `All ranks of disk ${accession} are in use.`;
   const words = `Take down ${counted(commands.length, "file")} of disk ${accession}?`;
-  const notes = commands.map(({ name, rank, rule }) => `${name}, at rank ${rank}: ${ruleWords(rule)}.`);
+  const notes = commands.map(({ name, rank, rule }) => `${name}, at rank ${rank}: ${newRuleWords(rule)}.`);
   const asked = { words, notes, commands, days: rehearsalDays(commands[0].rule), isTakedown: true, go: "Take down" };
+  asked.first = [box("div", "choices", button(SAVE_FIRST, saveShown))];
   if ((await rehearsed(asked, tools)).length === 0) return "Nothing is taken down.";
   const isOf = (one, { rank, select }) => rank === one.rank && select.slot === one.slot;
   const stands = (one) => rulesOf("takedowns", accession).some((rule) => isOf(one, rule));

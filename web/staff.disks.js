@@ -80,8 +80,6 @@ function showDumps() {
   part("disks").querySelector(".choices").hidden = rows.length === 0;
 }
 
-// Files
-
 async function chooseFiles({ files }, tools) {
   const chosen = Array.from(files.files);
   files.value = "";
@@ -116,8 +114,6 @@ async function readFile(dump) {
   }
 }
 
-// The sheet
-
 async function readSheet(files) {
   if (files.length > 1) return "Choose one sheet at a time.";
   const { rows, fault } = rowsIn(new TextDecoder().decode(await bytesOf(files[0])));
@@ -147,8 +143,6 @@ function sheetWords() {
   return [`The sheet has ${counted(sheet.length, "row")}: ${words}.`];
 }
 
-// Puts
-
 // Says of each deed what its disks come under, and asks. Gives the words where nothing is to be sent, else null.
 async function unagreed() {
   const [open, out] = [sendable().filter(isOpen), leftOut().length];
@@ -176,7 +170,7 @@ function deedParts({ deed, donor, signed, rules }, dumps_) {
   const forecasts = dumps_.map((dump) => forecast(dump.files, rulesFor(dump), today()));
   const words = `What they get from today, ${today()}, as this page reckons it from the dumps and these rules:`;
   return [
-    ...[heading, box("ul", "", ...(lines.length ? lines : [element("li", "No rule: nobody sees them.")]))],
+    ...[heading, box("ul", "", ...(lines.length ? lines : [element("li", "No rule: they are closed to everybody.")]))],
     ...[dated("p", words), box("ul", "", ...forecastWords(forecasts).map((text) => element("li", text)))],
   ];
 }

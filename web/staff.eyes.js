@@ -2,32 +2,34 @@
 import { longTable, nameCell } from "./lists.js";
 import { searchText } from "./names.js";
 import { box, cell, counted, element, kindWords, part, row } from "./shared.js";
-import { dated, diskCell, formOf, readHeld, work } from "./staff.desk.js";
+import { dated, diskCell, formOf, work } from "./staff.desk.js";
 import { limitFields, options } from "./staff.ruleform.js";
 import { countWords } from "./staff.forecast.js";
+import { pastOf } from "./staff.origins.js";
 import { saveTable } from "./staff.saved.js";
 import { COLUMNS, EFFECT_AT, SAVED_HEADS, UNSAID, byWhichRules, effectOf, mayWords, onDay } from "./staff.verdicts.js";
 import { readVerdicts, ruleShown, savedVerdict } from "./staff.verdicts.js";
-import { AUDIENCES, today } from "./staff.words.js";
+import { AUDIENCES, momentNow, today } from "./staff.words.js";
 import { inParts, keeper } from "./stream.js";
 import { isTitled } from "./titles.js";
 
-// The verdicts of the day that was read last, and when they were asked; behind each the text to look in.
-let seen = { day: "", words: "", rules: "", moment: "", files: [] };
+// The verdicts of the day that was read last, by which rules and when they were asked, and what is known of a past day;
+// behind each the text to look in.
+let seen = { day: "", files: [] };
 const SEARCHED = 15;
 
 async function read(day, tools) {
-  const asked = { day, words: onDay(day), rules: byWhichRules(day), moment: new Date().toISOString() };
+  const asked = { day, words: onDay(day), rules: byWhichRules(day), moment: momentNow() };
+  asked.name = day === today() ? day : `${day}-by-the-rules-of-${today()}`;
   const [files, once] = [[], keeper()];
   const searched = (record) => searchText(record[COLUMNS.kind], record[COLUMNS.name]);
   // most texts are those of the line before
   let last = [];
   const kept = (text, at) => (text === last[at] ? last[at] : once(text));
   const take = (record) => files.push((last = [...record, searched(record)].map(kept)));
-  const deeds = day < today() ? await readHeld("deeds", tools.signal) : [];
-  const later = deeds.filter(({ signed }) => signed > day).map(({ deed, signed }) => [String(deed), signed]);
+  const past = day < today() ? await pastOf(day, tools) : {};
   await readVerdicts(day, take, tools);
-  seen = { ...asked, files, later: new Map(later) };
+  seen = { ...asked, files, others: past.others, past: past.words };
 }
 
 // Says of a file whether it is looked for: by a part of its name or its disk's title, by the disk's number or its rule.
@@ -43,7 +45,7 @@ function wanted() {
   return { audience: audience.value, words: words.value.trim().toLowerCase(), showsClosed: closed.checked };
 }
 
-// The files to show: those that are found, and of the hidden ones only where they are asked for; words for which these
+// The files to show: those that are found, and of the closed ones only where they are asked for; words for which these
 // are; and of all files, how many there are of each effect.
 async function lookThrough({ audience, words, showsClosed }, all) {
   const isFound = finder(words, audience);
@@ -59,7 +61,7 @@ async function lookThrough({ audience, words, showsClosed }, all) {
   };
   await inParts(all, (some) => some.forEach(take));
   const by = words && `, found by \u201c${words}\u201d`;
-  const more = left ? `; ${left.toLocaleString("en")} more, hidden from them, left out` : "";
+  const more = left ? `; ${left.toLocaleString("en")} more, closed to them, left out` : "";
   const which = `${files.length.toLocaleString("en")} of ${counted(all.length, "file")}${by}${more}.`;
   return { files, counts, which };
 }
@@ -89,8 +91,8 @@ async function draw() {
   const columns = ["Disk", "Kind", "Slot", "Name", "Type", "They may", "Rule"];
   const made = files.length ? [longTable("verdicts", columns, files, (file) => fileRow(file, asked.audience))] : [];
   const heading = dated("h2", `What ${AUDIENCES[asked.audience]} gets ${seen.words}`);
-  const words = [countWords(asked.audience, (effect) => counts[effect]), `Shown: ${which}`];
-  stands.replaceChildren(heading, ...words.map((text) => element("p", text)), ...made);
+  const words = [countWords(asked.audience, (effect) => counts[effect]), `Shown: ${which}`, seen.past ?? []].flat();
+  stands.replaceChildren(heading, ...words.map((text) => dated("p", text)), ...made);
   stands.setAttribute("aria-busy", "false");
   part("eyes").querySelector(".found").hidden = false;
 }
@@ -98,9 +100,9 @@ async function draw() {
 async function saveShown() {
   const [asked, mine] = [wanted(), seen];
   const { files, which } = await lookThrough(asked, mine.files);
-  const name = `${asked.audience}-${mine.day}-${files.length}-of-${mine.files.length}-files`;
-  const about = `What ${AUDIENCES[asked.audience]} gets ${mine.words}: ${which} ${UNSAID}`;
-  return saveTable(name, about, SAVED_HEADS, files, (file) => savedVerdict(file, asked.audience, mine));
+  const name = `${asked.audience}-${mine.name}-${files.length}-of-${mine.files.length}-files`;
+  const about = [`What ${AUDIENCES[asked.audience]} gets ${mine.words}: ${which}`, mine.past ?? [], UNSAID].flat();
+  return saveTable(name, about.join(" "), SAVED_HEADS, files, (file) => savedVerdict(file, asked.audience, mine));
 }
 
 async function look(tools) {

@@ -21,11 +21,11 @@ export function forecast(files, rules, day) {
   return Object.fromEntries(Object.keys(AUDIENCES).map((audience) => [audience, effectsFor(audience)]));
 }
 
-// How many files an audience may read, see and not see, in a sentence; and the same of each audience.
+// How many files an audience may read, see listed and not see, in a sentence; and the same of each audience.
 export function countWords(audience, countOf) {
   const [words, counts] = [AUDIENCES[audience], Object.keys(EFFECTS).map(countOf)];
   const [read, list, deny] = counts.map((count) => count.toLocaleString("en"));
-  return `${words[0].toUpperCase()}${words.slice(1)}: ${read} to read, ${list} only in the list, ${deny} hidden.`;
+  return `${words[0].toUpperCase()}${words.slice(1)}: ${read} to read, ${list} only in the list, ${deny} closed.`;
 }
 
 export const audienceCounts = (countOf) =>

@@ -1,16 +1,15 @@
 // The journal: who changed what, when and why, and what became of it.
 import { longTable } from "./lists.js";
-import { Refused, cell, counted, element, part, row } from "./shared.js";
-import { AllChanges, UNKNOWN, changeWords, isUnknown, outcomeWords, timeOf } from "./staff.changes.js";
-import { dated, formOf, work } from "./staff.desk.js";
-import { Lines, MONTHS, PIECE } from "./staff.lines.js";
+import { Refused, askObject, cell, counted, element, part, refusal, row } from "./shared.js";
+import { AllChanges, UNKNOWN, changeWords, isUnknown, outcomeWords, spaced, timeOf } from "./staff.changes.js";
+import { dated, formOf, show, work } from "./staff.desk.js";
+import { Lines, MONTHS, MOST, PIECE } from "./staff.lines.js";
 import { limitFields } from "./staff.ruleform.js";
 import { saveTable } from "./staff.saved.js";
-import { today } from "./staff.words.js";
+import { namesOf, verdictsOf } from "./staff.verdicts.js";
+import { momentNow, today } from "./staff.words.js";
 import { withTitle } from "./titles.js";
 
-// From how many changes on the page reads no more.
-const MOST = 100000;
 export const COLUMNS = ["When", "Who", "What", "Outcome", "Reason"];
 
 const BOUND = [
@@ -18,18 +17,48 @@ const BOUND = [
   `until it holds ${MOST.toLocaleString("en")} changes`,
 ].join(", ");
 
-// What was read so far, and the changes of it from the newest on.
+// What was read so far, when its newest lines were, and the changes of it from the newest on.
 let lines = new Lines();
+let readAt = "";
 let read = new AllChanges();
 let changes = [];
 
+// The disk that is looked for, its deed, and the names of its files by their slots: neither where the desk has no such
+// disk; and what comes of asking for these.
+const NO_DISK = { accession: "", deed: "" };
+let disk = NO_DISK;
+let knowing = Promise.resolve();
+
+async function knowDisk(accession) {
+  disk = { ...NO_DISK, accession };
+  if (accession === "") return;
+  try {
+    const survey = await askObject(`/images/${accession}/survey`);
+    const names = namesOf(await verdictsOf(survey, today(), { progress: () => {} }));
+    if (disk.accession === accession) disk = { accession, deed: String(survey.deed), names };
+  } catch (fault) {
+    if (fault.said?.error !== "no-accession") show("journal", refusal(fault));
+  }
+}
+
 const isFull = () => changes.length >= MOST;
 
+// Whether a change is of the deed of a disk, whose rules decide about this one too.
+const isOfDeed = (change, { deed }) => deed !== "" && change.deed === deed && !change.accession;
+
+// What a change is of.
+function ofWords(change) {
+  if (change.accession) return `disk ${change.accession}`;
+  const of = isOfDeed(change, disk) ? `, the deed of disk ${disk.accession}` : "";
+  return change.deed ? `deed ${change.deed}${of}` : "";
+}
+
 // The changes to show, and words for which these are.
-function found({ accession, deed, words, day, checks }) {
+function found({ accession: { value: number }, deed, words, day, checks }) {
   const text = words.value.trim().toLowerCase();
+  const its = disk.deed ? `and of its deed ${disk.deed}, which decides about it too` : "of whose deed nothing is known";
   const holds = [
-    [accession.value, `of disk ${accession.value}`, (change) => change.accession === accession.value],
+    [number, `of disk ${number} ${its}`, (change) => change.accession === number || isOfDeed(change, disk)],
     [deed.value, `of deed ${deed.value}`, (change) => change.deed === deed.value],
     [text, `with \u201c${text}\u201d in the name or the reason`, (change) => change.search.includes(text)],
     [day.value, `of ${day.value}`, (change) => change.moment.startsWith(day.value)],
@@ -40,11 +69,13 @@ function found({ accession, deed, words, day, checks }) {
   return { shown, which };
 }
 
-export function changeRow(change) {
+// The row of a change; `of` is the disk for which it is shown, if any.
+export function changeRow(change, of) {
+  const words = `${isOfDeed(change, of) ? "Of its deed: " : ""}${changeWords(change, of.names)}`;
   return row([
     cell("When", timeOf(change), "day"),
     cell("Who", change.name, "words"),
-    cell("What", withTitle(dated("span", changeWords(change)), Number(change.accession)), "words"),
+    cell("What", withTitle(dated("span", words), Number(change.accession)), "words"),
     cell("Outcome", outcomeWords(change), isUnknown(change) ? "warning" : ""),
     cell("Reason", change.reason, "words"),
   ]);
@@ -53,42 +84,42 @@ export function changeRow(change) {
 // How far the page has read, and what it could not read.
 function summary() {
   const unknown = changes.filter(isUnknown).length;
-  const texts = [`${counted(changes.length, "change")} read`];
-  if (read.oldest !== "") texts.push(`back to ${timeOf({ moment: read.oldest })}`);
-  texts.push(lines.isWhole ? "which is all that there is" : "and there may be older ones");
-  const more = [`${texts.join(", ")}.`];
+  const [first, last] = [read.oldest, changes[0]?.moment ?? read.oldest].map(spaced);
+  const texts = [`${counted(changes.length, "change")} read${first && `, from ${first} to ${last}`}`];
+  texts.push(lines.isWhole ? "there are no older lines" : "older lines, if any, were not read");
+  const more = [`${texts.join("; ")}.`];
   if (unknown) more.push(`Of ${unknown.toLocaleString("en")} ${UNKNOWN}, or it has not ended yet.`);
   if (read.unread) more.push(`${counted(read.unread, "line")} cannot be read.`);
   if (isFull()) more.push("The page reads no more of them.");
   return more.join(" ");
 }
 
-function draw() {
-  const form = formOf("journal");
-  if (!form.reportValidity()) return;
+// How often the changes were drawn: what was asked for later goes before what has not come yet.
+let turn = 0;
+
+// Shows the changes once the disk that is typed is known.
+async function draw() {
+  const [mine, form, stands] = [++turn, formOf("journal"), part("journal").querySelector(".stands")];
+  const [isFine, typed] = [form.reportValidity(), form.elements.accession.value];
+  stands.setAttribute("aria-busy", String(isFine));
+  if (!isFine) return;
+  if (typed !== disk.accession) knowing = knowDisk(typed);
+  await knowing;
+  if (mine !== turn) return;
   const { shown, which } = found(form.elements);
-  const made = shown.length ? [longTable("changes", COLUMNS, shown, changeRow)] : [];
+  const made = shown.length ? [longTable("changes", COLUMNS, shown, (change) => changeRow(change, disk))] : [];
   const words = [dated("p", summary()), element("p", `Shown: ${which}.`)];
-  part("journal").querySelector(".stands").replaceChildren(...words, ...made);
+  stands.replaceChildren(...words, ...made);
+  stands.setAttribute("aria-busy", "false");
   form.elements.older.disabled = lines.isWhole || isFull();
 }
 
-// Reads it anew, so far back that it is enough, or else all. Gives the changes, how far back, and whether that is all.
-export async function readBack(isEnough, tools) {
-  [lines, read, changes] = [new Lines(), new AllChanges(), []];
-  while (!isEnough(changes) && !lines.isWhole && !isFull()) {
-    await lines.readOlder((line) => read.take(line), () => read.oldest.slice(0, 7), tools);
-    changes = read.inOrder();
-  }
-  return { changes, reach: timeOf({ moment: read.oldest }), isWhole: lines.isWhole };
-}
-
-// Where nginx has no file, or may not read it, the page says so.
+// Where the machine has no file, or may not read it, the page says so.
 export function explained(fault) {
   if (!(fault instanceof Refused)) throw fault;
   const words = {
-    404: "There is no journal here: nginx has no file of it. Nobody can see here who changed what.",
-    500: "nginx cannot read its journal. Most likely its group may not: call whoever runs the desk.",
+    404: "There is no journal here: the machine has no file of it. Nobody can see here who changed what.",
+    500: "The machine cannot read its journal. Most likely its group may not: call whoever runs the desk.",
   };
   if (!Object.hasOwn(words, fault.status)) throw fault;
   return element("p", words[fault.status], { className: "refused" });
@@ -98,12 +129,12 @@ export function explained(fault) {
 async function readOlder(tools) {
   const before = read.byId.size;
   try {
-    await lines.readOlder((line) => read.take(line), () => read.oldest.slice(0, 7), tools);
+    await lines.readOlder((line) => read.take(line), () => read.oldest, tools);
   } catch (fault) {
     return explained(fault);
   } finally {
     changes = read.inOrder();
-    draw();
+    await draw();
   }
   return `Read: ${counted(changes.length - before, before ? "older change" : "change")}.`;
 }
@@ -115,35 +146,39 @@ async function goOn({ currentTarget: button }) {
 }
 
 function readAnew(tools) {
-  [lines, read] = [new Lines(), new AllChanges()];
+  [lines, read, readAt] = [new Lines(), new AllChanges(), momentNow()];
   return readOlder(tools);
 }
 
 const UNSAID = "It does not say what was changed by other ways, nor whether a name is that of who wrote it.";
-const HEADS = ["moment", "name", "reason", "what", "outcome", "method", "path", "status", "body"];
+const HEADS = ["moment", "name", "reason", "of", "what", "outcome", "method", "path", "status", "body"];
 
 function savedRecord(change) {
   const { moment, name, reason, method, path, status, body } = change;
-  return [moment, name, reason, changeWords(change), outcomeWords(change), method, path, status, body];
+  const words = [ofWords(change), changeWords(change, disk.names), outcomeWords(change)];
+  return [moment, name, reason, ...words, method, path, status, body];
 }
 
 // Saves what is shown as a table for a spreadsheet.
 async function saveShown() {
+  await draw();
   const { shown, which } = found(formOf("journal").elements);
-  const since = changes.at(-1)?.moment.slice(0, 10);
-  const name = `journal-${today()}-${shown.length}-of-${changes.length}-changes${since ? `-back-to-${since}` : ""}`;
-  const about = `The journal on ${today()}: ${summary()} Here: ${which}. ${UNSAID}`;
+  const [since, of] = [changes.at(-1)?.moment.slice(0, 10), disk.accession && `-of-disk-${disk.accession}`];
+  const counts = `${shown.length}-of-${changes.length}-changes`;
+  const name = `journal${of}-${today()}-${counts}${since ? `-back-to-${since}` : ""}`;
+  const about = `The journal, read at ${readAt}: ${summary()} Here: ${which}. ${UNSAID}`;
   return saveTable(name, about, HEADS, shown, savedRecord);
 }
 
 // Shows the journal, of one disk where its number is given, and else all.
-export function openJournal(accession, tools) {
+export function open(accession, tools) {
   formOf("journal").reset();
   formOf("journal").elements.accession.value = accession ?? "";
+  disk = NO_DISK;
   return readAnew(tools);
 }
 
-export function listenForJournal() {
+export function listen() {
   const form = formOf("journal");
   const { accession, deed, words, day, checks, older, anew, save: button } = form.elements;
   limitFields(form);

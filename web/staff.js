@@ -2,26 +2,23 @@
 import { readAbout } from "./about.js";
 import { ask, element, listenForKey, loaded, part, refusal, useNow } from "./shared.js";
 import { readTitles } from "./titles.js";
-import { listenForChecks, showChecks } from "./staff.checks.js";
 import { listenForDeeds, showDeeds } from "./staff.deeds.js";
 import { open } from "./staff.desk.js";
-import { listenForJournal, openJournal } from "./staff.journal.js";
-import { listenForKeys, showKeys } from "./staff.keys.js";
-import { listenForRules, openRules } from "./staff.rules.js";
 
-// The views by their sections: the heading, and what each does when it comes before the reader. What not every visit
-// needs is loaded then, and listens to its form from then on.
+// The views by their sections: the heading, and what each does when it comes before the reader; whether it keeps what
+// it shows where the reader leaves it. What not every visit needs is loaded then, and listens to its form from then on.
+const rulesView = (name) => import("./staff.rules.js").then(({ viewOf }) => viewOf(name));
 const VIEWS = {
   deeds: { heading: "Deeds", open: showDeeds },
-  rules: { heading: "Rules of deeds", of: "Rules of deed", open: (scope) => openRules("rules", scope) },
-  disks: { heading: "Disks", load: () => import("./staff.disks.js") },
-  takedowns: { heading: "Takedowns", of: "Takedowns of disk", open: (scope) => openRules("takedowns", scope) },
-  keys: { heading: "Keys", open: (_, tools) => showKeys(tools) },
-  checks: { heading: "Checks", open: showChecks },
-  disk: { heading: "One disk", of: "Disk", load: () => import("./staff.disk.js") },
-  eyes: { heading: "Who sees what", load: () => import("./staff.eyes.js"), isLook: true },
+  rules: { heading: "Rules of deeds", of: "Rules of deed", load: () => rulesView("rules") },
+  disks: { heading: "Disks", load: () => import("./staff.disks.js"), keeps: true },
+  takedowns: { heading: "Takedowns", of: "Takedowns of disk", load: () => rulesView("takedowns") },
+  keys: { heading: "Keys", load: () => import("./staff.keys.js") },
+  checks: { heading: "Checks", load: () => import("./staff.checks.js") },
+  disk: { heading: "One disk", of: "Disk", load: () => import("./staff.disk.js"), keeps: true },
+  eyes: { heading: "Who sees what", load: () => import("./staff.eyes.js"), isLook: true, keeps: true },
   timeline: { heading: "Timeline", load: () => import("./staff.timeline.js"), isLook: true },
-  journal: { heading: "Journal", open: openJournal, isLook: true },
+  journal: { heading: "Journal", load: () => import("./staff.journal.js"), isLook: true },
 };
 
 let taken = false;
@@ -44,7 +41,10 @@ async function loadView(view) {
 function showView(focuses) {
   if (!taken) return;
   const { name, number } = place();
-  for (const other of Object.keys(VIEWS)) part(other).hidden = other !== name;
+  for (const other of Object.keys(VIEWS)) {
+    part(other).hidden = other !== name;
+    if (other !== name && !VIEWS[other].keeps) part(other).querySelector(".stands").replaceChildren();
+  }
   for (const link of part("places").querySelectorAll("a")) {
     if (link.hash === `#/${name}`) link.setAttribute("aria-current", "page");
     else link.removeAttribute("aria-current");
@@ -89,8 +89,7 @@ function listen() {
     view.querySelector("form").after(element("div", null, { className: "result", role: "status", tabIndex: -1 }));
     view.append(element("div", null, { className: "stands" }));
   }
-  ["rules", "takedowns"].forEach(listenForRules);
-  for (const start of [listenForDeeds, listenForKeys, listenForChecks, listenForJournal]) start();
+  listenForDeeds();
   for (const button of part("sure").querySelectorAll("button")) {
     button.addEventListener("click", () => part("sure").close(button.value));
   }

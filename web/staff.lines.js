@@ -1,11 +1,14 @@
 // The lines of the journal, from its end: what is written now comes in pieces, each older month comes as one file.
 import { Refused, ask, fields, loaded } from "./shared.js";
+import { AllChanges, spaced } from "./staff.changes.js";
 import { breather } from "./stream.js";
 import { dayAfter, monthBefore, today } from "./staff.words.js";
 
 // How many bytes come at a time, and how many months the page looks back for a file.
 export const PIECE = 4 << 20;
 export const MONTHS = 120;
+// From how many changes on the page reads no more.
+export const MOST = 100000;
 
 const LINE_FEED = 10;
 
@@ -13,6 +16,9 @@ const LINE_FEED = 10;
 const absent = new Set();
 
 const bytesOf = async (reply) => new Uint8Array(await loaded(reply.arrayBuffer()));
+
+// The oldest line's moment of a journal that was read whole: before it there are no lines.
+let begin = null;
 
 // What a reply would be, or null where nginx refuses it with a status.
 function unless(status, reply) {
@@ -52,9 +58,11 @@ export class Lines {
     return this.until === 0 && this.months === 0;
   }
 
-  // Reads what is next, and hands its lines on. `oldest` gives the month of the oldest line so far, or "".
-  readOlder(take, oldest, tools) {
-    return this.until === 0 ? this.readMonth(take, oldest, tools) : this.readPiece(take, tools);
+  // Reads what is next, and hands its lines on. `oldest` gives the moment of the oldest line so far, or "".
+  async readOlder(take, oldest, tools) {
+    await (this.until === 0 ? this.readMonth(take, oldest, tools) : this.readPiece(take, tools));
+    if (this.until === 0 && oldest() === begin) this.months = 0;
+    if (this.isWhole) begin = oldest() || null;
   }
 
   async readPiece(take, tools) {
@@ -74,7 +82,7 @@ export class Lines {
   // Reads the file of the latest month before those that were looked at, if there is one.
   async readMonth(take, oldest, tools) {
     // The clock of the museum's machine may be ahead of this one.
-    this.month ||= oldest() || dayAfter(today(), 1).slice(0, 7);
+    this.month ||= oldest().slice(0, 7) || dayAfter(today(), 1).slice(0, 7);
     for (let isFound = false; this.months > 0 && !isFound; ) {
       tools.progress("Looking for an older journal, month by month", MONTHS - this.months, MONTHS);
       isFound = await this.readFile(take, tools);
@@ -91,4 +99,15 @@ export class Lines {
     await eachLine(await bytesOf(reply), take);
     return true;
   }
+}
+
+// Reads the journal so far back that it is enough, or else all: the changes, how far back, and whether that is all.
+export async function readBack(isEnough, tools) {
+  const [lines, read] = [new Lines(), new AllChanges()];
+  let changes = [];
+  while (!isEnough(changes) && !lines.isWhole && changes.length < MOST) {
+    await lines.readOlder((line) => read.take(line), () => read.oldest, tools);
+    changes = read.inOrder();
+  }
+  return { changes, reach: spaced(read.oldest), isWhole: lines.isWhole };
 }

@@ -3,7 +3,7 @@ import { longTable } from "./lists.js";
 import { Refused, box, cell, counted, element, explainRefusal, refusalName, row } from "./shared.js";
 import { button, change, diskCell, isUnsure, keepReason, older, whoNow } from "./staff.desk.js";
 import { saveTable } from "./staff.saved.js";
-import { today } from "./staff.words.js";
+import { momentNow, today } from "./staff.words.js";
 
 const DONE = "done";
 
@@ -31,7 +31,7 @@ export async function sendMany(run, { progress, signal }) {
   for (const [at, item] of left.entries()) {
     if (signal.aborted) break;
     progress("Sending", at, left.length);
-    item.who = [...Object.values(whoNow()), new Date().toISOString()];
+    item.who = [...Object.values(whoNow()), momentNow()];
     const fault = await run.one(item).then(() => null, (came) => came);
     item.outcome = fault === null ? DONE : outcomeWords(fault);
     run.shown?.(item);
@@ -65,7 +65,7 @@ function report(run, isOlder) {
   const more = run.more && !isWhole && !isOlder ? element("p", run.more()) : null;
   const goOn = isWhole ? null : button("Go on with the rest", () => change(run.section, (how) => sendMany(run, how)));
   const buttons = box("p", "choices", goOn, button("Save the report", () => saveReport(run)));
-  return box("div", "", summary(run), table, more, buttons, isOlder ? older(run.section) : null);
+  return box("div", "report", summary(run), table, more, buttons, isOlder ? older(run.section) : null);
 }
 
 function saveReport({ section, items, heads, cells }) {

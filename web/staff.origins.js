@@ -1,17 +1,21 @@
-// Who put what stands, when and why, as the journal says.
-import { Refused } from "./shared.js";
-import { bodyOf, isUnknown, ruleOfBody, timeOf } from "./staff.changes.js";
-import { readBack } from "./staff.journal.js";
-import { ruleWords } from "./staff.words.js";
+// Who put what stands, when and why, as the journal says; and what it says of a day that is over.
+import { Refused, counted, meaning } from "./shared.js";
+import { bodyOf, changeWords, isUnknown, ruleOfBody, spaced } from "./staff.changes.js";
+import { held, readHeld, standing } from "./staff.desk.js";
+import { readBack } from "./staff.lines.js";
+import { COLUMNS } from "./staff.verdicts.js";
+import { RULES, listed, ruleWords, today } from "./staff.words.js";
 
-// What stands: the path of the changes that put it, or how it begins, and whether the body of one says what stands.
-const standing = (path, isSaid) => ({ path, isSaid });
-export const standingRule = (path, rule) => standing(path, (body) => ruleWords(ruleOfBody(body)) === ruleWords(rule));
-export const standingKey = (key) => standing(`/badges/${key.digest}`, ({ audience }) => audience === key.audience);
-export const standingDisk = (disk) => standing(`/accessions/${disk.accession}/${disk.kind}/${disk.deed}/`, () => true);
+// What stands: a word for it, the place of the changes that put it, and whether the body of one says what stands.
+const thing = (word, place, isSaid) => ({ word, place, isSaid });
+export const standingRule = (path, rule) =>
+  thing("rule", path, (body) => ruleWords(ruleOfBody(body)) === ruleWords(rule));
+export const standingKey = (key) => thing("key", `/badges/${key.digest}`, ({ audience }) => audience === key.audience);
+export const standingDisk = ({ accession, kind, deed }) =>
+  thing("disk", `/accessions/${accession}/${kind}/${deed}`, () => true);
 
 // Whether a change says what stands: the desk takes no body that is not of its form.
-function isOf({ path, isSaid }, change) {
+function isOf({ isSaid }, change) {
   try {
     return change.method === "PUT" && isSaid(bodyOf(change));
   } catch {
@@ -19,33 +23,129 @@ function isOf({ path, isSaid }, change) {
   }
 }
 
-// The first change that put what stands, of those since which nothing else was put there; null where there is none. One
-// of which nobody knows what became counts if it says what stands, and there is no other.
-function originOf(thing, changes) {
-  const isHere = ({ target }) => (thing.path.endsWith("/") ? target.startsWith(thing.path) : target === thing.path);
-  const counts = (change) => change.status === "200" || (isUnknown(change) && isOf(thing, change));
-  const found = changes.filter((change) => isHere(change) && counts(change));
-  const other = found.findIndex((change) => !isOf(thing, change));
+// Changes by what they are of, each from the newest on.
+const byPlaces = (changes) => Map.groupBy(changes, ({ place }) => place);
+
+// Whether a change was done, as far as anybody knows.
+const counts = (change) => change.status === "200" || isUnknown(change);
+
+// The first change that put what stands, of those since which nothing else was put there, and what was there before;
+// null where there is none. One of which nobody knows what became counts if it says what stands, and there is no other.
+function originOf(one, places) {
+  const isDone = (change) => change.status === "200" || (isUnknown(change) && isOf(one, change));
+  const found = (places.get(one.place) ?? []).filter(isDone);
+  const other = found.findIndex((change) => !isOf(one, change));
   const same = other < 0 ? found : found.slice(0, other);
-  return same.findLast(({ status }) => status === "200") ?? same[0] ?? null;
+  return { put: same.findLast(({ status }) => status === "200") ?? same[0] ?? null, before: found[other] ?? null };
 }
 
-function originWords(change, { reach, isWhole }) {
-  if (change === null) return reach ? `not in the journal, back to ${reach}` : "not in the journal";
-  const { moment, name, reason } = change;
-  const put = `${moment.replace("T", " ")} by ${name || "nobody who is named"}${reason && `: ${reason}`}`;
-  return isWhole ? put : `${put} (or before ${reach}, back to which the journal is read)`;
+const byWords = ({ moment, name, reason }) =>
+  `${spaced(moment)} by ${name || "nobody who is named"}${reason && `: ${reason}`}`;
+
+function originWords({ word }, { put, before }, { reach, isWhole }) {
+  const none = `not in the journal${reach && `, back to ${reach}${isWhole ? ", where it begins" : ""}`}`;
+  if (put === null) return none;
+  const other = before ? `${changeWords(before)}, ${byWords(before)}` : none;
+  return `This ${word} was put ${byWords(put)}; before that: ${other}`;
 }
 
 export const UNREAD = "not looked for in the journal";
 export const PUT = "Put when, by whom, and why";
 
-// For each of some things that stand, the words that say who put it, when and why; and the changes that were read.
-export async function originsOf(things, tools) {
-  const isEnough = (changes) => things.every((thing) => originOf(thing, changes));
+// The journal as far as it is enough; where it cannot be read, why.
+async function journalTo(isEnough, tools) {
   const { changes, fault, ...far } = await readBack(isEnough, tools).catch((came) => ({ changes: [], fault: came }));
   if (fault && (tools.signal?.aborted || !(fault instanceof Refused))) throw fault;
   const none = fault?.status === 404 ? "there is no journal" : "the journal cannot be read";
-  const origins = things.map((thing) => (fault ? none : originWords(originOf(thing, changes), far)));
-  return { origins, changes };
+  return { changes, places: byPlaces(changes), far, none: fault ? none : "" };
+}
+
+// For each of some things that stand, the words that say who put it, when and why, and at which moment, if that is in
+// the journal; and the changes that were read.
+export async function originsOf(things, tools) {
+  const isEnough = (changes, places = byPlaces(changes)) => things.every((one) => originOf(one, places).put);
+  const { changes, places, far, none } = await journalTo(isEnough, tools);
+  const toldOf = (one, found) => ({ origin: none || originWords(one, found, far), put: found.put?.moment });
+  return { told: things.map((one) => toldOf(one, originOf(one, places))), changes };
+}
+
+export const SINCE = `In the journal since: from then on it has no change of the disk, of the rule that decides, or of \
+a rule before that; it may have been so for longer.`;
+
+// Since when the rule of a deed with a label decides about a disk as it does now, as far as the journal knows: the
+// latest moment or day on which it, the disk or a rule before it was put or changed, or began or ended.
+export function sinceWords({ accession, deed }, [disk, ...rules], label, changes) {
+  const at = rules.findIndex((one) => one.label === label);
+  const { put, rule: { from, rank } = {} } = rules[at] ?? {};
+  if (!disk.put || !put) return "since when: not in the journal";
+  const rankOf = ({ place }) => (place.startsWith(`/deeds/${deed}/rules/`) ? Number(place.split("/")[4]) : rank);
+  const isBefore = (one) => one.place.startsWith(`/images/${accession}/rules/`) || rankOf(one) < rank;
+  const changed = changes.filter((one) => counts(one) && isBefore(one)).map(({ moment }) => moment);
+  const days = [from, ...rules.slice(0, at).map(({ rule }) => rule.until)].filter((day) => day && day <= today());
+  return `in the journal since ${spaced([disk.put, put, ...changed, ...days].sort().at(-1))}`;
+}
+
+// What is not known to have been so on a day that is over: words for a disk or a rule that stands; "" where it was so.
+function pastWords(name, { put, before }, { day, reach, isFar }) {
+  const [since, isDisk, back] = [put?.moment.slice(0, 10), name === "", reach ? `back to ${reach}` : "which is empty"];
+  if ((put === null && isFar) || since <= day) return "";
+  const only = `${isDisk ? "not yet here on that day:" : name} put only on ${since}`;
+  if (put && before) return only;
+  if (put && isFar) return `${only}, not before in the journal, ${back}`;
+  const thing_ = isDisk ? "it was here" : `${name} stood`;
+  return `whether ${thing_} then the journal, ${back}, does not say${put ? `; put on ${since}` : ""}`;
+}
+
+// Whether changes, from the newest on, go back to a day.
+const goBackTo = (day, changes) => changes.at(-1)?.moment.slice(0, 10) <= day;
+
+// What the journal says of a day that is over: `others` gives, of a file and the rule that decides, what was other or
+// is not known; `words` says how much has changed since. (A promise takes what has a `then` for another promise.)
+export async function pastOf(day, tools) {
+  for (const what of ["deeds", "takedowns"]) await readHeld(what, tools.signal);
+  const { changes, places, far, none } = await journalTo((some) => goBackTo(day, some), tools);
+  const known = { day, reach: far.reach, isFar: goBackTo(day, changes) };
+  const labelled = ({ scope, rule }, name) =>
+    [`${RULES[name].letter}${scope}.${rule.rank}`, standingRule(RULES[name].path(scope, rule.rank), rule)];
+  const things = new Map(Object.keys(RULES).flatMap((name) => standing(name).map((one) => labelled(one, name))));
+  const signed = new Map(held.deeds.map((one) => [String(one.deed), one.signed]));
+  const told = new Map();
+  const tell = (key, name, one) => {
+    if (!told.has(key)) told.set(key, one ? pastWords(name, originOf(one, places), known) : "");
+    return told.get(key);
+  };
+  const others = (record, label) => {
+    const [accession, deed, kind] = record.slice(COLUMNS.accession, COLUMNS.slot);
+    const unsigned = signed.get(deed) > day && `not then: deed ${deed} was signed on ${signed.get(deed)}`;
+    if (none) return [unsigned, `what stood then is not known: ${none}`];
+    const disk = tell(accession, "", standingDisk({ accession, deed, kind }));
+    return [unsigned, disk, tell(label, meaning(label), things.get(label))];
+  };
+  const words = none ? `What has changed since then is not known: ${none}.` : changedWords(changes, known);
+  return { others, words, then: none ? `what stood then is not known: ${none}.` : thenWords(changes, day) };
+}
+
+// How many changes since a day are named.
+const MOST_NAMED = 10;
+
+// The places of changes, by words for them.
+const SORTS = { disk: "/accessions/", takedown: "/images/.*rules", rule: "/deeds/.*rules", deed: "/deeds/[0-9]+$" };
+
+const isSort = (sort) => ({ place }) => new RegExp(`^${sort}`).test(place);
+const isSince = (day) => ({ moment, status }) => moment.slice(0, 10) > day && status === "200";
+
+// How much has changed since a day.
+function changedWords(changes, { day, reach, isFar }) {
+  const since = changes.filter(isSince(day));
+  const words = listed(Object.entries(SORTS).map(([word, sort]) => counted(since.filter(isSort(sort)).length, word)));
+  const short = isFar ? "" : ` What changed before ${reach || "it began"} it does not say.`;
+  return `Put or dropped since ${day}, as the journal has it, and not undone here: ${words}.${short}`;
+}
+
+// The latest changes since a day, the newest first.
+function thenWords(changes, day) {
+  const since = changes.filter(isSince(day)).filter((one) => Object.values(SORTS).some((sort) => isSort(sort)(one)));
+  const texts = since.slice(0, MOST_NAMED).map((one) => `${changeWords(one)}, ${byWords(one)}`);
+  if (since.length > MOST_NAMED) texts.push(`and ${counted(since.length - MOST_NAMED, "change")} before these`);
+  return `what stood then, the journal says${texts.length ? `. Since then it has: ${texts.join("; ")}` : ""}.`;
 }

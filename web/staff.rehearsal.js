@@ -1,15 +1,14 @@
 // What a change of rules would open and what it would close, for whom and on which days, before it is made.
 import { shownName } from "./names.js";
-import { Refused, box, counted, element } from "./shared.js";
+import { box, counted, element } from "./shared.js";
 import { dated, sure } from "./staff.desk.js";
-import { COLUMNS, given, readVerdicts } from "./staff.verdicts.js";
+import { COLUMNS, given, readVerdicts, verdictsOf } from "./staff.verdicts.js";
 import { EFFECTS, audienceWords, dayAfter, isOnNoDay, listed, today } from "./staff.words.js";
 import { readTable } from "./stream.js";
 
 const ORDER = ["deny", "list", "read"];
 const MOST_NAMED = 10;
-
-// Days
+const MOST_ALONE = 10;
 
 const DAY_WORDS = { from: "its first day", last: "its last day", until: "the first day without it" };
 
@@ -28,8 +27,6 @@ export function rehearsalDays(rule, replaced = []) {
   const later = [...days].filter(([day]) => day && day > now).sort(([one], [other]) => (one < other ? -1 : 1));
   return [{ day: now, words: `Today, ${now}` }, ...later.map(([day, more]) => ({ day, words: `On ${day}${more}` }))];
 }
-
-// What changes on a day
 
 // The changes of a day in groups: how many files change from an effect to another for the same audiences, and the first
 // of them. The lines of one file come one after the other.
@@ -70,21 +67,30 @@ function newGroup([now, then], audiences) {
   return { now, then, audiences, opens: ORDER.indexOf(then) > ORDER.indexOf(now), count: 0, first: [] };
 }
 
-// What a rehearsal does not say: the kind of each disk, and which files the desk gives out.
-async function readServed(tools) {
+const isNoDisk = (fault) => fault.said?.error === "no-accession";
+
+// What a rehearsal does not say: the kind of each disk, and which files the desk gives out. For takedowns of some disks
+// the page asks for these alone.
+async function readServed(commands, tools) {
   const known = { kinds: new Map(), served: new Set() };
+  const disks = new Set(commands.filter(({ path }) => path.startsWith("/images/")).map(({ scope }) => scope));
   const take = (record) => {
     known.kinds.set(record[COLUMNS.accession], record[COLUMNS.kind]);
     if (record[COLUMNS.size] !== "") known.served.add(`${record[COLUMNS.accession]}/${record[COLUMNS.slot]}`);
   };
-  await readVerdicts(today(), take, tools);
+  // a disk that is not there its own rehearsal tells of
+  const gone = (fault) => isNoDisk(fault) || Promise.reject(fault);
+  if (disks.size === 0 || disks.size > MOST_ALONE) await readVerdicts(today(), take, tools);
+  else for (const accession of disks) {
+    await verdictsOf({ accession }, today(), tools).then((all) => all.forEach(take), gone);
+  }
   return known;
 }
 
 // Rehearses commands on days. Gives what changes on each day, and the commands that the desk refuses with
 // `no-accession`, which name no disk.
 export async function rehearse(commands, days, tools) {
-  const known = await readServed(tools);
+  const known = await readServed(commands, tools);
   const missing = new Set();
   const found = [];
   const all = days.length * commands.length;
@@ -93,7 +99,7 @@ export async function rehearse(commands, days, tools) {
     for (const [place, command] of commands.entries()) {
       if (all > 1) tools.progress("Rehearsing", at * commands.length + place, all);
       await rehearseOne(command, day, { changes, known, signal: tools.signal }).catch((fault) => {
-        if (commands.length === 1 || !(fault instanceof Refused) || fault.said.error !== "no-accession") throw fault;
+        if (commands.length === 1 || !isNoDisk(fault)) throw fault;
         missing.add(command);
       });
     }
@@ -113,34 +119,36 @@ async function rehearseOne({ method, path, body }, day, { changes, known, signal
   changes.close();
 }
 
-// Words
-
-function groupWords({ opens, count, audiences, now, then }) {
-  const sentence = `${opens ? "Opens" : "Closes"} for ${audienceWords(audiences)}: ${counted(count, "file")}.`;
-  return `${sentence} Now they ${may(now)}; then they ${may(then)}.`;
+// Of a day that is over nothing opens or closes: `past` says which day, and by which rules.
+function groupWords({ opens, count, audiences, now, then }, past) {
+  const turn = past ? `More ${opens ? "open" : "closed"}` : `${opens ? "Opens" : "Closes"}`;
+  const sentence = `${turn} for ${audienceWords(audiences)}: ${counted(count, "file")}.`;
+  return `${sentence} Now they may ${EFFECTS[now]}; ${past || "then they"} may ${EFFECTS[then]}.`;
 }
 
-const may = (effect) => (effect === "deny" ? EFFECTS.deny : `may ${EFFECTS[effect]}`);
-
-function groupParts(group) {
-  const words = ({ name, accession, slot }) => `${name} (disk ${accession}, slot ${slot})`;
-  const items = group.first.map((file) => dated("li", words(file)));
+function groupParts(group, past) {
+  const [words, className] = [groupWords(group, past), group.opens ? "opens" : "closes"];
+  const items = group.first.map(({ name, accession, slot }) =>
+    dated("li", `${name} (disk ${accession}, slot ${slot})`));
   const rest = group.count - group.first.length;
   if (rest > 0) items.push(element("li", `and ${counted(rest, "more file")}`));
-  return [element("p", groupWords(group), { className: group.opens ? "opens" : "closes" }), box("ul", "", ...items)];
+  return [dated("p", words, { className }), box("ul", "", ...items)];
 }
 
 // What a day changes, under a heading; a day that changes the same as the one before says so.
-export function dayParts({ words, groups }, before, level = "h3") {
-  const heading = element(level, words);
-  if (groups.length === 0) return [heading, element("p", "Nothing opens, and nothing closes.")];
+export function dayParts({ words, groups, past, none }, before) {
+  const heading = element("h3", words);
+  if (groups.length === 0) return [heading, dated("p", none || "Nothing opens, and nothing closes.")];
   const isSame = before && JSON.stringify(groups) === JSON.stringify(before.groups);
   if (isSame) return [heading, element("p", "The same as on the day above.")];
-  return [heading, ...groups.flatMap(groupParts)];
+  return [heading, ...groups.flatMap((group) => groupParts(group, past))];
 }
 
+// What saves the table of a disk before a change of it: afterwards nobody can have it.
+export const SAVE_FIRST = "Save what stands now, first";
+
 // Shows what commands would change, and asks whether to send them. Gives those to send, none where the answer is no.
-export async function rehearsed({ words, notes, commands, days, isTakedown, go }, tools) {
+export async function rehearsed({ words, notes, first = [], commands, days, isTakedown, go }, tools) {
   const { found, missing } = await rehearse(commands, days, tools);
   const left = commands.filter((command) => !missing.has(command));
   const none = [...missing].map((command) => String(command.scope));
@@ -149,6 +157,7 @@ export async function rehearsed({ words, notes, commands, days, isTakedown, go }
   const closes = found.some(({ groups }) => groups.some((group) => !group.opens));
   if (isTakedown && !closes) said.push("Mind: it closes nothing on any of these days.");
   if (left.length === 0) return [];
-  const more = [...said.map((text) => dated("p", text)), ...found.flatMap((day, at) => dayParts(day, found[at - 1]))];
+  const turns = found.flatMap((day, at) => dayParts(day, found[at - 1]));
+  const more = [...said.map((text) => dated("p", text)), ...first, ...turns];
   return (await sure({ words, more, go, keep: "Leave it as it is" })) ? left : [];
 }

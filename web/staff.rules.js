@@ -1,13 +1,11 @@
 // Rules of deeds, and takedowns: the forms that put and change them, and the tables of those that stand.
 import { listTable } from "./lists.js";
-import { box, cell, counted, element, part, row } from "./shared.js";
-import { button, change, dated, diskCell, formOf, held, readHeld, rulesOf } from "./staff.desk.js";
-import { send, shownAnew, showsAnew } from "./staff.desk.js";
-import { sendMany } from "./staff.many.js";
+import { box, cell, counted, element, loaded, part, row } from "./shared.js";
+import { buttonsCell, change, dated, diskCell, formOf, readHeld, rulesOf, send } from "./staff.desk.js";
+import { showChange, shownAnew, showsAnew, standing } from "./staff.desk.js";
 import { MOST_DISKS, accessionsIn, placeOf } from "./staff.ranks.js";
-import { rehearsalDays, rehearsed } from "./staff.rehearsal.js";
 import { fillRule, makeRuleForm, ruleIn } from "./staff.ruleform.js";
-import { RULES, ruleTexts, ruleWords } from "./staff.words.js";
+import { RULES, newRuleWords, ruleTexts, ruleWords } from "./staff.words.js";
 import { titleOf } from "./titles.js";
 
 // Of how many disks the page says one by one what their takedowns replace or follow.
@@ -16,16 +14,11 @@ const MOST_NOTES = 10;
 // What is asked of the desk to have them anew.
 const READ = { rules: "deeds", takedowns: "takedowns" };
 
-// All that stand: each with the deed or the accession that it is of.
-export function standing(name) {
-  if (name === "rules") return held.deeds.flatMap(({ deed, rules }) => rules.map((rule) => ({ scope: deed, rule })));
-  return held.takedowns.flatMap(({ accession, rules }) => rules.map((rule) => ({ scope: accession, rule })));
-}
-
 // The deeds or the disks that are typed.
 const scopesIn = (name, typed) => (name === "rules" ? [Number(typed)] : (accessionsIn(typed) ?? []));
 
-// Changes
+// What only a change needs is loaded then.
+const rehearsals = () => loaded(import("./staff.rehearsal.js"));
 
 // Puts a rule at each place once the rehearsal is agreed to: at the rank that is typed, or else at a free one.
 async function put(name, scopes, typedRank, rule, tools) {
@@ -37,9 +30,11 @@ async function put(name, scopes, typedRank, rule, tools) {
   const commands = places.map(({ scope, rank }) => ({ ...sent, scope, rank, path: RULES[name].path(scope, rank) }));
   const words = placesWords(name, places);
   const replaced = places.flatMap((place) => place.replaced ?? []);
-  const notes = [`${capital(ruleWords(rule))}.`, ...placeNotes(places)];
+  const notes = [`${capital(newRuleWords(rule))}.`, ...placeNotes(places)];
+  const { SAVE_FIRST, rehearsalDays, rehearsed } = await rehearsals();
   const days = rehearsalDays(rule, replaced);
   const asked = { words: `Put ${words}?`, notes, commands, days, isTakedown: name === "takedowns", go: "Put it" };
+  if (places.length === 1) asked.first = firstParts(name, scopes[0], SAVE_FIRST);
   const agreed = await rehearsed(asked, tools);
   if (agreed.length === 0) return `Not put: ${words}.`;
   const cells = (one) => [String(one.scope), String(one.rank)];
@@ -50,7 +45,8 @@ async function put(name, scopes, typedRank, rule, tools) {
 }
 
 // Puts takedowns one after the other, in a section; `more` has what else its report needs.
-export function putMany(section, commands, { heads, cells, ...more }, tools) {
+export async function putMany(section, commands, { heads, cells, ...more }, tools) {
+  const { sendMany } = await loaded(import("./staff.many.js"));
   const run = {
     ...{ section, items: commands, word: "takedown", verb: "put" },
     one: ({ method, path, body }) => send(method, path, body),
@@ -60,6 +56,10 @@ export function putMany(section, commands, { heads, cells, ...more }, tools) {
   };
   return sendMany(run, tools);
 }
+
+// Before a change on one disk: the way to the page that saves who gets what of it.
+const firstParts = (name, scope, words) =>
+  name === "takedowns" ? [box("div", "choices", element("a", words, { href: `#/disk/${scope}` }))] : [];
 
 const capital = (words) => words[0].toUpperCase() + words.slice(1);
 
@@ -81,23 +81,12 @@ async function drop(name, scope, rule, tools) {
   const said = words(scope, rule.rank);
   const commands = [{ scope, rank: rule.rank, method: "DELETE", path: path(scope, rule.rank) }];
   const notes = [`It stands: ${ruleWords(rule)}.`];
-  const asked = { words: `Drop ${said}?`, notes, commands, days: rehearsalDays(rule), go: "Drop it" };
+  const { SAVE_FIRST, rehearsalDays, rehearsed } = await rehearsals();
+  const first = firstParts(name, scope, SAVE_FIRST);
+  const asked = { words: `Drop ${said}?`, notes, first, commands, days: rehearsalDays(rule), go: "Drop it" };
   if ((await rehearsed(asked, tools)).length === 0) return `Kept: ${said}.`;
   await send("DELETE", path(scope, rule.rank));
   return shownAnew(name, `Done: there is no ${said} now.`);
-}
-
-// Shows a form in a dialog, which closes before what is typed there is used.
-export function showChange(heading, form, use) {
-  const dialog = part("change");
-  form.append(button("Leave it as it is", () => dialog.close(), { name: "leave" }));
-  form.addEventListener("submit", () => {
-    dialog.close();
-    use();
-  });
-  part("change-heading").textContent = heading;
-  dialog.querySelector("form").replaceWith(form);
-  dialog.showModal();
 }
 
 // The dialog in which a rule is changed where it stands.
@@ -109,13 +98,6 @@ function changeRule(name, scope, rule) {
   fillRule(form, rule);
   const use = () => change(name, (tools) => put(name, [scope], String(rule.rank), ruleIn(form), tools));
   showChange(`Change ${RULES[name].words(scope, rule.rank)}`, form, use);
-}
-
-// Tables
-
-export function buttonsCell(words, presses) {
-  const made = Object.entries(presses).map(([text, press]) => button(text, press, { ariaLabel: `${text} ${words}` }));
-  return cell("", box("div", "choices", ...made), "work");
 }
 
 function ruleRow(name, { scope, rule }) {
@@ -151,7 +133,7 @@ function draw(name) {
 }
 
 // Reads what stands anew, and shows it.
-export async function showRules(name) {
+async function showRules(name) {
   await readHeld(READ[name]);
   draw(name);
   hint(name);
@@ -170,12 +152,12 @@ function hint(name) {
 }
 
 // The section of rules or takedowns: where a deed or a disk is named, for that one.
-export async function openRules(name, scope) {
+async function openRules(name, scope) {
   if (scope !== undefined) formOf(name).elements.scope.value = scope;
   await showRules(name);
 }
 
-export function listenForRules(name) {
+function listenForRules(name) {
   const form = formOf(name);
   showsAnew(name, () => showRules(name));
   makeRuleForm(name, form);
@@ -198,3 +180,5 @@ function takeMany(form) {
     scope.setCustomValidity(lacks ? `Type numbers as in 1001-1011, 1020; at most ${MOST_DISKS} at once.` : "");
   });
 }
+
+export const viewOf = (name) => ({ listen: () => listenForRules(name), open: (scope) => openRules(name, scope) });

@@ -3,11 +3,11 @@
 import { listTable } from "./lists.js";
 import { shownName } from "./names.js";
 import { box, cell, element, part, row } from "./shared.js";
-import { dated, formOf, readHeld, work } from "./staff.desk.js";
+import { dated, formOf, readHeld, standing, work } from "./staff.desk.js";
 import { audienceCounts } from "./staff.forecast.js";
+import { pastOf } from "./staff.origins.js";
 import { Changes, dayParts } from "./staff.rehearsal.js";
 import { limitFields } from "./staff.ruleform.js";
-import { standing } from "./staff.rules.js";
 import { COLUMNS, effectOf, onDay, readVerdicts } from "./staff.verdicts.js";
 import { AUDIENCES, RULES, dayAfter, isOnNoDay, ruleWords, today } from "./staff.words.js";
 
@@ -117,9 +117,14 @@ async function showDay(day, tools) {
     const at = Object.keys(AUDIENCES).indexOf(audience);
     return then.alike.reduce((sum, one) => sum + (one.now[at] === effect ? one.count : 0), 0);
   });
-  const more = day === today() ? [] : dayParts({ words: "What is other than today", groups: then.groups });
+  const past = day < today() ? `on ${day}, by the rules of ${today()}, they` : "";
+  const since = past ? await pastOf(day, tools) : {};
+  const words = past ? `What is other on ${day} than today, by the rules of ${today()}` : "What is other than today";
+  const none = past && `By the rules of ${today()} nothing is other on that day; ${since.then}`;
+  const more = day === today() ? [] : dayParts({ words, past, none, groups: then.groups });
+  if (past) texts.push(since.words);
   const heading = dated("h2", `Who gets what ${onDay(day)}`);
-  stands().querySelector(".day").replaceChildren(heading, ...texts.map((text) => element("p", text)), ...more);
+  stands().querySelector(".day").replaceChildren(heading, ...texts.map((text) => dated("p", text)), ...more);
 }
 
 // The day that was read last. One that is chosen meanwhile comes next.

@@ -15,9 +15,21 @@ export function readVerdicts(day, take, { progress, signal }) {
   return readTable(`/staff/verdicts/${day}`, { take, signal, progress: (count) => progress(`Reading ${day}`, count) });
 }
 
-// The verdicts of one disk on a day. The desk tells those of all disks, by accession: the page keeps the lines of this
-// one, and stops at the first line of a later one.
-export async function verdictsOf({ accession, files }, day, { progress, signal }) {
+// The verdicts of one disk on a day.
+export async function verdictsOf({ accession, files }, day, tools) {
+  const [found, path] = [[], `/staff/verdicts/${day}/${accession}`];
+  const older = (fault) => {
+    if (fault.said?.error !== "no-route") throw fault;
+    return amongAll(accession, day, tools).then((some) => found.push(...some));
+  };
+  await readTable(path, { take: (record) => found.push(record), signal: tools.signal }).catch(older);
+  if (files !== undefined && found.length !== files) throw new Refused(0, {});
+  return found;
+}
+
+// A desk of an older version tells the verdicts of all disks, by accession: the page keeps the lines of one, and stops
+// at the first line of a later one.
+async function amongAll(accession, day, { progress, signal }) {
   const start = `\n${accession},`;
   let [text, length] = ["", 0];
   for await (const part of partsOf(await ask(`/staff/verdicts/${day}`, { signal }))) {
@@ -27,23 +39,30 @@ export async function verdictsOf({ accession, files }, day, { progress, signal }
     if (Number.parseInt(text.slice(text.lastIndexOf("\n", end - 1) + 1, end), 10) > accession) break;
   }
   const [first, end] = [text.indexOf(start), text.indexOf("\n", text.lastIndexOf(start) + 1)];
-  const found = first < 0 ? [] : new Records().add(text.slice(first + 1, end + 1));
-  if (found.length !== files) throw new Refused(0, {});
-  return found;
+  return first < 0 ? [] : new Records().add(text.slice(first + 1, end + 1));
 }
+
+// The names of some files of a disk as they were shown, by their slots.
+export const nameOf = (record) => shownName(record[COLUMNS.kind], record[COLUMNS.name]);
+export const namesOf = (files) => new Map(files.map((record) => [Number(record[COLUMNS.slot]), nameOf(record)]));
 
 // The desk gives out a file only where it has a size: without one, `read` is no more than `list`.
 export const given = (effect, isServed) => (effect === "read" && !isServed ? "list" : effect);
 export const effectOf = (record, audience) => given(record[EFFECT_AT[audience]], record[COLUMNS.size] !== "");
-const MAY = { read: "read it", list: "see that it is there", deny: "see nothing of it" };
+const MAY = {
+  read: "read it",
+  list: "see its name, not read it",
+  deny: "see only that a closed file is there, not its name",
+};
 
-// Why a file is only listed that a rule lets them read; and that its deed was signed later, where one of these has it.
-function because(record, audience, { later }) {
-  const [deed, faults] = [record[COLUMNS.deed], record[COLUMNS.faults].split(" ").map(explained).join("; ")];
+// Why a file is only listed that a rule lets them read; and, of a day that is over, that its verdict is by the rules of
+// today, and what is known to have been other then.
+function because(record, audience, { rules, others }) {
+  const faults = record[COLUMNS.faults].split(" ").map(explained).join("; ");
   const why = faults ? `damaged: ${faults}` : `the desk gives out no file of type ${record[COLUMNS.type]}`;
   const isListed = effectOf(record, audience) !== record[EFFECT_AT[audience]];
-  const notThen = later?.has(deed) && `not then: deed ${deed} was signed on ${later.get(deed)}`;
-  return [isListed && why, notThen].filter(Boolean).join("; ");
+  const past = others ? [rules, ...others(record, record[EFFECT_AT[audience] + 1])] : [];
+  return [isListed && why, ...past].filter(Boolean).join("; ");
 }
 
 export function mayWords(record, audience, asked) {
@@ -77,9 +96,8 @@ export function savedVerdict(record, audience, asked) {
   const { day, rules, moment } = asked;
   const [label, accession] = [record[EFFECT_AT[audience] + 1], record[COLUMNS.accession]];
   const words = [MAY[effectOf(record, audience)], because(record, audience, asked), label, ruleMeaning(label)];
-  const name = shownName(record[COLUMNS.kind], record[COLUMNS.name]);
   return [
     ...[day, rules, moment, AUDIENCES[audience], ...words, accession, titleOf(Number(accession))],
-    ...[...record.slice(COLUMNS.deed, COLUMNS.type), name, ...record.slice(COLUMNS.type, COLUMNS.faults + 1)],
+    ...[...record.slice(COLUMNS.deed, COLUMNS.type), nameOf(record), ...record.slice(COLUMNS.type, COLUMNS.faults + 1)],
   ];
 }

@@ -2,7 +2,12 @@
 import { shownName } from "./names.js";
 
 export const AUDIENCES = { public: "the public", room: "the reading room", staff: "the staff" };
-export const EFFECTS = { read: "read them", list: "see that they are there", deny: "see nothing of them" };
+// (the desk lists no closed file, but says that one is there and by which rule, and so does the page for readers)
+export const EFFECTS = {
+  read: "read them",
+  list: "see their names, not read them",
+  deny: "see only that closed files are there, not their names",
+};
 
 export const audienceWords = (audiences) => listed(audiences.map((audience) => AUDIENCES[audience]));
 
@@ -23,30 +28,25 @@ function printed(least, most) {
 export const SELECTORS = {
   all: { choice: "all files", shown: () => "all files", sent: () => true },
   slot: {
-    choice: "the file at a slot",
-    field: "Slot",
+    ...{ choice: "one file, by its slot (its place on the disk)", field: "Slot" },
     limits: { pattern: "0|[1-9][0-9]{0,3}", title: "a number from 0 to 9999", required: true },
-    shown: (slot) => `the file at slot ${slot}`,
+    shown: (slot, names) => `the file at slot ${slot}${names ? ` (${names.get(slot) ?? "there is none"})` : ""}`,
     sent: Number,
   },
   prefix: {
     choice: "files whose names begin alike",
-    field: "They begin, as the desk prints them, with",
-    limits: printed(1, 64),
+    ...{ field: "They begin, as the desk prints them, with", limits: printed(1, 64) },
     shown: (words) => `files whose names begin with \u201c${words}\u201d${asShown(words)}`,
     sent: String,
   },
   user: {
-    choice: "files of a user of CP/M",
-    field: "User",
+    ...{ choice: "files of a user of CP/M", field: "User" },
     limits: { pattern: "[0-9]|1[0-5]", title: "a number from 0 to 15", required: true },
     shown: (user) => `files of user ${user}`,
     sent: Number,
   },
   type: {
-    choice: "files of a type",
-    field: "Type, or nothing",
-    limits: printed(0, 16),
+    ...{ choice: "files of a type", field: "Type, or nothing", limits: printed(0, 16) },
     shown: (words) => (words === "" ? "files without a type" : `files of type \u201c${words}\u201d`),
     sent: String,
   },
@@ -64,16 +64,16 @@ export const LIMITS = {
   digest: { pattern: "[0-9A-Fa-f]{64}", title: "64 hexadecimal digits" },
 };
 
-// Rules of a deed and takedowns: what they belong to, what they may let readers do, and their paths.
+// Rules of deeds, and takedowns: what they are of, how their labels begin, what they may let readers do, their paths.
 export const RULES = {
   rules: {
-    of: "Deed",
+    ...{ of: "Deed", letter: "R" },
     words: (scope, rank) => `rule ${rank} of deed ${scope}`,
     effects: ["read", "list", "deny"],
     path: (scope, rank) => `/deeds/${scope}/rules/${rank}`,
   },
   takedowns: {
-    of: "Accession",
+    ...{ of: "Accession", letter: "T" },
     words: (scope, rank) => `takedown ${rank} of disk ${scope}`,
     effects: ["list", "deny"],
     path: (scope, rank) => `/images/${scope}/rules/${rank}`,
@@ -89,33 +89,38 @@ export function isDay(text) {
 // The one entry of a selector: how it selects, and by what.
 export const selection = (rule) => Object.entries(rule.select)[0];
 
-export function filesWords(rule) {
+// Which files a rule is for; `names` has those of the files of a disk, by their slots.
+export function filesWords(rule, names) {
   const [how, what] = selection(rule);
-  return SELECTORS[how].shown(what);
+  return SELECTORS[how].shown(what, names);
 }
 
 export const isOnNoDay = ({ from, until }) => Boolean(from && until && from >= until);
 
-export function daysWords({ from, until }) {
+export function daysWords({ from, until }, always = "on all days") {
   if (isOnNoDay({ from, until })) return `on no day: from ${from}, but until ${until}`;
-  if (!from && !until) return "on all days";
+  if (!from && !until) return always;
   return [from && `from ${from}`, until && `until ${until}`].filter(Boolean).join(", ");
 }
 
 // The texts of a rule, by the columns of its table.
-export const ruleTexts = (rule) => ({
+export const ruleTexts = (rule, names) => ({
   Rank: String(rule.rank),
   "For whom": audienceWords(rule.audiences),
-  "Which files": filesWords(rule),
+  "Which files": filesWords(rule, names),
   "They may": EFFECTS[rule.effect],
   Days: daysWords(rule),
 });
 
-const SHORT = { read: "readable for", list: "only listed for", deny: "hidden from" };
+const SHORT = { read: "readable for", list: "only listed for", deny: "closed to" };
 
-// A rule in short.
-export const ruleWords = (rule) =>
-  `${filesWords(rule)} ${SHORT[rule.effect]} ${audienceWords(rule.audiences)}, ${daysWords(rule)}`;
+// A rule in short; and one that is put now, which changes nothing of the days before.
+export const ruleWords = (rule, names, always) =>
+  `${filesWords(rule, names)} ${SHORT[rule.effect]} ${audienceWords(rule.audiences)}, ${daysWords(rule, always)}`;
+export const newRuleWords = (rule) => ruleWords(rule, undefined, "from now on");
+
+// This moment, to the second, with its time zone.
+export const momentNow = () => `${new Date().toISOString().slice(0, 19)}+00:00`;
 
 // A day some days after another, both as texts. A year may have fewer than four digits.
 export function dayAfter(day, days) {

@@ -6,8 +6,7 @@ from support import cpm_image, server, trials
 from support.samples import (
     ALL, EVERY, LOOP_DISK, MARKED_DISK, PROGRAM_DISK, RECORD_DISK, badge, digest, drop, put, put_image, put_rule, raw)
 
-# Words, a part of what they write, and the status; the store before them and after them, or with rows after each line;
-# and the request of a visitor.
+# Words, a part of what they write, the status; the store before and after, or with rows after each line; the request.
 Command = collections.namedtuple("Command", "words part status stores request", defaults=(b"", 0, 2 * ("none",), b""))
 
 ZONE = "CET-1CEST,M3.5.0,M10.5.0/3"

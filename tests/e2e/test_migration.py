@@ -1,5 +1,4 @@
-"""A store of version 1, which the shell sqlite3 makes of the statements of first-version.trial: what opens it brings it
-to version 2, and changes nothing else."""
+"""What opens a store of version 1, of first-version.trial, brings it to version 2, and changes nothing else."""
 
 import shutil
 

@@ -10,32 +10,22 @@ from support.browser import TODAY, ReadersPage, StaffPage
 from support.server import ROOT
 from test_reading import FILES
 
-IS_SEEN = """
-const isSeen = (one) => one.checkVisibility({ visibilityProperty: true }) && one.getClientRects().length > 0;
-const root = document.querySelector("dialog[open]") ?? document;
-"""
+IS_SEEN = """const root = document.querySelector("dialog[open]") ?? document;
+const isSeen = (one) => one.checkVisibility({ visibilityProperty: true }) && one.getClientRects().length > 0;"""
 # Scripts: the levels of headings; texts without contrast.
 HEADINGS = f"{IS_SEEN} return [...root.querySelectorAll('h1, h2, h3, h4')].filter(isSeen).map((one) => +one.tagName[1])"
-CONTRAST = IS_SEEN + """
-const parts = (color) => color.match(/[0-9.]+/g).map(Number);
-const light = (color) => {
-  const [red, green, blue] = parts(color).map((value) => value / 255)
-    .map((value) => (value <= 0.04045 ? value / 12.92 : ((value + 0.055) / 1.055) ** 2.4));
-  return 0.2126 * red + 0.7152 * green + 0.0722 * blue;
-};
+CONTRAST = IS_SEEN + """const parts = (color) => color.match(/[0-9.]+/g).map(Number);
+const linear = (value) => (value <= 0.04045 ? value / 12.92 : ((value + 0.055) / 1.055) ** 2.4);
+const light = (color, [red, green, blue] = parts(color).map((value) => linear(value / 255))) =>
+  0.2126 * red + 0.7152 * green + 0.0722 * blue;
 const canvas = matchMedia("(prefers-color-scheme: dark)").matches ? "rgb(0, 0, 0)" : "rgb(255, 255, 255)";
-const behind = (one) => {
-  const color = one === null ? canvas : getComputedStyle(one).backgroundColor;
-  return (parts(color)[3] ?? 1) === 1 ? color : behind(one.parentElement);
-};
-const ratio = (one) => {
-  const [dark, bright] = [getComputedStyle(one).color, behind(one)].map(light).sort((first, second) => first - second);
-  return (bright + 0.05) / (dark + 0.05);
-};
+const behind = (one, color = one === null ? canvas : getComputedStyle(one).backgroundColor) =>
+  ((parts(color)[3] ?? 1) === 1 ? color : behind(one.parentElement));
+const lights = (one) => [getComputedStyle(one).color, behind(one)].map((color) => light(color));
+const ratio = (one) => (Math.max(...lights(one)) + 0.05) / (Math.min(...lights(one)) + 0.05);
 const hasText = (one) => Array.from(one.childNodes).some((node) => node.nodeType === 3 && node.textContent.trim());
 return Array.from(root.querySelectorAll("body *")).filter((one) => hasText(one) && isSeen(one) && ratio(one) < 4.5)
-  .filter((one) => !one.closest(":disabled, option, .skip")).map((one) => `${ratio(one)}: ${one.textContent}`);
-"""
+  .filter((one) => !one.closest(":disabled, option, .skip")).map((one) => `${ratio(one)}: ${one.textContent}`);"""
 # Scripts: the colour of the paper; what is wider than the window, or cut off; what is of no use in print, or cut off.
 PAPER = "return getComputedStyle(document.body).backgroundColor.match(/\\d+/g).map(Number)"
 CUT_OFF = IS_SEEN + """return Array.from(root.querySelectorAll("body *"))
@@ -44,20 +34,16 @@ CUT_OFF = IS_SEEN + """return Array.from(root.querySelectorAll("body *"))
   .map((one) => one.outerHTML);"""
 IN_PRINT = IS_SEEN + """return Array.from(root.querySelectorAll("button, input, nav, pre")).filter((one) => isSeen(one)
   && (one.tagName !== "PRE" || one.scrollHeight > one.clientHeight + 1)).map((one) => one.outerHTML);"""
-# A script: how many controls the Tab key has to reach. From then on window.came has those to which the focus came and
-# where it shows, by their place in this order.
-DUE = IS_SEEN + """
-document.activeElement.blur(); window.getSelection().removeAllRanges(); window.scrollTo(0, 0);
+# A script: how many controls the Tab key has to reach. Then window.came has those where the focus comes and shows.
+DUE = IS_SEEN + """document.activeElement.blur(); window.getSelection().removeAllRanges(); window.scrollTo(0, 0);
 const due = Array.from(root.querySelectorAll("a[href], button, input, select, pre[tabindex='0']"))
-  .filter((one) => isSeen(one) && one.tabIndex >= 0 && !one.disabled);
-window.came = [];
+  .filter((one) => isSeen(one) && one.tabIndex >= 0 && !one.disabled); window.came = [];
 document.addEventListener("focusin", ({ target }) => {
   const [at, style] = [due.indexOf(target), getComputedStyle(target)];
   const isShown = style.outlineStyle !== "none" && parseFloat(style.outlineWidth) >= 2;
   if (at >= 0 && isShown && !window.came.includes(at)) window.came.push(at);
 });
-return due.length;
-"""
+return due.length;"""
 MOST_TABS = 400
 # What has to have a name, by the roles that the browser tells a screen reader.
 NAMED = {*"link button textbox searchbox spinbutton combobox checkbox Date DisclosureTriangle".split(),
@@ -131,14 +117,12 @@ def test_tab_comes_to_each_control_in_order_and_shows_where_it_is(view):
     assert count and came[first:] + came[:first] == list(range(count))
 
 # A script: what comes of markup and of a script as a text, and of a question to another host.
-REFUSED = """
-const [done] = arguments;
+REFUSED = """const [done] = arguments;
 const nameOf = (doing) => { try { doing(); } catch (fault) { return fault.name; } };
 const names = [() => { document.body.innerHTML = "<b>x</b>"; }, () => { document.createElement("script").text = "1"; }];
 const refused = ({ effectiveDirective: name }) => { if (name === "connect-src") done([...names.map(nameOf), name]); };
 document.addEventListener("securitypolicyviolation", refused);
-fetch("https://localhost:1/").catch(() => {});
-"""
+fetch("https://localhost:1/").catch(() => {});"""
 
 def test_browser_refuses_markup_scripts_and_other_hosts(view):
     assert [line for line in view.logs() if "Failed to load resource: the server responded" not in line] == []

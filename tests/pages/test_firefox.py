@@ -17,8 +17,7 @@ from test_accessibility import CONTRAST, REFUSED
 
 pytestmark = pytest.mark.xdist_group("firefox")
 # How Marionette calls the commands of Selenium.
-COMMANDS = {
-    Command.NEW_SESSION: "NewSession", Command.GET: "Navigate", Command.FIND_ELEMENTS: "FindElements",
+COMMANDS = {Command.NEW_SESSION: "NewSession", Command.GET: "Navigate", Command.FIND_ELEMENTS: "FindElements",
     Command.CLICK_ELEMENT: "ElementClick", Command.SEND_KEYS_TO_ELEMENT: "ElementSendKeys",
     Command.GET_ELEMENT_PROPERTY: "GetElementProperty", Command.W3C_EXECUTE_SCRIPT: "ExecuteScript",
     Command.W3C_EXECUTE_SCRIPT_ASYNC: "ExecuteAsyncScript", Command.REFRESH: "Refresh"}

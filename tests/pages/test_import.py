@@ -19,17 +19,14 @@ NOT_NAMED, NO_FILE = "The sheet does not name it: left out.", "No file of this n
 NO_KIND = "The page does not send it: no kind of disk has 100 bytes. CP/M, 8 inches has 256,256 bytes, "
 NO_KIND += "Commodore 1541 has 174,848 bytes, Commodore 1541 with error bytes has 175,531 bytes."
 # The dumps by their names; the rows of the sheet; and the accession, deed and result of each, before anything is sent.
-DUMPS = {
-    LONG: RECORD, "hello.d64": HELLO, "marked.d64": MARKED, "other.d64": samples.LOOP_DISK, "extra.d64": MUSEUM,
+DUMPS = {LONG: RECORD, "hello.d64": HELLO, "marked.d64": MARKED, "other.d64": samples.LOOP_DISK, "extra.d64": MUSEUM,
     "..%2f..%2fX": WELCOME, "=1+1": RECORD, "short.d64": bytes(100)}
-ROWS = [
-    ("2001", "cpm8", "9", digest(RECORD), f'"box 1/{LONG}"'),
+ROWS = [("2001", "cpm8", "9", digest(RECORD), f'"box 1/{LONG}"'),
     ("2002", "d64", "9", digest(HELLO).upper(), "C:\\dumps\\hello.d64"),
     ("2003", "d64", "9", digest(MARKED), "marked.d64"), ("2004", "d64", "9", digest(HELLO), "other.d64"),
     ("2005", "d64", "9", digest(HELLO), "gone.d64"), ("2006", "cpm8", "9", digest(WELCOME), "..%2f..%2fX"),
     ("2007", "cpm8", "99", digest(RECORD), "=1+1"), ("2008", "d64", "9", digest(HELLO), "short.d64")]
-FOUND = {
-    LONG: ("2001", "9", ""), "hello.d64": ("2002", "9", ""), "..%2f..%2fX": ("2006", "9", ""),
+FOUND = {LONG: ("2001", "9", ""), "hello.d64": ("2002", "9", ""), "..%2f..%2fX": ("2006", "9", ""),
     "=1+1": ("2007", "99", ""), "extra.d64": ("", "", NOT_NAMED), "gone.d64": ("2005", "9", NO_FILE),
     "short.d64": ("2008", "9", NO_KIND),
     "marked.d64": ("2003", "9", "The sheet says Commodore 1541, and the length is another. The page does not send it."),
@@ -48,8 +45,7 @@ def choose(staff, tmp_path):
     staff.go("disks")
     return choose_files
 
-def results(shown):
-    return {row[0].removesuffix(" Map"): (row[4], row[5], row[6]) for row in shown["list"]}
+results = lambda shown: {row[0].removesuffix(" Map"): (row[4], row[5], row[6]) for row in shown["list"]}
 
 def test_sheet_that_is_wrong_says_where(choose):
     first, row, zeros = f"The first line of the sheet has to be {HEADS}.", "Row 1 of the sheet: ", "0" * 64
@@ -104,16 +100,14 @@ def test_dumps_are_described_and_numbered_by_hand(staff, choose):
     staff.push("Number the others from the first")
     asked = staff.push("Put the disks")["sure"]
     assert asked, "a disk goes out without a question"
-    assert shown["list"] == [
-        ["one.d64 Map", "174,848", "Commodore 1541", digest(HELLO), "", "", ""],
+    assert shown["list"] == [["one.d64 Map", "174,848", "Commodore 1541", digest(HELLO), "", "", ""],
         ["two <b>.d64 Map", "175,531", "Commodore 1541 with error bytes", digest(MARKED), "", "", ""],
         ["short.d64", "100", "", "", "", "", NO_KIND]]
-    assert asked == [
-        *("Put 2 disks?", LEFT_OUT.format(1)),
+    assert asked == [*("Put 2 disks?", LEFT_OUT.format(1)),
         f"2 disks under deed 9, of {samples.DONOR_OF_9}, signed on 0001-01-01",
         "20: all files readable for the public, the reading room and the staff, on all days",
         f"What they get from today, {TODAY}, as this page reckons it from the dumps and these rules:",
-        *(f"The {who}: 1 to read, 1 only in the list, 0 hidden." for who in ("public", "reading room", "staff"))]
+        *(f"The {who}: 1 to read, 1 only in the list, 0 closed." for who in ("public", "reading room", "staff"))]
     assert (staff.answer(False)["result"], staff.door.sent()) == (["Nothing is sent."], [])
     staff.push("Put the disks")
     staff.door.before = lost_at(1)
@@ -136,14 +130,12 @@ def test_map_shows_each_sector_the_chosen_file_and_faults(staff, choose):
         assert (staff.text("figcaption"), len(staff.texts(".map .chosen"))) == (words, count)
 
 # A script: what the page reads on the dump beside it, and what it foretells of its files.
-FORETOLD = """
-const [kind, rules, day, done] = arguments;
+FORETOLD = """const [kind, rules, day, done] = arguments;
 Promise.all([import("/dump.js"), import("/staff.forecast.js"), fetch("/drawn.dump")]).then(async ([dump, all, raw]) => {
   const { files } = dump.readDump(kind, new Uint8Array(await raw.arrayBuffer()));
   const texts = (one) => [one.slot, one.user ?? "", one.name, one.type, one.faults.join(" "), one.isServed].map(String);
   done([files.map(texts), all.forecast(files, rules, day)]);
-});
-"""
+});"""
 BASES = {"d64": [HELLO, MUSEUM, samples.LOOP_DISK], "d64e": [MARKED, samples.bytes_of("images", "damaged.d64")],
          "cpm8": [RECORD, WELCOME, samples.LONG_DISK, samples.bytes_of("images", "damaged.img")]}
 READ, DAYS = ("slot", "user", "name", "type", "faults"), [None, TODAY, "2026-06-16"]

@@ -9,14 +9,13 @@ from support.stand_in import refused_by_nginx
 START, PIECE = 1_800_000_000, 4 << 20
 KEY, HARM = digest(b"room 3"), HARMFUL[2]
 RULE = '{"audiences":["room","public"],"select":{"slot":2},"effect":"deny","until":"2030-01-01"}'
-HIDDEN = "the file at slot 2 hidden from the public and the reading room, until 2030-01-01"
+HIDDEN = "the file at slot 2 closed to the public and the reading room, until 2030-01-01"
 UNKNOWN, NOT_THERE = "nobody knows whether the desk did it", "refused: that cannot be done there"
 DEED = "/deeds/7", "Ada%20M%C3%BCller", "a%20letter%20of%203%20May", '{"donor":"A. <b>C</b>","signed":"2019-05-04"}'
 NO_DISK = "refused: there was no such disk, deed or address"
 BAD_BODY = "refused: the desk could not read it, or a value was beyond its limits"
 # Changes from the oldest on: the status, what came, and the cells of who, what, outcome and reason.
-CHANGES = [
-    ("200", ("PUT", *DEED), "Ada Müller|Put deed 7: A. <b>C</b>, signed on 2019-05-04|done|a letter of 3 May"),
+CHANGES = [("200", ("PUT", *DEED), "Ada Müller|Put deed 7: A. <b>C</b>, signed on 2019-05-04|done|a letter of 3 May"),
     ("200", ("PUT", "/deeds/7/rules/20", "", "", RULE), f"|Put rule 20 of deed 7: {HIDDEN}|done|"),
     ("200", ("DELETE", "/deeds/7/rules/20?x=y", "bob"), "bob|Drop rule 20 of deed 7|done|"),
     ("200", ("PUT", f"/accessions/1002/d64/9/{KEY}", "=1+1", "100%"),
@@ -33,34 +32,33 @@ LINES = [journal_lines(number, START + 60 * number, status, *came) for number, (
 # All changes in a file whose last line was cut off.
 JOURNAL = b"".join(LINES) + b'{"id":"torn","moment":"2027-01-15T09:0'
 
-def time_of(number):
-    return moment(START + 60 * number + (0.5 if CHANGES[number][0] else 0))[:19].replace("T", " ")
+time_of = lambda number: moment(START + 60 * number + (0.5 if CHANGES[number][0] else 0))[:19].replace("T", " ")
 
 def rows_of(*numbers):
     """The rows of some changes, from the newest on."""
     return [[time_of(number), *CHANGES[number][2].split("|")] for number in sorted(numbers, reverse=True)]
 
-def read(staff, journal, older=None):
+def read(staff, journal, older=None, place="journal"):
     """Opens the journal with these files: what is written now, and what was rotated away."""
     staff.door.journals = {"/journal": journal, **(older or {})}
     staff.door.visits.clear()
-    return staff.go("journal")
+    return staff.go(place)
 
 def asked(staff):
     """What was asked of the journal since the last time: each path, and the bytes of it that are wished."""
-    came = [(path, fields.get(b"range", b"").decode()) for _, path, fields in staff.door.visits]
-    staff.door.visits.clear()
-    return came
+    came, staff.door.visits = staff.door.visits, []
+    return [(path, fields.get(b"range", b"").decode()) for _, path, fields in came]
 
 def test_changes_stand_with_who_what_outcome_and_reason(staff):
     shown = read(staff, JOURNAL)
-    summary = f"11 changes read, back to {time_of(0)}, and there may be older ones. "
+    summary = f"11 changes read, from {time_of(0)}+00:00 to {time_of(10)}+00:00; older lines, if any, were not read. "
     summary += f"Of 3 {UNKNOWN}, or it has not ended yet. 1 line cannot be read."
     assert shown["stands"] == [summary, "Shown: 10 changes of these, without checks of disks."]
     assert (shown["result"], shown["rows"]) == (["Read: 11 changes."], rows_of(0, 1, 2, 3, 4, 6, 7, 8, 9, 10))
     assert (staff.harmed(), staff.one("#who").is_displayed()) == ([None, 0], False)
     fields = [(path, [name for name in fields if b"desk" in name]) for _, path, fields in staff.door.visits]
     assert fields == [("/journal", [b"desk-key"])]
+    assert all("; there are no older" in staff.push(one)["stands"][0] for one in ("Read what is older", "Read it anew"))
 
 def test_what_is_looked_for_is_found_and_saved_without_a_formula(staff):
     read(staff, JOURNAL)
@@ -73,11 +71,24 @@ def test_what_is_looked_for_is_found_and_saved_without_a_formula(staff):
         shown = staff.read()
         assert (shown["rows"], int(shown["stands"][1].split()[1])) == (rows_of(*found), len(found)), typed
     staff.push("Save what is shown as CSV")
-    heads, *records = saved_table(staff, f"journal-{TODAY}-3-of-11-changes-back-to-{moment(START)[:10]}")
-    assert heads[2:] == ["moment", "name", "reason", "what", "outcome", "method", "path", "status", "body"]
+    heads, *records = saved_table(staff, f"journal-of-disk-1002-{TODAY}-3-of-11-changes-back-to-{moment(START)[:10]}")
+    assert heads[2:] == ["moment", "name", "reason", "of", "what", "outcome", "method", "path", "status", "body"]
     what, path = rows_of(3)[0][2], CHANGES[3][1][1]
-    assert (len(records), records[2][3:]) == (3, ["'=1+1", "100%", what, "done", "PUT", path, "200", ""])
-    assert f"back to {time_of(0)}, and there may be older ones." in records[0][1] and "of disk 1002" in records[0][1]
+    assert (len(records), records[2][3:]) == (3, ["'=1+1", "100%", "disk 1002", what, "done", "PUT", path, "200", ""])
+    due = f"+00:00: 11 changes read, from {time_of(0)}+00:00 to {time_of(10)}+00:00; older lines, if any"
+    assert f"The journal, read at {TODAY}T12:{records[0][1][35:40]}{due}" in records[0][1], "saved without its hour"
+
+def test_journal_of_a_disk_has_the_changes_of_its_deed_and_the_names_of_files(staff):
+    came = [("/deeds/7/rules/20", RULE), ("/deeds/9/rules/20", RULE), ("/images/1002/rules/1", RULE)]
+    lines = [journal_lines(at, START + at, "200", "PUT", path, "Ada", "", body) for at, (path, body) in enumerate(came)]
+    shown, named = read(staff, b"".join(lines), place="journal/1002"), HIDDEN.replace(" closed", " (GUIDE) closed")
+    words = [f"Put takedown 1 of disk 1002: {named}", f"Put rule 20 of deed 9: {named}"]
+    assert [row[2] for row in shown["rows"]] == [words[0], f"Of its deed: {words[1]}"], "a deed's rules stand elsewhere"
+    staff.push("Save what is shown as CSV")
+    _, *rows = saved_table(staff, f"journal-of-disk-1002-{TODAY}-2-of-3-changes-back-to-{moment(START)[:10]}")
+    assert [row[5:7] for row in rows] == [["disk 1002", words[0]], ["deed 9, the deed of disk 1002", words[1]]]
+    holds = "Here: 2 changes of these, of disk 1002 and of its deed 9, which decides about it too, without checks"
+    assert holds in rows[0][1], "a saved journal says not which lines it has"
 
 def many(count, first=0, begun=START):
     """The changes of so many deeds, each with two lines."""
@@ -92,7 +103,7 @@ def test_long_journal_is_read_in_pieces_and_then_month_by_month(staff):
     for until in range(len(data) - PIECE, 0, -PIECE):
         shown = staff.push("Read what is older")
         assert asked(staff) == [("/journal", f"bytes={max(0, until - PIECE)}-{until - 1}")]
-    back = f"back to {time_of(0)}, and there may be older ones."
+    back = f"from {time_of(0)}+00:00 to {moment(START + 6999.5).replace('T', ' ')}; older lines, if any, were not read."
     assert shown["stands"] == [f"7,000 changes read, {back}", "Shown: 7,000 changes of these, without checks of disks."]
     months = ["/journal-2027-01", *(f"/journal-{2026 - at // 12}-{12 - at % 12:02}" for at in range(120))]
     for begin, end, more in ((0, 5, 40), (5, 14, 50), (14, 120, 0)):
@@ -101,7 +112,7 @@ def test_long_journal_is_read_in_pieces_and_then_month_by_month(staff):
         assert asked(staff) == [(path, "") for path in months[begin:end]]
         assert shown["result"] == [f"Read: {more} older changes."]
         assert shown["stands"][0].startswith(f"{count:,} changes read, ")
-    assert shown["stands"][0].endswith("which is all that there is.")
+    assert shown["stands"][0].endswith("; there are no older lines.")
     assert (staff.one("#journal [name=older]").is_enabled(), shown["focus"]) == (False, "result")
 
 def test_journal_that_has_become_shorter_is_another_one(staff):
@@ -110,13 +121,13 @@ def test_journal_that_has_become_shorter_is_another_one(staff):
         read(staff, data)
         staff.door.journals = {"/journal": data[:length], "/journal-2026-06": LINES[0]}
         assert staff.push("Read what is older")["result"] == [words]
-    assert staff.push("Read it anew")["stands"][0] == "0 changes read, and there may be older ones."
+    assert staff.push("Read it anew")["stands"][0] == "0 changes read; older lines, if any, were not read."
     assert staff.push("Read what is older")["stands"][0].startswith("1 change read, ")
 
 def test_journal_that_cannot_be_read_says_why(staff):
     wanted = [
-        (refused_by_nginx(404, "X"), "There is no journal here: nginx has no file of it. "), (b"", CANNOT_REACH),
-        (refused_by_nginx(500, "X"), "nginx cannot read its journal. Most likely its group may not: "),
+        (refused_by_nginx(404, "X"), "There is no journal here: the machine has no file of it. "), (b"", CANNOT_REACH),
+        (refused_by_nginx(500, "X"), "The machine cannot read its journal. Most likely its group may not: "),
         (refused(403, "staff-only"), "Only the staff may do this. Use a key of the staff.")]
     for reply, words in wanted:
         staff.door.before = lambda method, path: reply if path == "/journal" else None

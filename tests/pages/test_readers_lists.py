@@ -87,8 +87,7 @@ def test_words_find_files_and_disks_in_any_order_in_a_list_that_is_fetched_once(
         due = [line for line in lines if all(has(line, word) for word in words.lower().split())]
         most = dict(sorted((line["accession"], own(line)) for line in due))
         due = [line for line in due if own(line) == most[line["accession"]]]
-        disks = sorted({int(line["accession"]) for line in due})
-        shown = reader.find(words)
+        disks, shown = sorted({int(line["accession"]) for line in due}), reader.find(words)
         assert shown["status"] == said(len(disks), len(due)), words
         assert shown["disks"] == [f"Disk {number}" for number in disks[:48]], words
     assert reader.find("seq*notes")["disks"] == []
@@ -103,8 +102,7 @@ def test_words_find_files_and_disks_in_any_order_in_a_list_that_is_fetched_once(
     assert [path for _, path, _ in reader.door.visits if "/files/" not in path] == ["/catalogue"]
 
 def test_facets_narrow_what_was_found_and_count_it(reader, lines):
-    shown = reader.find("letter")
-    found = [line for line in lines if "letter" in line["text"]]
+    shown, found = reader.find("letter"), [line for line in lines if "letter" in line["text"]]
     assert f"All {len(found):,}" in shown["chips"]
     for kind, words in KINDS.items():
         count = len({line["accession"] for line in found if line["kind"] == kind})

@@ -30,8 +30,7 @@ def museum(museum):
     (PUBLIC, AS_PUBLIC, OPEN), (ROOM, BY_KEY, OPEN), (STAFF, BY_KEY, ALL), (f"  {UMLAUTS} ", BY_KEY, OPEN),
 ], ids=["public", "room", "staff", "umlauts"])
 def test_caller_sees_the_disks_of_their_audience(reader, key, asks, disks):
-    is_staff = key == STAFF
-    shown = reader.give(key)
+    is_staff, shown = key == STAFF, reader.give(key)
     assert (shown["caller"], shown["disks"]) == (asks, disks)
     assert f"files: {'10 to read, 4' if is_staff else '4 to read, 2'} only listed." in shown["status"]
     assert reader.go("1004")["rows"][:1] == ([[*WELCOME, "Read it"]] if is_staff else [])
@@ -48,8 +47,7 @@ def test_caller_sees_the_disks_of_their_audience(reader, key, asks, disks):
 
 def test_each_file_leads_to_its_page_and_one_that_is_closed_says_why_there_and_in_lists(museum, reader):
     museum.rules["T1001"] = {1: museums.rule(1, "list", ["public"], {"slot": 0})}
-    shown = reader.go("1001")
-    why = "Listed only takedown 1 of disk 1001 has closed it"
+    shown, why = reader.go("1001"), "Listed only takedown 1 of disk 1001 has closed it"
     assert (shown["rows"][0], shown["links"]) == ([*WELCOME, why], [f"#/1001/{slot}" for slot in "0011"])
     alone = [CLOSED % "that it is there, not what is in it", "text, 896 bytes", TAKEDOWN % (1001, 1001)]
     assert reader.go("1001/0")["refusal"] == alone and reader.go("1001")

@@ -32,19 +32,15 @@ VERIFY DEF POKE PRINT# PRINT CONT LIST CLR CMD SYS OPEN CLOSE GET NEW TAB( TO FN
 OR > = < SGN INT ABS USR FRE POS SQR RND LOG EXP COS SIN TAN ATN PEEK LEN STR$ VAL ASC CHR$ LEFT$ RIGHT$ MID$
 GO""".split()
 # By an expression over the functions of the page: bytes, and what they are as text; None where they are none such.
-CONVERTED = {
-    "texts.cpmText(data)": {
+CONVERTED = {"texts.cpmText(data)": {
         b"\tA\x0c\r\nB\rC\nD\x1a": "\tA\x0c\nB\nC\nD", b"A\x1a" + b"\xff" * 127: "A", b"A" + b"\x1a" * 300: "A",
         b"A\x1a" + bytes(300): "A",
         **dict.fromkeys([b"A\x1a" + b"\xff" * 128, b"A\xc1", b"A\x00", b"\x1a" * 128, b""])},
-    "texts.wordStarText(data)": {
-        b"\x02Th\xe5\x02\xa0la\xf3t\x8d\n\x1flin\xe5\x1e.\r\n\x1a": "The last line.\n",
+    "texts.wordStarText(data)": {b"\x02Th\xe5\x02\xa0la\xf3t\x8d\n\x1flin\xe5\x1e.\r\n\x1a": "The last line.\n",
         b"in\x1f\x8d\n\xa0side \xa0\xa0of\xa0 \x8d\n\xa0it\r\n": "inside of it\n",
-        **dict.fromkeys([b"plain", b"\xe1\x00", b""])},
-    "texts.cbmText(data)": {
+        **dict.fromkeys([b"plain", b"\xe1\x00", b""])}, "texts.cbmText(data)": {
         b"A TEXT.\r\\ ^ _\xa0.": "A TEXT.\n£ ↑ ← .", b"\xc1 TEXT.\x8dB": "A text.\nb",
-        **dict.fromkeys([b"A\nB", b"A\x1a", b"\x05A", b""])},
-    "texts.petsciiText(data, false)": {
+        **dict.fromkeys([b"A\nB", b"A\x1a", b"\x05A", b""])}, "texts.petsciiText(data, false)": {
         b"\xa6\xb0\xc0\xae\r\xdd\x61\x7e\xff": "▒┌─┐\n│♠ππ", b"AB\x0eAB\xc1\x8eAB": "ABabAAB", b"A\x02": None},
     "texts.petsciiText(data, true)": {b"\xc8ELLO \x93\x05\xba\xde": "Hello ✓π"},
     "basic.basicListing(data, false)?.text ?? null": {
@@ -98,8 +94,7 @@ def hexed(data, width=16):
     return "\n".join(f"{at:06X}  {part.hex(' ').upper():{3 * width - 1}}  {shown[at]}" for at, part in parts.items())
 
 # By a file: its name as it is shown, what is said of it, its text, the name of its download, and its bytes.
-SHOWN = {
-    "1001/0": ("WELCOME.TXT", "Shown as text.", WELCOME.partition(b"\x1a")[0].decode().replace("\r\n", "\n"),
+SHOWN = {"1001/0": ("WELCOME.TXT", "Shown as text.", WELCOME.partition(b"\x1a")[0].decode().replace("\r\n", "\n"),
                "WELCOME.TXT", WELCOME),
     "2001/0": ("HELLO", "Shown as a listing of BASIC, without the 2 bytes after it.",
                '10 PRINT "HELLO"\n20 GOTO 10\n', "HELLO.prg", BASIC),
@@ -194,8 +189,7 @@ const dots = (canvas) => {
 return import("/screen.js").then(({ canvasOf, directoryScreen, textScreen }) =>
   dots(directoryScreen(disk, false, 1)) === dots(canvasOf(textScreen(Uint8Array.from(text)), 1)));"""
 # By a kind of disk: files, and the text that its screen is like: light blue (9A hex), grey (98) where there is no size.
-DIRECTORIES = [
-    ("d64", [("LOADER", "PRG", 509), ("A%D3B", "SEQ", None), ("X", "USR", None, None, ["not-closed"])],
+DIRECTORIES = [("d64", [("LOADER", "PRG", 509), ("A%D3B", "SEQ", None), ("X", "USR", None, None, ["not-closed"])],
      b'\x0e\x9a\rLOAD"$",8\r\rSEARCHING FOR $\rLOADING\rREADY.\rLIST\r\r0 \x12"DISK 7          " MU 2A\x92\r'
      b'3    "LOADER"           PRG\r\x98     "A\xd3B"              SEQ\r     "X"               *USR\r'
      b"\x9aREADY.\r\x12 "),

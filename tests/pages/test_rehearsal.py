@@ -4,15 +4,17 @@ import threading
 
 import pytest
 from selenium.webdriver.common.keys import Keys
-from staff_helpers import CANNOT_REACH, TAKES, UNSURE, lost_at, older, takedown
+from staff_helpers import CANNOT_REACH, OLDER, TAKES, UNSURE, lost_at, takedown
 from support import museums
 from support.browser import LIMIT, TODAY
 
 BOTH = ("public", "room")
-HIDDEN = "he file at slot {} hidden from the public and the reading room, on all days."
+HIDDEN = "he file at slot {} closed to the public and the reading room, on all days."
+PUT_NOW = f"T{HIDDEN}".replace("on all days", "from now on")
 NOW, NOTHING = f"Today, {TODAY}", "Nothing opens, and nothing closes."
-CLOSES = "Closes for the public and the reading room: 1 file. Now they may read them; then they see nothing of them."
-OPENS = "Opens for the public and the reading room: 1 file. Now they see nothing of them; then they may read them."
+SHUT = "see only that closed files are there, not their names"
+CLOSES = f"Closes for the public and the reading room: 1 file. Now they may read them; then they may {SHUT}."
+OPENS = f"Opens for the public and the reading room: 1 file. Now they may {SHUT}; then they may read them."
 TURNS = [OPENS, "TOUR (disk 1005, slot 0)", CLOSES, "GUIDE (disk 1005, slot 2)"]
 
 @pytest.fixture
@@ -23,18 +25,19 @@ def takedowns(museum, staff):
     staff.go("takedowns")
     return staff
 
-def ranks(shown):
-    return [row[1] for row in shown["rows"]]
+ranks = lambda shown: [row[1] for row in shown["rows"]]
 
 def test_takedowns_are_rehearsed_and_put_each_before_the_others(takedowns):
     rank = "Rank 1000: it is the first takedown of disk 1002."
-    words = ["Put takedown 1000 of disk 1002?", f"T{HIDDEN.format(2)}", rank, NOW, CLOSES, "GUIDE (disk 1002, slot 2)"]
+    words = ["Put takedown 1000 of disk 1002?", PUT_NOW.format(2), rank, NOW, CLOSES, "GUIDE (disk 1002, slot 2)"]
     for is_agreed, said in ((False, "Not put"), (True, "Done")):
         shown = takedowns.take_down("1002", "", "2", *BOTH)
         assert (shown["hint"], shown["sure"]) == (rank, words)
+        assert takedowns.named("link", "Save what stands now, first").get_attribute("href").endswith("#/disk/1002")
+        assert [at for _, at, _ in takedowns.door.visits if "/verdicts/" in at] == [f"/staff/verdicts/{TODAY}/1002"]
         shown = takedowns.answer(is_agreed)
         assert (shown["result"], len(takedowns.door.sent())) == ([f"{said}: takedown 1000 of disk 1002."], is_agreed)
-    row = ["1002", "1000", "the public and the reading room", "the file at slot 2", "see nothing of them"]
+    row = ["1002", "1000", "the public and the reading room", "the file at slot 2", SHUT]
     assert [cells[:5] for cells in shown["rows"]] == [row]
     shown = takedowns.take_down("1002", "", "0", "public")
     assert shown["sure"][2] == "Rank 990: before all other takedowns of disk 1002."
@@ -64,7 +67,7 @@ def test_drop_is_rehearsed_and_done(takedowns):
     assert takedowns.door.effects(1005)["public"] == ["read"] * 3
 
 def test_days_to_come_of_an_embargo(staff):
-    closes = ["Closes for the public: 2 files. Now they may read them; then they may see that they are there.",
+    closes = ["Closes for the public: 2 files. Now they may read them; then they may see their names, not read them.",
               "WELCOME.TXT (disk 1001, slot 0)", "SKEW.TXT (disk 1001, slot 1)"]
     staff.go("rules/9")
     days = {"effect": "list", "start": "2090-03-01", "until": "2100-03-01"}
@@ -81,7 +84,7 @@ def test_days_to_come_of_an_embargo(staff):
 
 def test_file_that_the_desk_gives_out_to_nobody_is_not_said_to_be_read(takedowns):
     shown = takedowns.take_down("1005", "", "1", *BOTH)
-    is_honest = "Now they may see that they are there; then they see nothing of them." in shown["sure"][-2]
+    is_honest = f"Now they may see their names, not read them; then they may {SHUT}." in shown["sure"][-2]
     assert is_honest, "a rehearsal closes a file as readable that nobody is given"
     takedowns.answer(False)
     assert takedowns.take_down("1005", "", "1", *BOTH, effect="list")["sure"][-2:] == [NOW, NOTHING]
@@ -90,7 +93,7 @@ def test_files_are_counted_and_the_first_ten_named_as_text(museum, takedowns):
     names = [*museums.HARMFUL, *(f"FILE {number}" for number in range(195))]
     museums.put_files(museum, 1077, "cpm8", 9, [(name, "SEQ", b"A") for name in names])
     shown = takedowns.put_rule("takedowns", "1077", "", "all", None, "public", "staff")
-    line = "Closes for the public and the staff: 200 files. Now they may read them; then they see nothing of them."
+    line = f"Closes for the public and the staff: 200 files. Now they may read them; then they may {SHUT}."
     first = [f"{name} (disk 1077, slot {slot})" for slot, name in enumerate(names[:10])]
     assert shown["sure"][-12:] == [line, *first, "and 190 more files"]
     assert takedowns.harmed() == [None, 0]
@@ -112,7 +115,7 @@ def test_lost_reply_says_that_the_desk_may_have_done_it(museum, takedowns, stand
     museum.rules["T1001"] = stands
     takedowns.door.before = lost_at(1, is_lost)
     shown = takedowns.answer(True)
-    assert (shown["result"], ranks(shown)) == ([UNSURE, older("takedowns")][: 1 + is_lost], list(map(str, stands)))
+    assert (shown["result"], ranks(shown)) == ([UNSURE, OLDER.format("takedowns")][: 1 + is_lost], [*map(str, stands)])
 
 def test_stop_hides_no_change_that_was_sent(takedowns):
     is_stopped, lost = threading.Event(), lost_at(1)
@@ -127,8 +130,7 @@ def test_stop_hides_no_change_that_was_sent(takedowns):
 DISKS, TYPED = (1001, 1002, 1004, 1005), ("", "all", None, "public", "room")
 
 def test_free_rank_is_before_those_in_use(museum, takedowns):
-    wanted = [
-        ([], 1000), ([1000], 990), ([30], 20), ([21], 11), ([20], 10), ([10, 20], 5), ([3], 1), ([2, 1000], 1),
+    wanted = [([], 1000), ([1000], 990), ([30], 20), ([21], 11), ([20], 10), ([10, 20], 5), ([3], 1), ([2, 1000], 1),
         ([1], 2), ([1, 2, 5], 3), ([1, 9999], 2), (list(range(1, 10000)), None), ([9999], 9989)]
     free = "const [all] = arguments; return import('/staff.ranks.js').then((made) => all.map(made.freeRank))"
     assert takedowns.script(free, [used for used, _ in wanted]) == [rank for _, rank in wanted]

@@ -1,6 +1,6 @@
 """What stands at the desk: deeds, rules, takedowns, keys, checks. Each is put, changed, dropped, and read anew then."""
 
-from staff_helpers import journal_lines, lost_at, moment, older, put_deed
+from staff_helpers import OLDER, journal_lines, lost_at, moment, put_deed
 from support import museums
 from support.browser import TODAY
 from support.samples import digest
@@ -9,11 +9,11 @@ EVERYBODY = "the public, the reading room and the staff"
 RULE_20 = ["20", EVERYBODY, "all files", "read them", "on all days", "ChangeDrop"]
 STAFF, OTHER, RESTORE = digest(b"abc"), digest(b"another"), " Restore a backup of what is changed."
 START, NOBODY = 1_800_000_000, "Nobody can use it any more."
-NOT = f"not in the journal, back to {moment(START)[:19].replace('T', ' ')}"
+NOT = f"not in the journal, back to {moment(START).replace('T', ' ')}, where it begins"
 
 def test_deed_is_put_with_name_and_reason(staff):
     """They go as percent-encoded UTF-8, which may have 1,000 bytes. Without one of them nothing is sent."""
-    rules = "10: all files hidden from the public and the reading room, until 2030-01-01"
+    rules = "10: all files closed to the public and the reading room, until 2030-01-01"
     rules += f"20: all files readable for {EVERYBODY}, on all daysRules"
     assert staff.read()["rows"][0] == ["7", "A. Curator", "2019-05-04", "3", rules, "Change"]
     for name, reason in (("", "a reason"), ("Ada", " "), ("Ada", "ü" * 167)):
@@ -24,7 +24,7 @@ def test_deed_is_put_with_name_and_reason(staff):
     shown = put_deed(staff, "31", "E. <b>Müller</b>")
     assert staff.door.sent() == [("PUT", "/deeds/31", "Ada", "%C3%BC" * 166)]
     assert (shown["result"], shown["stands"]) == (["Done: deed 31."], ["4 deeds."])
-    assert shown["rows"][3] == ["31", "E. <b>Müller</b>", "1999-12-31", "0", "No rule: nobody sees its disks", "Change"]
+    assert shown["rows"][3] == ["31", "E. <b>Müller</b>", "1999-12-31", "0", "No rule: closed to everybody", "Change"]
     assert staff.one("#who [name=reason]").get_property("value") == "", "a reason goes along with the next change"
     staff.door.before = lost_at(1)
     put_deed(staff)
@@ -51,7 +51,7 @@ def test_rule_is_put_changed_and_dropped(staff):
     staff.fill("change", effect="list", until="2099-01-01")
     staff.push("Put it")
     shown = staff.answer(True)
-    changed = ["8", "20", EVERYBODY, "all files", "see that they are there", "until 2099-01-01", "ChangeDrop"]
+    changed = ["8", "20", EVERYBODY, "all files", "see their names, not read them", "until 2099-01-01", "ChangeDrop"]
     assert (shown["rows"], shown["focus"]) == ([changed], "result")
     staff.of_row("rule 20 of deed 8", "Drop")
     shown = staff.answer(True)
@@ -65,7 +65,7 @@ def test_rules_that_are_put_again_stay_as_they_were(museum, staff):
     museum.rules["R9"] = {rank: museums.rule(rank, "list", ["public", "staff"], select, "2030-01-01", "2020-01-01")
                           for rank, (select, _) in enumerate(ways, 1)}
     before, days = museum.shown_rules("R9"), "on no day: from 2030-01-01, but until 2020-01-01"
-    rows = [["the public and the staff", words, "see that they are there", days] for _, words in ways]
+    rows = [["the public and the staff", words, "see their names, not read them", days] for _, words in ways]
     assert [row[2:6] for row in staff.go("rules/9")["rows"]] == rows
     for rank, (select, _) in enumerate(ways, 1):
         staff.of_row(f"rule {rank} of deed 9", "Change")
@@ -99,12 +99,13 @@ def test_key_is_put_given_away_and_dropped(museum, staff):
     shown = staff.push("Drop the key")
     assert shown["sure"] == [f"Drop key with SHA-256 {STAFF}?", NOBODY, "It is the key that you use now."]
     assert staff.answer(False)["result"] == [f"Kept: key with SHA-256 {STAFF}."]
-    words = [f"Done: key of the reading room, SHA-256 {STAFF}.", older("keys"),
+    words = [f"Done: key of the reading room, SHA-256 {STAFF}.", OLDER.format("keys"),
              "Only the staff may do this. Use a key of the staff.", "Refusal: staff-only", "Rule: S0, for the staff"]
     assert staff.of_row(f"key {STAFF}", "Give it to the reading room")["result"] == words
 
 def test_key_says_who_put_it_when_and_why_as_the_journal_has_it(staff):
-    key, by = f"/badges/{digest(b'hello')}", f"{moment(START + 0.5).replace('T', ' ')} by Ada: a letter"
+    key, at = f"/badges/{digest(b'hello')}", moment(START + 0.5).replace("T", " ")
+    by = f"This key was put {at} by Ada: a letter; before that: {NOT}"
     for later, words in [((), by), (("200", "PUT", '{"audience":"staff"}'), NOT), (("200", "DELETE", ""), NOT),
                          (("404", "DELETE", ""), by), (("502", "DELETE", ""), by), (("502", "PUT", "["), by),
                          (("200", "PUT", '{"audience":"room"}'), by)]:

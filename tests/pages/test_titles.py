@@ -28,8 +28,7 @@ def tables(tmp_path):
 def test_titles_and_notes_for_readers_are_shown_and_found(reader):
     assert reader.read(lambda state: state["disks"])["disks"] == [HARMFUL[2], "Letters of a Férryman", "Disk 1003"]
     assert reader.harmed() == [None, 0]
-    shown = reader.go("1001")
-    ferry = ["Letters of a Férryman"]
+    shown, ferry = reader.go("1001"), ["Letters of a Férryman"]
     assert (shown["heading"], shown["title"]) == (*ferry, f"{ferry[0]}, disk 1001 – The reading room")
     assert reader.texts("#view > p") == ["Disk 1001 · CP/M, 8 inches · 2 files", "Written on the river, 1983 to 1986"]
     wanted = {"FERRY": ferry, "letters river 1984": [], "1986 letters river": ferry, "hush": [], "welcome": ferry,

@@ -2,23 +2,26 @@
 
 import collections
 import csv
+import datetime
 
 import pytest
-from staff_helpers import saved_table
+from staff_helpers import journal_lines, saved_table, takedown
 from support import museums, stand_in
 from support.browser import CLOCK, TODAY
 
 DAYS = ["2026-06-25", "2026-07-05", "2027-06-15", "2027-06-16"]
 AUDIENCES = {"public": "the public", "room": "the reading room", "staff": "the staff"}
-EFFECTS = {"read": "read it", "list": "see that it is there", "deny": "see nothing of it"}
+EFFECTS = {"read": "read it", "list": "see its name, not read it",
+           "deny": "see only that a closed file is there, not its name"}
 # Why the desk gives out a file of the museum to nobody, by its type.
-UNSERVED = {"DEL": " (the desk gives out no file of type DEL)",
-            "SEQ": " (damaged: read-error (the drive could not read a block of it))"}
+UNSERVED = {"DEL": "the desk gives out no file of type DEL",
+            "SEQ": "damaged: read-error (the drive could not read a block of it)"}
 # A script: where the bars of the timeline are, and what drags the day.
 ENDS = "return ['.lane', '[type=range]'].map((at) => document.querySelector(`#timeline ${at}`).getBoundingClientRect())"
 UNSAID = "It does not say who has read or copied a file, nor what stands on other days."
-STOOD = f"by the rules of {TODAY} when it was asked"
-PAST = f"by the rules of {TODAY}, not by those that stood then"
+STOOD, PAST = f"by the rules of {TODAY} when it was asked", f"by the rules of {TODAY}, not by those that stood then"
+NO_JOURNAL = "what stood then is not known: there is no journal"
+SINCE = "What has changed since then is not known: there is no journal."
 
 def look(staff, day, audience="public", closed=False, words=""):
     staff.go("eyes")
@@ -35,11 +38,13 @@ def test_each_audience_sees_and_counts_what_the_desk_gives_out(museum, staff, da
         rows, counts = [], collections.Counter()
         for line in csv.DictReader(table, stand_in.VERDICT_COLUMNS):
             is_given = line[audience] != "read" or line["size"] != ""
-            effect, why = (line[audience], "") if is_given else ("list", UNSERVED[line["type"]])
+            effect, whys = (line[audience], []) if is_given else ("list", [UNSERVED[line["type"]]])
+            why = "; ".join([*whys, *[PAST, NO_JOURNAL] * (day < TODAY)])
             counts[effect] += 1
-            rows.append([line["accession"], line["slot"], EFFECTS[effect] + why, line[f"{audience}_rule"]])
+            may = EFFECTS[effect] + (why and f" ({why})")
+            rows.append([line["accession"], line["slot"], may, line[f"{audience}_rule"]])
         shown = look(staff, day, audience, closed=True)
-        summary = "{read} to read, {list} only in the list, {deny} hidden.".format_map(counts)
+        summary = "{read} to read, {list} only in the list, {deny} closed.".format_map(counts)
         assert shown["stands"][0].endswith(summary), "files that the desk gives out to nobody count as readable"
         assert [[*(row[at] for at in (0, 2, 5)), row[6].split()[0]] for row in shown["rows"]] == rows
         assert len(look(staff, day, audience)["rows"]) == 14 - counts["deny"]
@@ -65,37 +70,67 @@ def test_day_that_is_over_is_said_to_be_by_rules_of_today_and_a_saved_table_says
         heading = f"What the public gets on 1999-01-01, {PAST}"
         assert staff.texts("#eyes .stands h2") == [heading], "a past day looks known"
         staff.push("Save what is shown as CSV")
-        _, saved = saved_table(staff, f"public-1999-01-01-{count}-of-14-files")
-        about = f"{heading}: {count} of 14 files, found by “{words}”; {left} more, hidden from them, left out."
-        assert saved[:2] == ["Museum of the River", f"{about} {UNSAID}"], "a saved table looks as if it had all"
+        _, saved = saved_table(staff, f"public-1999-01-01-by-the-rules-of-{TODAY}-{count}-of-14-files")
+        about = f"{heading}: {count} of 14 files, found by “{words}”; {left} more, closed to them, left out."
+        assert saved[:2] == ["Museum of the River", f"{about} {SINCE} {UNSAID}"], "a saved table looks as if it had all"
     assert (saved[2:4], saved[4][:14]) == (["1999-01-01", PAST], f"{TODAY}T12:")
-    assert saved[5:8] == ["the public", EFFECTS["list"], UNSERVED["SEQ"][2:-1]]
-    later = "see nothing of it (not then: deed 7 was signed on 2019-05-04)"
+    assert saved[5:8] == ["the public", EFFECTS["list"], f"{UNSERVED['SEQ']}; {PAST}; {NO_JOURNAL}"]
+    later = f"{EFFECTS['deny']} ({PAST}; not then: deed 7 was signed on 2019-05-04; {NO_JOURNAL})"
     assert look(staff, "1999-01-01", closed=True, words="1004")["rows"][0][5] == later, "a day before the deed"
+
+def test_day_that_is_over_has_in_each_row_what_the_journal_knows_to_have_come_later(museum, staff):
+    museum.rules["T1002"], took = takedown(1, 0), "takedown 1 of disk 1002"
+    slot, day = '{"audiences":["room","public"],"select":{"slot":0},"effect":"deny"}', datetime.datetime.fromisoformat
+    came = [("2026-04-01", "/deeds/8"), ("2026-05-04", f"/accessions/1002/d64/9/{'0' * 64}"),
+            ("2026-05-05", "/images/1002/rules/1", "", "", slot)]
+    lines = [journal_lines(at, day(f"{when}T08:00:00+00:00").timestamp(), "200", "PUT", *what)
+             for at, (when, *what) in enumerate(came)]
+    no = "not before in the journal, back to 2026-04-01 08:00:00+00:00"
+    says = "then the journal, back to 2026-05-04 08:00:00+00:00, does not say; put on"
+    wanted = [f"not yet here on that day: put only on 2026-05-04, {no}; {took} put only on 2026-05-05, {no}",
+              f"whether it was here {says} 2026-05-04; whether {took} stood {says} 2026-05-05"]
+    for begin, words in enumerate(wanted):
+        staff.door.journals = {"/journal": b"".join(lines[begin:])}
+        shown = look(staff, "2026-05-02", closed=True, words="1002")
+        assert shown["rows"][0][5] == f"{EFFECTS['deny']} ({PAST}; {words})"
+        assert "as the journal has it, and not undone here: 1 disk, 1 takedown, 0 rules and" in shown["stands"][2]
 
 def test_timeline_has_the_next_change_first_and_says_what_is_other_on_each_day(museum, staff):
     museum.rules["R9"][5] = museums.rule(5, "deny", ["public"], {"slot": 0}, *DAYS[:2])
     museum.rules["T1002"] = {1: museums.rule(1, "list", ["room", "public"], None, *DAYS[2:])}
     rules = [["rule 5 of deed 9", DAYS[0]], ["takedown 1 of disk 1002", DAYS[2]], ["rule 10 of deed 7", "2030-01-01"]]
     assert [[row[0], row[2]] for row in staff.go("timeline")["rows"]] == rules
-    # slot 0 of the disks of deed 9: that of the last is damaged, so nobody is given it, and it is hidden all the same
-    may, see, nothing = "Now they may read them; then they ", "may see that they are there", "see nothing of them."
+    # slot 0 of the disks of deed 9: that of the last is damaged, so nobody is given it, and it is closed all the same
+    may, see = "Now they may read them; then they may ", "see their names, not read them"
+    nothing = "see only that closed files are there, not their names."
     two, one = "WELCOME.TXT (disk 1001, slot 0)TOUR (disk 1002, slot 0)", "LOGBOOK (disk 1003, slot 0)"
     closes = [f"Closes for the public: 2 files. {may}{nothing}", two,
-              f"Closes for the public: 1 file. Now they {see}; then they {nothing}", one]
+              f"Closes for the public: 1 file. Now they may {see}; then they may {nothing}", one]
     lists = [f"Closes for the public and the reading room: 2 files. {may}{see}.",
              "TOUR (disk 1002, slot 0)GUIDE (disk 1002, slot 2)"]
     none = ["Nothing opens, and nothing closes."]
     for day, counts, turns in zip(DAYS, [(3, 1, 10), (5, 2, 7), (3, 4, 7), (5, 2, 7)], [closes, none, lists, none]):
         staff.push("Change after")
         heading, public, _, _, *more = staff.texts("#timeline .day > *")
-        words = "The public: {} to read, {} only in the list, {} hidden.".format(*counts)
+        words = "The public: {} to read, {} only in the list, {} closed.".format(*counts)
         due = f"Who gets what on {day}, by the rules of {TODAY}, which may change until then"
         assert (heading, public) == (due, words)
         assert more == ["What is other than today", *turns]
+    put = journal_lines(1, 1781078400, "200", "PUT", "/deeds/9/rules/4", "Ada", "a%20letter")
+    says = ". Since then it has: Put rule 4 of deed 9, 2026-06-10 08:00:00+00:00 by Ada: a letter"
+    for lines, words in [({"/journal": put}, f", the journal says{says}"), ({}, " is not known: there is no journal")]:
+        staff.door.journals = lines
+        staff.fill("timeline", day="2026-06-09") or staff.push("Look at this day")
+        none = f"By the rules of {TODAY} nothing is other on that day; what stood then{words}."
+        assert staff.texts("#timeline .day > p")[-1] == none, "a day is told as one like today"
+    museum.rules["R9"][6] = museums.rule(6, "deny", ["public"], {"slot": 1}, None, "2025-07-01")
     staff.set("#timeline [type=range]", int(staff.one("#timeline [type=range]").get_property("min")))
     staff.read(lambda state: state["result"] == ["Read: 2025-06-15."])
-    assert staff.text("#timeline .day h2") == f"Who gets what on 2025-06-15, {PAST}"
+    heading, _, _, _, since, other, closes, *_ = staff.texts("#timeline .day > :not(ul)")
+    assert (heading, since) == (f"Who gets what on 2025-06-15, {PAST}", SINCE)
+    assert other == f"What is other on 2025-06-15 than today, by the rules of {TODAY}"
+    then = f"Now they may read them; on 2025-06-15, by the rules of {TODAY}, they may {nothing}"
+    assert closes == f"More closed for the public: 2 files. {then}", "a past day looks like one that opens or closes"
     for width in (390, 1280):
         with staff.phone(width):
             bar, dragged = staff.script(ENDS)

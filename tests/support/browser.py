@@ -18,14 +18,11 @@ STAFF = "abc"
 # The day on which every test of the pages happens; the browser's clock begins at its noon.
 TODAY = "2026-06-15"
 # A script: the page's clock is ahead of the machine's by so many milliseconds.
-CLOCK = """
-Date = class extends Date {
-  constructor(...values) { if (values.length) super(...values); else super(Date.now()); }
+CLOCK = """Date = class extends Date {
+  constructor(...values) { super(...(values.length ? values : [Date.now()])); }
   static now() { return super.now() + (%d); }
-};
-"""
-READ = """
-const texts = (root, selector) => Array.from(root.querySelectorAll(selector), (one) => one.textContent);
+};"""
+READ = """const texts = (root, selector) => Array.from(root.querySelectorAll(selector), (one) => one.textContent);
 const rows = (selector) => Array.from(open.querySelectorAll(selector),
   (row) => Array.from(row.cells, (cell) => cell.querySelector("input")?.value ?? cell.textContent));
 const open = Array.from(document.querySelectorAll("section")).find((one) => !one.hidden) ?? document;
@@ -39,33 +36,26 @@ return {
   disks: texts(open, ".disk-title"), matches: texts(open, ".matches a"), chips: texts(open, ".chip"),
   list: rows(".list tbody tr"), links: Array.from(open.querySelectorAll("tbody a"), (one) => one.getAttribute("href")),
   sure: sure?.open ? texts(sure, "h2, #sure-more p, #sure-more h3, #sure-more li") : null,
-};
-"""
+};"""
 # A script: the first control of a role with a name, or else with a longer one.
-NAMED = """
+NAMED = """const [role, name] = arguments;
 const tags = { button: "button, summary", link: "a[href]", field: "input, select, textarea", region: "pre, section" };
 const words = (of) => Array.from(of.childNodes).filter((node) => !node.matches?.(tags.field))
   .map((node) => node.textContent).join("");
 const nameOf = (one) => (one.getAttribute("aria-label") || words(one.labels?.[0] ?? one)).trim();
-const [role, name] = arguments;
 const all = Array.from((document.querySelector("dialog[open]") ?? document).querySelectorAll(tags[role]))
   .filter((one) => one.checkVisibility() && !one.disabled);
-return all.find((one) => nameOf(one) === name) ?? all.find((one) => nameOf(one).includes(name)) ?? null;
-"""
+return all.find((one) => nameOf(one) === name) ?? all.find((one) => nameOf(one).includes(name)) ?? null;"""
 # A script: goes to a place by its address; the page's own listener, which is older, comes first.
-FOLLOW = """
-const [place, done] = arguments;
+FOLLOW = """const [place, done] = arguments;
 window.addEventListener("hashchange", () => setTimeout(done), { once: true });
-if (location.hash === place) window.dispatchEvent(new HashChangeEvent("hashchange")); else location.hash = place;
-"""
+if (location.hash === place) window.dispatchEvent(new HashChangeEvent("hashchange")); else location.hash = place;"""
 # A script: a change that is done has emptied the reason, and each click types it again.
 AGAIN = "addEventListener('click', () => { document.forms.who.elements.reason.value ||= 'a letter of today'; }, true)"
 # A script: gives a field a value, as somebody who types or chooses it.
-SET = """
-const [field, value] = arguments;
+SET = """const [field, value] = arguments;
 if (field.type === "checkbox") field.checked = value; else field.value = value;
-for (const name of ["input", "change"]) field.dispatchEvent(new Event(name, { bubbles: true }));
-"""
+for (const name of ["input", "change"]) field.dispatchEvent(new Event(name, { bubbles: true }));"""
 
 def chromium(downloads, headed=False):
     """Chromium of one's own, which saves files in a folder, and whose clock begins at noon of the day of the tests."""
@@ -106,12 +96,7 @@ class Page:
     def wait(self, holds, what="the state that the test waits for"):
         """What the page shows, once something holds of that; a wait that is in vain says what it shows at last."""
         last = {"awaited": what}
-
-        def shown():
-            last.update(self.script(READ))
-            return holds(last) and dict(last)
-
-        return wait_for(last, shown)
+        return wait_for(last, lambda: last.update(self.script(READ)) or holds(last) and dict(last))
 
     def read(self, holds=lambda state: True):
         return self.wait(lambda state: (not state["busy"] or state["sure"]) and holds(state), "a page that is done")

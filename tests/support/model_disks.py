@@ -1,5 +1,4 @@
-"""What is on a disk, read by plain functions from docs/FORMATS.md alone: its files as `list` shows them, their bytes,
-and what a survey says of it."""
+"""What is on a disk, by docs/FORMATS.md alone: its files as `list` shows them, their bytes, and what a survey says."""
 
 import collections
 import struct
@@ -8,8 +7,7 @@ from support import cbm_image, cpm_image
 from support.cbm_image import MAP
 
 TYPES, GIVEN = ["DEL", "SEQ", "PRG", "USR", "REL", *["OTHER"] * 11], ("SEQ", "PRG", "USR")
-# A file: its fields as texts, by the names that `list` has for them, and its bytes, or None where it has a fault or is
-# of a class that is not given out.
+# A file: its fields as texts, by the names of `list`, and its bytes, or None where it has a fault or is not given out.
 File = collections.namedtuple("File", "fields data")
 # A disk: its files, and what a survey says of it.
 Disk = collections.namedtuple("Disk", "files report")

@@ -44,8 +44,7 @@ def empty(day=None):
     return museum
 
 def many(disks, files, deeds=1000, day=None):
-    """A museum of so many disks, each with so many files, under deeds of three rules each; every hundredth disk has a
-    takedown, and every second a check."""
+    """Disks of so many files under deeds of three rules; each hundredth has a takedown, and each second a check."""
     museum = empty(day)
     for deed in range(1, deeds + 1):
         museum.deeds[deed] = DONORS[deed % len(DONORS)], f"19{80 + deed % 20}-05-04"

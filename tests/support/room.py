@@ -32,8 +32,7 @@ def make_script(path, words):
     return path
 
 class Room(contextlib.AbstractContextManager):
-    """A folder with a store, a certificate, the page and the places, and what it has started. The desk is at a Unix
-    socket, which nginx's group may use."""
+    """A folder with a store, a certificate, page and places, and what it began; the desk is at a socket."""
 
     def __init__(self, program):
         self.program, self.desk, self.nginx = program, None, []

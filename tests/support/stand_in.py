@@ -16,15 +16,16 @@ import time
 
 from support import model, model_requests, model_rules
 from support.model import AUDIENCES, Due
+from support.model_requests import NUMBER, RANK
 from support.samples import reply, table, told
 from support.server import HOST, LIMIT, ROOT
 
 DAY = "([0-9]{4}-[0-9]{2}-[0-9]{2})"
 STAFF_ROUTES = [(re.compile(f"/staff/{path}"), methods) for path, methods in [
     ("deeds", {"GET": "show deeds"}), ("takedowns", {"GET": "show takedowns"}), ("keys", {"GET": "show keys"}),
-    ("checks", {"GET": "show checks"}), (f"verdicts/{DAY}", {"GET": "show verdicts"}),
-    (f"rehearsals/{DAY}/(deeds|images)/([1-9][0-9]{{0,5}})/rules/([1-9][0-9]{{0,3}})",
-     {"PUT": "rehearse", "DELETE": "rehearse"})]]
+    ("checks", {"GET": "show checks"}),
+    *((path, {"GET": "show verdicts"}) for path in (f"verdicts/{DAY}", f"verdicts/{DAY}/{NUMBER}")),
+    (f"rehearsals/{DAY}/(deeds|images)/{NUMBER}/rules/{RANK}", {"PUT": "rehearse", "DELETE": "rehearse"})]]
 FILE_COLUMNS = ("slot", "user", "name", "type", "size", "faults")
 VERDICT_COLUMNS = ["accession", "deed", "kind", *FILE_COLUMNS]
 VERDICT_COLUMNS += [column for word in AUDIENCES for column in (word, f"{word}_rule")]
@@ -37,8 +38,6 @@ class Museum(model.Desk):
 
     def __init__(self, day=None):
         super().__init__(model.Disks(), day or str(datetime.datetime.now(datetime.timezone.utc).date()))
-
-    # The staff's questions
 
     def shown_rules(self, label):
         """Rules as the staff is shown them."""
@@ -61,9 +60,9 @@ class Museum(model.Desk):
         latest = [(acc, *self.latest.get(acc, (None, None))) for acc in sorted(self.images)]
         return Due(told(checks=[{"accession": acc, "day": day, "outcome": outcome} for acc, day, outcome in latest]))
 
-    def show_verdicts(self, _, day):
+    def show_verdicts(self, _, day, acc=None):
         rows = [VERDICT_COLUMNS]
-        for acc, image in sorted(self.images.items()):
+        for acc, image in [(acc, self.image(acc))] if acc else sorted(self.images.items()):
             bands = self.bands(acc)
             for file in self.files_of(acc):
                 verdicts = [model_rules.verdict(bands, word, day, file)[::-1] for word in AUDIENCES]
@@ -159,8 +158,6 @@ class Door(socketserver.ThreadingTCPServer):
             return due.reply
         found, part = self.journals.get(path), fields.get(b"range", b"").decode()
         return refused_by_nginx(404, "Not Found") if found is None else ranged(found, part)
-
-    # For tests
 
     def effects(self, acc):
         """What the public and the room may do with each file of a disk."""

@@ -16,8 +16,7 @@ pytestmark = pytest.mark.alone
 SMALL, NUMBERS = 57, itertools.count()
 
 def waits_of_a_backup(house):
-    """How long a reader waits for each reply while a backup is made, with a command of the staff after each. No address
-    asks more often than it may."""
+    """How long a reader waits for each reply during a backup, with a command of the staff after each."""
     backup, waits = house.begin("desk-backup"), []
     while backup.poll() is None:
         number, begun = next(NUMBERS), time.monotonic()

@@ -9,15 +9,12 @@ from support.browser import TODAY, ReadersPage, chromium
 pytestmark = pytest.mark.alone
 # What Chromium tells as long work takes at least so many milliseconds.
 LEAST, TIMES = 50, 3
-WATCH = """
-window.longest = 0;
+WATCH = """window.longest = 0;
 const take = (list) => list.getEntries().forEach((one) => { window.longest = Math.max(window.longest, one.duration); });
-new PerformanceObserver(take).observe({ type: "longtask" });
-"""
+new PerformanceObserver(take).observe({ type: "longtask" });"""
 
 def measured(driver, disks):
-    """When the list is ready, and the longest work of a search: the least of some times, for other work of the machine
-    holds them up. At last the bytes of memory."""
+    """When the list is ready, the longest work of a search, each the least of some times; bytes of memory."""
     museum, ready, works = museums.many(disks, 20, day=TODAY), [], []
     lists = {"/images": museum.ask_images("public").reply, "/catalogue": museum.ask_catalogue("public").reply}
     with stand_in.Door(museum, outside=True) as door:
