@@ -1,0 +1,6 @@
+pub mod ChainLemmas
+pub mod ToldLemmas
+pub mod BaseLemmas
+pub mod ReadBack
+pub mod LineLemmas
+pub mod LineEntries

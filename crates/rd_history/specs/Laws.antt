@@ -1,0 +1,44 @@
+-- Laws of lines, of their chain, and of what a list of entries tells.
+use Rattle.std.specs.Prelude.{◌≡◌, ◌⊎◌, ℕ, List, [], ◌∷◌, ◌++◌, length, map}
+use Rattle.rd_history.specs.Chains.{Collides, FIRST_SUM, last_sum}
+use Rattle.rd_history.specs.Entries.{HasDigests, IsEntry}
+use Rattle.rd_history.specs.Lines.{line_of}
+use Rattle.rd_history.specs.Standings.{Standing, base_of, standing_after}
+use Rattle.rd_history.specs.declared.entry.Cause.{Cause}
+use Rattle.rd_history.specs.declared.entry.Change.{Change}
+use Rattle.rd_history.specs.declared.entry.Change.TheVariants.{Begin, Void}
+use Rattle.rd_history.specs.declared.entry.Entry.{Entry}
+
+-- entries within their limits, whose digests are 32 bytes, have one line only if they are the same
+abbrev pub LinesAreEntries : Type 0
+LinesAreEntries = (one other : Entry) → IsEntry one → IsEntry other → HasDigests one → HasDigests other
+    → line_of one ≡ line_of other → one ≡ other
+
+-- two lists of lines of one length whose last sums are equal are the same, or two different texts with one
+-- SHA-256 are among what is summed for them
+abbrev pub OneChain : Type 0
+OneChain = (lines others : List (List ℕ)) → length lines ≡ length others
+    → last_sum FIRST_SUM lines ≡ last_sum FIRST_SUM others → (lines ≡ others) ⊎ Collides lines others
+
+-- a change that may be taken back: it begins nothing, and takes nothing back itself
+abbrev pub MayBeVoid : Change → Type 0
+MayBeVoid (Begin count) = ⊥
+MayBeVoid (Void cause) = ⊥
+MayBeVoid other = Unit {0}
+
+-- an entry and one that takes it back leave what stood before
+abbrev pub VoidsTakeBack : Type 0
+VoidsTakeBack = (entries : List Entry) (entry void : Entry) (cause : Cause)
+    → MayBeVoid entry.change → void.change ≡ Void cause
+    → standing_after (entries ++ entry ∷ void ∷ []) ≡ standing_after entries
+
+-- of what stood before an entry that begins anew, nothing counts
+abbrev pub BasesForget : Type 0
+BasesForget = (before after : List Entry) (entry : Entry) (count : ℕ) → entry.change ≡ Begin count
+    → standing_after (before ++ entry ∷ after) ≡ standing_after after
+
+-- what stands after an entry that begins anew, and those that list what stands, is exactly that
+abbrev pub BasesTell : Type 0
+BasesTell = (before listed : List Entry) (entry : Entry) (count : ℕ) (now : Standing)
+    → entry.change ≡ Begin count → map (λ entry. entry.change) listed ≡ base_of now
+    → standing_after (before ++ entry ∷ listed) ≡ now
