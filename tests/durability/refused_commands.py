@@ -49,22 +49,15 @@ def fill(work):
 # The stores: the name of that from which a command, or some SQL, makes each.
 CHANGED = "UPDATE image SET bytes = CAST(substr(bytes, 1, 86018) || 'B' || substr(bytes, 86020) AS BLOB)"
 STORES = {
-    "none": (None, ""),
-    "made": ("none", INIT),
-    "deeded": ("made", "INSERT INTO deed VALUES (7, 'A. Curator', 18020)"),
+    "none": (None, ""), "made": ("none", INIT), "deeded": ("made", "INSERT INTO deed VALUES (7, 'A. Curator', 18020)"),
     "ruled": ("deeded", "INSERT INTO rule VALUES (1, 7, 20, 7, NULL, NULL, 0, 0, '', 2)"),
-    "filled": ("ruled", f"{IMPORT}record.csv"),
-    "marked": ("ruled", f"{IMPORT}marked.csv"),
-    "program": ("ruled", f"{IMPORT}program.csv"),
-    "programs": ("program", f"{IMPORT}second.csv"),
-    "checked": ("filled", CHECK),
-    "harmed": ("program", f"{CHANGED}; INSERT INTO checked VALUES (12, 21915, 0)"),
+    "filled": ("ruled", f"{IMPORT}record.csv"), "marked": ("ruled", f"{IMPORT}marked.csv"),
+    "program": ("ruled", f"{IMPORT}program.csv"), "programs": ("program", f"{IMPORT}second.csv"),
+    "checked": ("filled", CHECK), "harmed": ("program", f"{CHANGED}; INSERT INTO checked VALUES (12, 21915, 0)"),
     "told": ("harmed", "UPDATE checked SET outcome = 1"),
-    "first": ("filled", "DROP TABLE marks; UPDATE desk SET version = 1"),
-    "keyed": ("filled", STAFF_KEY),
+    "first": ("filled", "DROP TABLE marks; UPDATE desk SET version = 1"), "keyed": ("filled", STAFF_KEY),
     "closed": ("filled", "INSERT INTO rule VALUES (0, 12, 1, 3, NULL, NULL, 0, 0, '', 0)"),
-    "one-file": ("none", TO_FOLDER % "one"),
-    "two-files": ("none", TO_FOLDER % "two")}
+    "one-file": ("none", TO_FOLDER % "one"), "two-files": ("none", TO_FOLDER % "two")}
 ROW, FILE_LINE = b"12 done\n", b"12,7,cpm8,0,0,HELLO.TXT,TXT,128,,R7.20,read\n"
 TWO_LINES = b"12,7,d64,0,,HELLO,PRG,258,,R7.20,read\n13,7,d64,0,,HELLO,PRG,258,,R7.20,read\n"
 FILLED = ("filled", "filled")

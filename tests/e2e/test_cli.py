@@ -34,11 +34,10 @@ def keys(ends, name):
     assert (status, told.count('"audience"'), errors) == (0, 1, "")
     return told
 
-@pytest.mark.parametrize("words, wanted", [
+@pytest.mark.parametrize("words, wanted", ids=["bytes", "text", "refused", "usage", "device"], argvalues=[
     (["cat", "cpm8", WELCOME, 0], (0, model_disks.read("cpm8", WELCOME.read_bytes()).files[0].data.decode(), "")),
     (["-V", "list"], (0, "desk 0.1.0\n", "")), (["cat", "d64", MUSEUM, 1], (1, "", "desk: listed-only\n")),
-    (["list", "cpm8", os.fsdecode(b"\xff")], USAGE), (["list", "cpm8", "missing"], DEVICE),
-], ids=["bytes", "text", "refused", "usage", "device"])
+    (["list", "cpm8", os.fsdecode(b"\xff")], USAGE), (["list", "cpm8", "missing"], DEVICE)])
 def test_status_and_streams(ends, words, wanted):
     assert ends(*words) == wanted
 
@@ -59,12 +58,11 @@ def test_store_is_not_taken_for_a_closed_stream(desk, ends, tmp_path):
     assert desk("init", "--store", tmp_path / "store", *KEY, **how).returncode == 3
     keys(ends, "store")
 
-@pytest.mark.parametrize("words, paths, wanted", [
+@pytest.mark.parametrize("words, paths, wanted", ids=["init", "export", "copy", "copy-over"], argvalues=[
     (["init", *KEY, "--store"], [":memory:", "file:desk", "", "none/new", "folder"], STORE),
     (["export", "--store"], ["", "none/store", "dangling", "text", "folder"], STORE),
     (["copy", "--store", "plain", "--to"], [":memory:", "file:desk", "", "none/new"], STORE),
-    (["copy", "--store", "plain", "--to"], ["empty", "folder", "dangling", "link", "plain-wal", "other"], EXISTS),
-], ids=["init", "export", "copy", "copy-over"])
+    (["copy", "--store", "plain", "--to"], ["empty", "folder", "dangling", "link", "plain-wal", "other"], EXISTS)])
 def test_store_is_made_in_a_new_file_and_opened_in_a_file_alone(ends, plain, words, paths, wanted):
     def seen():
         found = (path for path in plain.parent.iterdir() if path.name != "plain-wal")
@@ -103,11 +101,10 @@ def test_explanation_has_what_the_system_said_and_what_to_do(ends, serving, plai
             assert (status, output, lines[:2], lines[-1]) == (3, "", [f"desk: {name}", why], advice)
     assert not plain.with_name("new").exists()
 
-@pytest.mark.parametrize("advice, words", [
+@pytest.mark.parametrize("advice, words", ids=["image", "sheet", "zone", "key"], argvalues=[
     (SAVE, ["list", "cpm8"]), (SAVE, ["import", "--store", "plain", *KEY, "--sheet"]),
     (SAVE, ["show", "keys", "--store", "plain", *KEY, "--zone-file"]),
-    ("  Put nothing but the key into a file, and give that.", ["show", "keys", "--store", "plain", "--key-file"]),
-], ids=["image", "sheet", "zone", "key"])
+    ("  Put nothing but the key into a file, and give that.", ["show", "keys", "--store", "plain", "--key-file"])])
 def test_explanation_reads_no_pipe_again(ends, plain, advice, words):
     _, output, errors = ends(*words, "/dev/stdin", "--explain", input=b"k" * 5000)
     assert (output, errors.splitlines()[-1]) == ("", advice)

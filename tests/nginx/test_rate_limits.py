@@ -23,10 +23,9 @@ def visit(door, path, count):
     came = door.exchange((f"{one}\r\n" * (count - 1) + f"{one}Connection: close\r\n\r\n").encode())
     return [int(status) for status in re.findall(rb"HTTP/1.1 ([0-9]{3}) ", came)], came, time.monotonic() - began
 
-@pytest.mark.parametrize("door, path, rate, burst, status", [
+@pytest.mark.parametrize("door, path, rate, burst, status", indirect=["door"], argvalues=[
     ("outside", FILE, 20, 60, 502), ("outside", "/room.css", 50, 200, 200), ("outside", "/catalogue", 1, 20, 502),
-    ("redirecting", "/", 20, 60, 301),
-], indirect=["door"])
+    ("redirecting", "/", 20, 60, 301)])
 def test_address_that_asks_too_often_is_told_so(room, outside, door, path, rate, burst, status):
     """And it may ask for what is counted by itself; so may another address. A desk that is down makes no reply slow."""
     with room.desk_down():

@@ -114,13 +114,12 @@ def test_later_commit_of_the_same_minute_has_the_higher_version(clone):
     words = ["dpkg", "--compare-versions", field(one, "Version"), "lt", field(make(clone), "Version")]
     assert subprocess.run(words).returncode == 0
 
-@pytest.mark.parametrize("change, words", [
+@pytest.mark.parametrize("change, words", ids=["no-proof", "another-program", "no-commit", "newer-sources"], argvalues=[
     (lambda clone: (clone / f"{BUILT}.stamp").unlink(), "no proved program: type ./desk --version"),
     (lambda clone: (clone / f"{BUILT}.stamp").write_text("0" * 64), "the program is not the one that was proved"),
     (lambda clone: (clone / "docs" / "OPERATING.md").write_text("More.\n"), "the sources are no commit"),
     (lambda clone: [os.utime(one, (4e9, 4e9)) for one in (clone / "crates.txt", *clone.rglob("*.rt"))],
-     "{}/crates.txt is newer than the program: type ./desk --version"),
-], ids=["no-proof", "another-program", "no-commit", "newer-sources"])
+     "{}/crates.txt is newer than the program: type ./desk --version")])
 def test_no_package_but_of_the_program_that_was_proved_of_a_commit(clone, change, words):
     change(clone)
     assert make(clone) == words.format(clone)

@@ -11,10 +11,9 @@ from support.samples import STAFF, badge, digest, drop, get, put, put_image, put
 
 ANYWAY = "--without-journal"
 
-@pytest.mark.parametrize("change", [
+@pytest.mark.parametrize("change", ids=["empty", "begun-anew", "of-another-store", "rotated-away"], argvalues=[
     lambda line: b"", lambda line: line if b"/13/rules/1" in line else b"",
-    lambda line: line.replace(b'"at":1', b'"at":2'), None,
-], ids=["empty", "begun-anew", "of-another-store", "rotated-away"])
+    lambda line: line.replace(b'"at":1', b'"at":2'), None])
 def test_journal_that_does_not_follow_on_the_backup_stops_the_restore(house, monday, change):
     """The old store does not open either, so that nobody would know of the takedown."""
     if change:
@@ -52,11 +51,10 @@ def test_backup_of_a_journal_without_a_line_does_not_say_what_follows_on_it(hous
     assert "the journal had no line when the backup was made" in house.refused(backup)
     house.restored(backup, ANYWAY, "--give-up", 13)
 
-@pytest.mark.parametrize("name, data, words", [
+@pytest.mark.parametrize("name, data, words", ids=["no-mark", "a-list", "cut-off"], argvalues=[
     ("backups/{}/journal-mark", b"", "journal-mark: it cannot be read"),
     ("backups/{}/journal-mark", b'{"sha256":[]}', "does not follow on the backup"),
-    ("journal-2026-11.gz", gzip.compress(bytes(999))[:-9], "journal-2026-11.gz: it cannot be unpacked"),
-], ids=["no-mark", "a-list", "cut-off"])
+    ("journal-2026-11.gz", gzip.compress(bytes(999))[:-9], "journal-2026-11.gz: it cannot be unpacked")])
 def test_mark_or_part_of_the_journal_that_cannot_be_read_stops_the_restore(house, monday, name, data, words):
     rotate(house, 1)
     (house.folder / name.format(monday.name)).write_bytes(data)

@@ -9,16 +9,9 @@ PUBLIC = "\r\n".join(["\ufeffaccession,title,note", f"1002,{HARMFUL[2]},Müllers
                      '1001,Letters of a Férryman,"Written on the river, 1983 to 1986"', "0,no disk,", ""])
 UMLAUTS = "müller", "MU\u0308LLER", "mueller", "muller", "M*ller strasse", "Mü*er straße"
 FOR_STAFF = "accession,title,note\n1001,Letters (the ferry company asks for care),see the file\n1005,=1+1,\n"
-ABOUT = """name,value
-museum,"Museum of the River, Lower Valley"
-welcome,Read what is on our disks.
-mail,room@museum.example
-phone,+49 89 555
-imprint,imprint.html
-privacy,javascript:alert(1)
-hours,one,two
-logo,x.png
-"""
+ABOUT = "\n".join(["name,value", 'museum,"Museum of the River, Lower Valley"', "welcome,Read what is on our disks.",
+                   "mail,room@museum.example", "phone,+49 89 555", "imprint,imprint.html",
+                   "privacy,javascript:alert(1)", "hours,one,two", "logo,x.png", ""])
 
 @pytest.fixture(autouse=True)
 def tables(tmp_path):

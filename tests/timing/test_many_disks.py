@@ -23,8 +23,7 @@ def question(what, museum):
         "a check": (check(acc), b'{"outcome":"sound"}'),
         "a new disk": (put_image(new, "d64", LARGE_DEED, disk_of(new)), b'{"done":true}'),
         "the images": (get("/images", ROOM), has(museum.disks, "images")),
-        "the catalogue": (get("/catalogue", ROOM), has(museum.disks * len(FILES))),
-    }[what]
+        "the catalogue": (get("/catalogue", ROOM), has(museum.disks * len(FILES)))}[what]
 
 @SIZES
 @pytest.mark.parametrize("what", ["the images", "the catalogue", "a file", "a listing", "a check", "a new disk"])
