@@ -20,7 +20,7 @@ export function rulesOf(files) {
 export const deedWords = (deed) => `Deed ${deed} is the paper by which the disk came to the museum. `;
 
 // The refusals of files that a list lacks: at the slots that it leaves out, and behind it up to one without a file.
-async function askAt(accession, listed) {
+export async function closedNow(accession, listed) {
   const [closed, slots] = [[], new Set(listed.map(({ slot }) => slot))];
   for (let slot = 0, asked = 0; asked < MOST; slot += 1) {
     if (slots.has(slot)) continue;
@@ -35,11 +35,11 @@ async function askAt(accession, listed) {
   return Object.assign(closed, { isCut: true });
 }
 
-const closedOn = (accession, listed) => kept(`closed ${accession}`, () => askAt(accession, listed));
+const closedOn = (accession, listed) => kept(`closed ${accession}`, () => closedNow(accession, listed));
 
 // How many files of a disk are closed besides those of a list, and why; an empty text if the desk tells of none.
-export async function closedWords(accession, listed) {
-  const closed = await closedOn(accession, listed);
+export async function closedWords(accession, listed, read = closedOn) {
+  const closed = await read(accession, listed);
   const are = closed.length === 1 ? "is" : "are";
   const most = closed.isCut ? "At least " : "";
   const words = `${most}${counted(closed.length, "more file")} ${are} closed to you, name and all: ${rulesOf(closed)}.`;

@@ -1,5 +1,5 @@
 // One disk: its title, what may be read of it, and its directory as its own machine shows it.
-import { closedWords, deedWords, rulesOf } from "./room.closed.js";
+import { closedNow, closedWords, deedWords, rulesOf } from "./room.closed.js";
 import { allDisks, familyOf, known, lastShown, mayRead, nameOfDisk, nameOfFile, typeWords } from "./room.lists.js";
 import { askAbout, button, citation, filesOf, inSight, link, neighbours, numberOf } from "./room.parts.js";
 import { permission, quoting } from "./room.parts.js";
@@ -31,7 +31,7 @@ function zipWay({ accession, kind, files, quotes }) {
   const says = element("div", null, { id: "zip-says", role: "status" });
   const save = async () => {
     const module = await loaded(import("./room.zip.js")).catch((fault) => says.replaceChildren(refusal(fault)));
-    module?.saveZip({ accession, kind, readable, start, stop, says });
+    module?.saveZip({ accession, kind, start, stop, says });
   };
   const words = `Download ${counted(readable.length, "file")} as a zip`;
   const start = button(words, save, { id: "zip", className: "primary" });
@@ -75,7 +75,7 @@ export async function showDisk(number) {
   const staff = askAbout(accession);
   const why = box("p", "quiet", rules, deedWords(deed), staff);
   const say = (closed) => closed && why.before(box("p", "callout", `${closed} `, staff));
-  closedWords(accession, files).then(say, () => {});
+  closedWords(accession, files, closedNow).then(say, () => {});
   const quotes = quoting(() => citation(accession, kind));
   const text = box("div", "", ...zipWay({ accession, kind, files, quotes }), files.length ? list : none, why);
   const aside = files.length ? machine({ kind, accession, files }) : "";

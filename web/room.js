@@ -2,7 +2,7 @@
 import { house, readAbout, room } from "./about.js";
 import { choicesIn, showHome } from "./room.home.js";
 import { allDisks, nameOfDisk } from "./room.lists.js";
-import { askAbout, button, link } from "./room.parts.js";
+import { askAbout, askedWords, button, link } from "./room.parts.js";
 import { Refused, box, keyInUse, listenForKey, loaded, part, refusal, useNow } from "./shared.js";
 import { readTitles } from "./titles.js";
 
@@ -76,6 +76,7 @@ function display({ heading, title = heading, isName, parts, fill, change = null,
   document.body.classList.toggle("home", change !== null);
   if (!change) part("status").textContent = "";
   part("view").replaceChildren(...parts);
+  part("asked").textContent = change ? "" : askedWords();
   fill?.();
 }
 

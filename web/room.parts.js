@@ -1,7 +1,7 @@
 // What the views of the page for readers share: what a reader may do with a file, and ways to quote, ask and go on.
 import { askStaff, holder } from "./about.js";
 import { mayRead, nameOfDisk, typeWords } from "./room.lists.js";
-import { box, counted, element, faultWords, kindWords, listOf, meaning, textOf } from "./shared.js";
+import { box, counted, element, faultWords, keyInUse, kindWords, listOf, meaning, textOf } from "./shared.js";
 import { titleOf } from "./titles.js";
 
 // A link within the page.
@@ -64,6 +64,11 @@ export function facts(pairs) {
 
 // The number of a disk behind its title, where it has one.
 export const numberOf = (accession) => (titleOf(accession) ? `, disk ${accession}` : "");
+
+// This moment by the clock of this computer, with its zone; and, as evidence, when the page asks the desk, and as whom.
+export const momentWords = () => new Date().toLocaleString("en-GB", { dateStyle: "long", timeStyle: "long" });
+export const askedWords = () =>
+  `The page asked the desk on ${momentWords()} by the reader's clock, with${keyInUse() ? "" : "out"} a key.`;
 
 // How to cite a disk or a file of it: the museum, the title, where it is there, its digest, the address, and the day.
 export function citation(accession, kind, file = "", digest = "") {

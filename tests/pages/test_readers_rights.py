@@ -1,5 +1,7 @@
 """The page for readers: what the public, the room and the staff see, what is refused and why; no key is left there."""
 
+import re
+
 import pytest
 from staff_helpers import LEFT
 from support import museums
@@ -26,14 +28,15 @@ def museum(museum):
     museums.put(museum, 1007, "d64", 8, PROGRAM_DISK)
     return museum
 
-@pytest.mark.parametrize("key, asks, disks", [
-    (PUBLIC, AS_PUBLIC, OPEN), (ROOM, BY_KEY, OPEN), (STAFF, BY_KEY, ALL), (f"  {UMLAUTS} ", BY_KEY, OPEN),
-], ids=["public", "room", "staff", "umlauts"])
+@pytest.mark.parametrize("key, asks, disks", ids=["public", "room", "staff", "umlauts"], argvalues=[
+    (PUBLIC, AS_PUBLIC, OPEN), (ROOM, BY_KEY, OPEN), (STAFF, BY_KEY, ALL), (f"  {UMLAUTS} ", BY_KEY, OPEN)])
 def test_caller_sees_the_disks_of_their_audience(reader, key, asks, disks):
     is_staff, shown = key == STAFF, reader.give(key)
     assert (shown["caller"], shown["disks"]) == (asks, disks)
     assert f"files: {'10 to read, 4' if is_staff else '4 to read, 2'} only listed." in shown["status"]
     assert reader.go("1004")["rows"][:1] == ([[*WELCOME, "Read it"]] if is_staff else [])
+    asked = f"The page asked the desk on 15 June 2026 at [0-9:]+ .*, with{'' if key else 'out'} a key[.]"
+    assert re.fullmatch(asked, reader.text("#asked")), "what stands now has no hour"
     closed = "2 more files are closed to you, name and all: rule 10 of deed 7 (R7.10). Turn to the museum's staff about"
     due = [] if is_staff else ["There is no file on it that you may see.", f"{closed} this disk."]
     reader.wait(lambda state: reader.texts(".callout") == due, f"{due} on the disk")
@@ -65,6 +68,8 @@ def test_each_file_leads_to_its_page_and_one_that_is_closed_says_why_there_and_i
     assert found == [["WELCOME.TXT", "WELCOME.TXT text Listed only"], ["LOGBOOK", "LOGBOOK text or data Damaged"]]
     closed = ["1 more file is closed to you, name and all: takedown 1 of disk 1003 (T1003.1)."]
     reader.wait(lambda state: reader.texts(".closed > a[href='#/1003']") == closed, f"{closed} of what was found")
+    museum.rules["T1003"] = {2: museums.rule(2, "deny", ["public"], {"slot": 1})}
+    assert reader.go("1003") and reader.wait(lambda state: "T1003.2" in str(reader.texts(".callout")), "a new rule")
 
 def test_refusal_says_why_whom_to_ask_and_where_to_go_on(reader):
     others, staff = "The other files of this disk", "Turn to the museum's staff about this "

@@ -247,23 +247,29 @@ def zip_says(reader, words):
     wait_for(f"{words!r} beside the button of the zip", lambda: words in "".join(reader.texts("[role=status]")))
 
 def zipped(reader):
-    """The zip of disk 2001, and the rows of its list."""
+    """The zip of disk 2001, the rows of its list, and what it says of itself."""
     reader.go("2001")
     reader.named("button", "as a zip").click()
     made = zipfile.ZipFile(io.BytesIO(reader.saved("disk-2001.zip")))
     assert made.testzip() is None
-    return made, list(csv.reader(made.read("list.csv").decode().splitlines()))
+    return made, list(csv.reader(made.read("list.csv").decode().splitlines())), made.read("about.txt").decode()
 
-def test_zip_has_all_files_that_may_be_read_by_harmless_names(reader):
-    made, rows = zipped(reader)
+def test_zip_has_all_files_that_may_be_read_by_harmless_names_and_says_what_it_is(museum, reader):
+    museum.rules["T2001"] = {1: museums.rule(1, "deny", ["public"], {"slot": 2})}
+    made, rows, about = zipped(reader)
     names = [f"files/{name}" for name in SAVED_AS]
-    assert made.namelist() == [*names, "SHA256SUMS", "list.csv"]
+    assert made.namelist() == [*names, "SHA256SUMS", "list.csv", "about.txt"]
     assert [made.read(name) for name in names] == [data for _, data in GIVEN]
     sums = [f"{digest(data)}  {name}" for name, (_, data) in zip(names, GIVEN)]
     assert made.read("SHA256SUMS").decode().splitlines() == sums
-    assert rows[0] == ["slot", "user", "name", "name as shown", "type", "bytes", "sha256", "name here"]
+    assert rows[0][3:] == ["name as shown", "type", "bytes", "sha256", "name here", "left out because"]
     assert [row[2] for row in rows[1:]] == [name if name[0] != "=" else f"'{name}" for name, _ in GIVEN]
     zip_says(reader, "Saved: 8 files.")
+    day = "15 June 2026 at [0-9:]+ [^ ]+"
+    for words in (f"number 2001. {reader.door.address}#/2001 ", f"asked the desk on {day} by .* clock, without a key.",
+                  f"had come by {day}[.]\n", "zip: 8 files, .*\nfiles/HELLO.prg: HELLO, slot 0, rule 20 of deed 9 ",
+                  "zip: 0 files[.]\n\n1 more file is closed to you, .*: takedown 1 of disk 2001 .T2001.1.[.]\nThis"):
+        assert re.search(words, about), (words, about)
 
 def test_zip_asks_in_a_pace_again_after_429_and_leaves_out_what_was_closed_meanwhile(museum, reader):
     tries = []
@@ -275,23 +281,26 @@ def test_zip_asks_in_a_pace_again_after_429_and_leaves_out_what_was_closed_meanw
             return refused_by_nginx(429, "Too Many Requests") if len(tries) == 4 else None
 
     reader.door.before = before
-    made, rows = zipped(reader)
+    made, rows, about = zipped(reader)
     assert [slot for slot, _ in tries] == [0, 1, 3, 4, 4, 5, 6, 7, 8]
     gaps = [later - first for (_, first), (_, later) in zip(tries, tries[1:])]
     assert min(gaps) > 0.09 and gaps[3] > 1.5
-    words = "You may not read this file. Ask the staff, who know why."
-    assert rows[3] == ["3", "", HARMFUL[0], HARMFUL[0], "USR", "", words, ""]
+    words = "You may not read this file. Ask the staff, who know why. Rule: T2001.1, takedown 1 of disk 2001."
+    assert rows[4] == ["3", "", HARMFUL[0], HARMFUL[0], "USR", "", "", "", words]
+    left = f"TOUR, slot 2: a file of records, which the desk cannot give out\n{HARMFUL[0]}, slot 3: {words}\n"
+    assert f"2 files.\n{left}\nThe desk tells of no other file that is closed.\n" in about
     assert made.namelist()[:3] == ["files/HELLO.prg", "files/LETTER.seq", "files/_CON.usr"]
 
-@pytest.mark.parametrize("stops, words", [(False, CANNOT_REACH), (True, "Stopped.")], ids=["lost", "stopped"])
-def test_zip_that_is_stopped_or_whose_connection_is_lost_is_not_saved(reader, stops, words):
+@pytest.mark.parametrize("stops, words", ids=["lost", "stopped", "another key"], argvalues=[
+    (False, CANNOT_REACH), (True, "Stopped."), (True, "")])
+def test_zip_that_is_stopped_or_whose_connection_is_lost_or_that_gets_another_key_is_not_saved(reader, stops, words):
     is_stopped = threading.Event()
     lost_or_late = lambda: is_stopped.wait(LIMIT) and None if stops else b""
     reader.door.before = lambda method, path: lost_or_late() if path.endswith("/files/1") else None
     reader.go("2001")
     reader.named("button", "as a zip").click()
     if stops:
-        reader.named("button", "Stop").click()
+        reader.named("button", "Stop").click() if words else reader.give("hello")
     is_stopped.set()
-    zip_says(reader, words)
-    assert not list(reader.driver.downloads.iterdir())
+    zip_says(reader, words) if words else time.sleep(1)
+    assert not list(reader.driver.downloads.iterdir()) and "/2001/files/3" not in str(reader.door.visits)
