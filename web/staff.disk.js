@@ -158,7 +158,8 @@ async function takeDown(records, tools) {
     return { scope: accession, rank, slot, rule, name: nameOf(record), ...sent };
   });
   if (commands.some(({ rank }) => rank === null)) return `All ranks of disk ${accession} are in use.`;
-  const words = `Take down ${counted(commands.length, "file")} of disk ${accession}?`;
+  const whom = listed(commands[0].rule.audiences.map((audience) => AUDIENCES[audience]));
+  const words = `Take down ${counted(commands.length, "file")} of disk ${accession} for ${whom}?`;
   const notes = commands.map(({ name, rank, rule }) => `${name}, at rank ${rank}: ${newRuleWords(rule)}.`);
   const asked = { words, notes, commands, days: rehearsalDays(commands[0].rule), isTakedown: true, go: "Take down" };
   asked.first = [box("div", "choices", button(SAVE_FIRST, saveShown))];

@@ -101,7 +101,8 @@ async function saveShown() {
   const [asked, mine] = [wanted(), seen];
   const { files, which } = await lookThrough(asked, mine.files);
   const name = `${asked.audience}-${mine.name}-${files.length}-of-${mine.files.length}-files`;
-  const about = [`What ${AUDIENCES[asked.audience]} gets ${mine.words}: ${which}`, mine.past ?? [], UNSAID].flat();
+  const who = AUDIENCES[asked.audience];
+  const about = [`What ${who} gets ${mine.words}: ${which} It is for ${who} alone.`, mine.past ?? [], UNSAID].flat();
   return saveTable(name, about.join(" "), SAVED_HEADS, files, (file) => savedVerdict(file, asked.audience, mine));
 }
 

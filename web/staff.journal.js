@@ -69,9 +69,13 @@ function found({ accession: { value: number }, deed, words, day, checks }) {
   return { shown, which };
 }
 
+// The names of the files of a disk, by their slots; where they were not read, where they are to be had.
+const namesFor = ({ accession }, { names }) =>
+  names ?? (accession && { get: () => `named on the page of disk ${accession}` });
+
 // The row of a change; `of` is the disk for which it is shown, if any.
 export function changeRow(change, of) {
-  const words = `${isOfDeed(change, of) ? "Of its deed: " : ""}${changeWords(change, of.names)}`;
+  const words = `${isOfDeed(change, of) ? "Of its deed: " : ""}${changeWords(change, namesFor(change, of))}`;
   return row([
     cell("When", timeOf(change), "day"),
     cell("Who", change.name, "words"),
@@ -155,7 +159,7 @@ const HEADS = ["moment", "name", "reason", "of", "what", "outcome", "method", "p
 
 function savedRecord(change) {
   const { moment, name, reason, method, path, status, body } = change;
-  const words = [ofWords(change), changeWords(change, disk.names), outcomeWords(change)];
+  const words = [ofWords(change), changeWords(change, namesFor(change, disk)), outcomeWords(change)];
   return [moment, name, reason, ...words, method, path, status, body];
 }
 

@@ -10,6 +10,7 @@ START, PIECE = 1_800_000_000, 4 << 20
 KEY, HARM = digest(b"room 3"), HARMFUL[2]
 RULE = '{"audiences":["room","public"],"select":{"slot":2},"effect":"deny","until":"2030-01-01"}'
 HIDDEN = "the file at slot 2 closed to the public and the reading room, until 2030-01-01"
+ELSEWHERE = HIDDEN.replace(" closed", " (named on the page of disk 99) closed")
 UNKNOWN, NOT_THERE = "nobody knows whether the desk did it", "refused: that cannot be done there"
 DEED = "/deeds/7", "Ada%20M%C3%BCller", "a%20letter%20of%203%20May", '{"donor":"A. <b>C</b>","signed":"2019-05-04"}'
 NO_DISK = "refused: there was no such disk, deed or address"
@@ -20,7 +21,7 @@ CHANGES = [("200", ("PUT", *DEED), "Ada Müller|Put deed 7: A. <b>C</b>, signed 
     ("200", ("DELETE", "/deeds/7/rules/20?x=y", "bob"), "bob|Drop rule 20 of deed 7|done|"),
     ("200", ("PUT", f"/accessions/1002/d64/9/{KEY}", "=1+1", "100%"),
      f"=1+1|Put disk 1002, Commodore 1541, under deed 9, SHA-256 {KEY}|done|100%"),
-    ("404", ("PUT", "/images/99/rules/9", "bob", "", RULE), f"bob|Put takedown 9 of disk 99: {HIDDEN}|{NO_DISK}|"),
+    ("404", ("PUT", "/images/99/rules/9", "bob", "", RULE), f"bob|Put takedown 9 of disk 99: {ELSEWHERE}|{NO_DISK}|"),
     ("200", ("POST", "/images/1002/check"), "|Check disk 1002|done|"),
     ("502", ("PUT", f"/badges/{KEY}", "bob", "", '{"audience":"room"}'),
      f"bob|Put a key of the reading room, SHA-256 {KEY}|{UNKNOWN} (502)|"),
@@ -56,6 +57,7 @@ def test_changes_stand_with_who_what_outcome_and_reason(staff):
     assert shown["stands"] == [summary, "Shown: 10 changes of these, without checks of disks."]
     assert (shown["result"], shown["rows"]) == (["Read: 11 changes."], rows_of(0, 1, 2, 3, 4, 6, 7, 8, 9, 10))
     assert (staff.harmed(), staff.one("#who").is_displayed()) == ([None, 0], False)
+    assert shown["links"].count("#/disk/99") == 2, "no way to the names of its files"
     fields = [(path, [name for name in fields if b"desk" in name]) for _, path, fields in staff.door.visits]
     assert fields == [("/journal", [b"desk-key"])]
     assert all("; there are no older" in staff.push(one)["stands"][0] for one in ("Read what is older", "Read it anew"))

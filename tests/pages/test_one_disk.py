@@ -83,7 +83,11 @@ def test_files_ticked_by_their_shown_names_are_taken_down_and_what_stands_after_
     for slot in (0, 2):
         disk.set(f"#disk [name=slots][value='{slot}']", True)
     asked = disk.push("Take down what is ticked")["sure"][:3]
-    assert asked == ["Take down 2 files of disk 1002?", *notes], "files are not named as they are shown"
+    due = "Take down 2 files of disk 1002 for the public{}?"
+    assert asked == [due.format(" and the reading room"), *notes], "files are not named as they are shown"
+    assert disk.answer(False) and disk.set("#ticked [value=room]", False) is None
+    assert disk.push("Take down what is ticked")["sure"][0] == due.format("") and disk.answer(False)
+    assert disk.set("#ticked [value=room]", True) or disk.push("Take down what is ticked")
     disk.push("Save what stands now, first")
     assert str(saved_table(disk, f"disk-1002-{TODAY}")).count("'read it'") == 6, "what was before cannot be saved"
     disk.door.before = lost_at(2)

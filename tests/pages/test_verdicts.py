@@ -72,11 +72,13 @@ def test_day_that_is_over_is_said_to_be_by_rules_of_today_and_a_saved_table_says
         staff.push("Save what is shown as CSV")
         _, saved = saved_table(staff, f"public-1999-01-01-by-the-rules-of-{TODAY}-{count}-of-14-files")
         about = f"{heading}: {count} of 14 files, found by “{words}”; {left} more, closed to them, left out."
-        assert saved[:2] == ["Museum of the River", f"{about} {SINCE} {UNSAID}"], "a saved table looks as if it had all"
+        about = f"{about} It is for the public alone. {SINCE} {UNSAID}"
+        assert saved[:2] == ["Museum of the River", about], "a saved table looks as if it had all"
     assert (saved[2:4], saved[4][:14]) == (["1999-01-01", PAST], f"{TODAY}T12:")
     assert saved[5:8] == ["the public", EFFECTS["list"], f"{UNSERVED['SEQ']}; {PAST}; {NO_JOURNAL}"]
     later = f"{EFFECTS['deny']} ({PAST}; not then: deed 7 was signed on 2019-05-04; {NO_JOURNAL})"
     assert look(staff, "1999-01-01", closed=True, words="1004")["rows"][0][5] == later, "a day before the deed"
+    assert "desk-visits.log on the museum's machine" in staff.text("#eyes"), "where what readers did get then stands"
 
 def test_day_that_is_over_has_in_each_row_what_the_journal_knows_to_have_come_later(museum, staff):
     museum.rules["T1002"], took = takedown(1, 0), "takedown 1 of disk 1002"
