@@ -75,8 +75,8 @@ export function listTable(caption, columns, items, rowOf) {
     return first === second ? 0 : chosen.turn * (first < second ? -1 : 1);
   };
   const draw = () => {
-    const shown = items.filter(isFound);
-    if (chosen.column) shown.sort(order);
+    const found = chosen.words ? items.filter(isFound) : items;
+    const shown = chosen.column ? found.toSorted(order) : found;
     count.textContent = `${shown.length.toLocaleString("en")} of ${items.length.toLocaleString("en")} shown`;
     made.lastChild.replaceWith(longTable(caption, names, shown, rowOf));
     made.querySelectorAll("th").forEach(addSort);

@@ -5,7 +5,7 @@ import { checkWords, checked, surveyed } from "./staff.checks.js";
 import { button, change, dated, formOf, readHeld, rulesOf, showsAnew } from "./staff.desk.js";
 import { COLUMNS as CHANGES, changeRow } from "./staff.journal.js";
 import { audienceCounts } from "./staff.forecast.js";
-import { PUT, SINCE, UNREAD, originsOf, sinceWords, standingDisk, standingRule } from "./staff.origins.js";
+import { SINCE, originsOf, sinceWords, standingDisk, standingRule } from "./staff.origins.js";
 import { freeRank } from "./staff.ranks.js";
 import { SAVE_FIRST, rehearsalDays, rehearsed } from "./staff.rehearsal.js";
 import { makeRuleForm, ruleIn } from "./staff.ruleform.js";
@@ -13,7 +13,8 @@ import { putMany } from "./staff.rules.js";
 import { saveTable } from "./staff.saved.js";
 import { COLUMNS, EFFECT_AT, SAVED_HEADS, UNSAID, byWhichRules, effectOf, mayWords } from "./staff.verdicts.js";
 import { nameOf, namesOf, ruleShown, savedVerdict, verdictsOf } from "./staff.verdicts.js";
-import { AUDIENCES, RULES, listed, momentNow, newRuleWords, ruleTexts, ruleWords, today } from "./staff.words.js";
+import { AUDIENCES, PUT, RULES, UNREAD, listed, momentNow, newRuleWords, ruleTexts } from "./staff.words.js";
+import { ruleWords, today } from "./staff.words.js";
 import { noteOf, titleOf } from "./titles.js";
 
 // How many changes of the journal are shown at most.

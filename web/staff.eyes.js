@@ -22,10 +22,11 @@ async function read(day, tools) {
   const asked = { day, words: onDay(day), rules: byWhichRules(day), moment: momentNow() };
   asked.name = day === today() ? day : `${day}-by-the-rules-of-${today()}`;
   const [files, once] = [[], keeper()];
-  const searched = (record) => searchText(record[COLUMNS.kind], record[COLUMNS.name]);
-  // most texts are those of the line before
+  const searchOf = keeper((kind) => keeper((name) => searchText(kind, name)));
+  const searched = (record) => searchOf(record[COLUMNS.kind])(record[COLUMNS.name]);
+  // most texts are those of the line before; a text to look in is kept already
   let last = [];
-  const kept = (text, at) => (text === last[at] ? last[at] : once(text));
+  const kept = (text, at) => (text === last[at] ? last[at] : at === SEARCHED ? text : once(text));
   const take = (record) => files.push((last = [...record, searched(record)].map(kept)));
   const past = day < today() ? await pastOf(day, tools) : {};
   await readVerdicts(day, take, tools);

@@ -49,9 +49,6 @@ function originWords({ word }, { put, before }, { reach, isWhole }) {
   return `This ${word} was put ${byWords(put)}; before that: ${other}`;
 }
 
-export const UNREAD = "not looked for in the journal";
-export const PUT = "Put when, by whom, and why";
-
 // The journal as far as it is enough; where it cannot be read, why.
 async function journalTo(isEnough, tools) {
   const { changes, fault, ...far } = await readBack(isEnough, tools).catch((came) => ({ changes: [], fault: came }));

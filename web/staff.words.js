@@ -119,6 +119,10 @@ export const ruleWords = (rule, names, always) =>
   `${filesWords(rule, names)} ${SHORT[rule.effect]} ${audienceWords(rule.audiences)}, ${daysWords(rule, always)}`;
 export const newRuleWords = (rule) => ruleWords(rule, undefined, "from now on");
 
+// Who put what stands, by the journal: the name of the column, and what is there before the journal is read.
+export const PUT = "Put when, by whom, and why";
+export const UNREAD = "not looked for in the journal";
+
 // This moment, to the second, with its time zone.
 export const momentNow = () => `${new Date().toISOString().slice(0, 19)}+00:00`;
 

@@ -63,10 +63,10 @@ export async function readTable(path, { method = "GET", body, take, progress = (
   if (count < 0 || records.rest !== "") throw new Refused(0, {});
 }
 
-// Keeps each text once, since most texts of a long table come again and again.
-export function keeper() {
-  const texts = new Map();
-  return (text) => texts.get(text) ?? (texts.set(text, text), text);
+// Keeps each text once, or what is made of it, since most texts of a long table come again and again.
+export function keeper(make = (text) => text) {
+  const known = new Map();
+  return (text) => known.get(text) ?? known.set(text, make(text)).get(text);
 }
 
 // Has the browser save a file.
