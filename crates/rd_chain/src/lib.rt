@@ -1,0 +1,12 @@
+//! An append-only chain of lines in an SQLite database: each line has a number and a sum over all lines before it, and
+//! no statement changes or deletes one.
+#![tactic(auto)]
+
+mod chain;
+mod faults;
+mod sum;
+mod write;
+
+pub use chain::Chain;
+pub use faults::{ChainFault, CreateFault, Refused};
+pub use sum::next_sum;
