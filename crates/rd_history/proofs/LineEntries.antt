@@ -1,5 +1,6 @@
 -- An entry within its limits has a line of its own.
-use Rattle.std.proofs.Common.{◌≡◌, ◌∙◌, ◌==◌, ℕ, zero, suc, ℤ, pos, negsuc, List, [], ◌∷◌, Bool, true, false, cond, IfSome, Ok, Option, None, Some, Result, ap, arith, get_or, map, option_map, refl, subst, sym}
+use Rattle.std.proofs.Common.{◌≡◌, ◌∙◌, ◌==◌, ℕ, zero, suc, ℤ, pos, negsuc, List, [], ◌∷◌, Bool, bytes_eq, codes, true, false, cond, IfSome, Ok, Option, None, Some, Result, ap, arith, get_or, map, option_map, refl, subst, sym}
+use Rattle.std.specs.List.{list_any}
 use Rattle.hex.specs.Hex.{decode_of, encode_lower}
 use Rattle.hex.specs.declared.error.FromHexError.{FromHexError}
 use Rattle.hex.proofs.HexLemmas.{decode_of-encode_lower}
@@ -72,11 +73,11 @@ integer_in (number (unsigned n)) = pos n
 integer_in (number (negative z)) = z
 integer_in other = pos 0
 
-abbrev key_in : Data → List ℕ
+abbrev pub key_in : Data → List ℕ
 key_in (object (member key value ms)) = key
 key_in other = []
 
-abbrev letter : ℕ → Data → ℕ
+abbrev pub letter : ℕ → Data → ℕ
 letter n value = get_or (key_in value) n 0
 
 integer_back : (z : ℤ) → integer_in (integer z) ≡ z
@@ -98,41 +99,41 @@ option_back (Some text) = refl
 
 -- ---- words
 
-kind_in : List ℕ → Kind
+pub kind_in : List ℕ → Kind
 kind_in word = cond (get_or word 0 0 == 99) Cpm8 (cond (get_or word 3 0 == 101) D64e D64)
 
-kind_back : (kind : Kind) → kind_in (word_of kind) ≡ kind
+pub kind_back : (kind : Kind) → kind_in (word_of kind) ≡ kind
 unfolding kind_in
 kind_back Cpm8 = refl
 kind_back D64 = refl
 kind_back D64e = refl
 
-effect_in : List ℕ → Effect
+pub effect_in : List ℕ → Effect
 effect_in word = cond (get_or word 0 0 == 100) Deny (cond (get_or word 0 0 == 108) Listed Read)
 
-effect_back : (effect : Effect) → effect_in (effect_word effect) ≡ effect
+pub effect_back : (effect : Effect) → effect_in (effect_word effect) ≡ effect
 unfolding effect_in
 effect_back Deny = refl
 effect_back Listed = refl
 effect_back Read = refl
 
-audience_in : List ℕ → Audience
+pub audience_in : List ℕ → Audience
 audience_in word = cond (get_or word 0 0 == 112) Public (cond (get_or word 0 0 == 114) Room Staff)
 
-audience_back : (audience : Audience) → audience_in (audience_word audience) ≡ audience
+pub audience_back : (audience : Audience) → audience_in (audience_word audience) ≡ audience
 unfolding audience_in
 audience_back Public = refl
 audience_back Room = refl
 audience_back Staff = refl
 
-cause_in : List ℕ → Cause
+pub cause_in : List ℕ → Cause
 cause_in word =
     cond (get_or word 0 0 == 119) WrongSize
     (cond (get_or word 0 0 == 100) DigestDiffers
     (cond (get_or word 0 0 == 99) Conflict
     (cond (get_or word 0 0 == 117) Unavailable (cond (get_or word 0 0 == 108) Lost (cond (get_or word 3 0 == 97) NoAccession NoDeed)))))
 
-cause_back : (cause : Cause) → cause_in (cause_word cause) ≡ cause
+pub cause_back : (cause : Cause) → cause_in (cause_word cause) ≡ cause
 unfolding cause_in
 cause_back NoAccession = refl
 cause_back NoDeed = refl
@@ -166,15 +167,14 @@ same_day_if (Some one) (Some other) first second same = let text : day_text one 
 
 -- ---- rules
 
-abbrev flag : ℕ → List (List ℕ) → Bool
-flag first [] = false
-flag first (word ∷ words) = cond (get_or word 0 0 == first) true (flag first words)
+-- the word is one of the words
+abbrev pub has : List ℕ → List (List ℕ) → Bool
+has word words = list_any (λ other. bytes_eq other word) words
 
-set_in : List (List ℕ) → Audiences
-set_in words = record { public = flag 112 words; room = flag 114 words; staff = flag 115 words }
+abbrev pub set_in : List (List ℕ) → Audiences
+set_in words = record { public = has (codes "public") words; room = has (codes "room") words; staff = has (codes "staff") words }
 
 flags_back : (public room staff : Bool) → set_in (audience_words (record { public = public; room = room; staff = staff })) ≡ record { public = public; room = room; staff = staff }
-unfolding set_in
 flags_back true true true = refl
 flags_back true true false = refl
 flags_back true false true = refl
@@ -184,7 +184,7 @@ flags_back false true false = refl
 flags_back false false true = refl
 flags_back false false false = refl
 
-set_back : (set : Audiences) → set_in (audience_words set) ≡ set
+pub set_back : (set : Audiences) → set_in (audience_words set) ≡ set
 set_back set = flags_back set.public set.room set.staff
 
 same_rule : (one other : NewRule) → IsRule one → IsRule other → one.band ≡ other.band → one.scope ≡ other.scope → rule_data one ≡ rule_data other → one ≡ other
@@ -202,10 +202,10 @@ same_rule one other first second band scope same =
     (sym (option_back (option_map day_text one.until)) ∙ ap (λ d. option_in (at 5 d)) same ∙ option_back (option_map day_text other.until)) in
     λ i. record { band = band i; scope = scope i; rank = rank i; audiences = audiences i; from = from i; until = until i; select = select i; effect = effect i }
 
-abbrev band_in : ℕ → Data → Band
+abbrev pub band_in : ℕ → Data → Band
 band_in n value = cond (letter n value == 116) Takedown OfDeed
 
-put_band : (band : Band) (rule : NewRule) → band_in 0 (put_data band rule) ≡ band
+pub put_band : (band : Band) (rule : NewRule) → band_in 0 (put_data band rule) ≡ band
 put_band Takedown rule = refl
 put_band OfDeed rule = refl
 
@@ -219,7 +219,7 @@ unfolding nth
 put_rule Takedown rule = refl
 put_rule OfDeed rule = refl
 
-drop_band : (band : Band) (scope rank : ℕ) → band_in 5 (drop_data band scope rank) ≡ band
+pub drop_band : (band : Band) (scope rank : ℕ) → band_in 5 (drop_data band scope rank) ≡ band
 drop_band Takedown scope rank = refl
 drop_band OfDeed scope rank = refl
 
@@ -236,7 +236,7 @@ drop_rank OfDeed scope rank = refl
 -- ---- changes
 
 -- a number for each variant
-abbrev tag : Change → ℕ
+abbrev pub tag : Change → ℕ
 tag (Begin count) = 0
 tag (Deed num donor signed) = 1
 tag (Image acc kind deed digest) = 2
@@ -247,7 +247,7 @@ tag (DropKey digest) = 6
 tag (Void cause) = 7
 
 -- by letters of its key
-abbrev data_tag : Data → ℕ
+abbrev pub data_tag : Data → ℕ
 data_tag value =
     cond (letter 0 value == 98) 0
     (cond (letter 0 value == 105) 2
@@ -263,7 +263,7 @@ drop_tag : (band : Band) (scope rank : ℕ) → data_tag (drop_data band scope r
 drop_tag Takedown scope rank = refl
 drop_tag OfDeed scope rank = refl
 
-tagged : (change : Change) → data_tag (change_data change) ≡ tag change
+pub tagged : (change : Change) → data_tag (change_data change) ≡ tag change
 tagged (Begin count) = refl
 tagged (Deed num donor signed) = refl
 tagged (Image acc kind deed digest) = refl
@@ -277,91 +277,43 @@ by_tag : (a b : Change) → tag a ≡ tag b → IsChange a → IsChange b → Te
 unfolding nth
 by_tag (Begin count) (Begin count2) tags one other first second same =
     ap (λ d. Begin (number_in (at 0 d))) same
-by_tag (Begin count) (Deed num2 donor2 signed2) tags one other first second same = absurd (omega (arith, tags))
-by_tag (Begin count) (Image acc2 kind2 deed2 digest2) tags one other first second same = absurd (omega (arith, tags))
-by_tag (Begin count) (Rule rule2) tags one other first second same = absurd (omega (arith, tags))
-by_tag (Begin count) (DropRule band2 scope2 rank2) tags one other first second same = absurd (omega (arith, tags))
-by_tag (Begin count) (Key digest2 audience2) tags one other first second same = absurd (omega (arith, tags))
-by_tag (Begin count) (DropKey digest2) tags one other first second same = absurd (omega (arith, tags))
-by_tag (Begin count) (Void cause2) tags one other first second same = absurd (omega (arith, tags))
-by_tag (Deed num donor signed) (Begin count2) tags one other first second same = absurd (omega (arith, tags))
+by_tag (Begin count) next tags one other first second same = absurd (omega (arith, tags))
 by_tag (Deed num donor signed) (Deed num2 donor2 signed2) tags one other first second same =
     let number : num ≡ num2 = ap (λ d. number_in (within 0 d)) same in
     let name : donor ≡ donor2 = ap (λ d. text_in (within 1 d)) same in
     let day : signed ≡ signed2 = same_day signed signed2 one.signed other.signed (ap (λ d. text_in (within 2 d)) same) in
     λ i. Deed (number i) (name i) (day i)
-by_tag (Deed num donor signed) (Image acc2 kind2 deed2 digest2) tags one other first second same = absurd (omega (arith, tags))
-by_tag (Deed num donor signed) (Rule rule2) tags one other first second same = absurd (omega (arith, tags))
-by_tag (Deed num donor signed) (DropRule band2 scope2 rank2) tags one other first second same = absurd (omega (arith, tags))
-by_tag (Deed num donor signed) (Key digest2 audience2) tags one other first second same = absurd (omega (arith, tags))
-by_tag (Deed num donor signed) (DropKey digest2) tags one other first second same = absurd (omega (arith, tags))
-by_tag (Deed num donor signed) (Void cause2) tags one other first second same = absurd (omega (arith, tags))
-by_tag (Image acc kind deed digest) (Begin count2) tags one other first second same = absurd (omega (arith, tags))
-by_tag (Image acc kind deed digest) (Deed num2 donor2 signed2) tags one other first second same = absurd (omega (arith, tags))
+by_tag (Deed num donor signed) next tags one other first second same = absurd (omega (arith, tags))
 by_tag (Image acc kind deed digest) (Image acc2 kind2 deed2 digest2) tags one other first second same =
     let number : acc ≡ acc2 = ap (λ d. number_in (within 0 d)) same in
     let under : deed ≡ deed2 = ap (λ d. number_in (within 1 d)) same in
     let bytes : digest ≡ digest2 = same_digest digest digest2 first second (ap (λ d. text_in (within 2 d)) same) in
     let of_kind : kind ≡ kind2 = sym (kind_back kind) ∙ ap (λ d. kind_in (text_in (within 3 d))) same ∙ kind_back kind2 in
     λ i. Image (number i) (of_kind i) (under i) (bytes i)
-by_tag (Image acc kind deed digest) (Rule rule2) tags one other first second same = absurd (omega (arith, tags))
-by_tag (Image acc kind deed digest) (DropRule band2 scope2 rank2) tags one other first second same = absurd (omega (arith, tags))
-by_tag (Image acc kind deed digest) (Key digest2 audience2) tags one other first second same = absurd (omega (arith, tags))
-by_tag (Image acc kind deed digest) (DropKey digest2) tags one other first second same = absurd (omega (arith, tags))
-by_tag (Image acc kind deed digest) (Void cause2) tags one other first second same = absurd (omega (arith, tags))
-by_tag (Rule rule) (Begin count2) tags one other first second same = absurd (omega (arith, tags))
-by_tag (Rule rule) (Deed num2 donor2 signed2) tags one other first second same = absurd (omega (arith, tags))
-by_tag (Rule rule) (Image acc2 kind2 deed2 digest2) tags one other first second same = absurd (omega (arith, tags))
+by_tag (Image acc kind deed digest) next tags one other first second same = absurd (omega (arith, tags))
 by_tag (Rule rule) (Rule rule2) tags one other first second same =
     let band : rule.band ≡ rule2.band = sym (put_band rule.band rule) ∙ ap (band_in 0) same ∙ put_band rule2.band rule2 in
     let scope : rule.scope ≡ rule2.scope = sym (put_scope rule.band rule) ∙ ap (λ d. number_in (within 0 d)) same ∙ put_scope rule2.band rule2 in
     let terms : rule_data rule ≡ rule_data rule2 = sym (put_rule rule.band rule) ∙ ap (within 1) same ∙ put_rule rule2.band rule2 in
     ap Rule (same_rule rule rule2 one other band scope terms)
-by_tag (Rule rule) (DropRule band2 scope2 rank2) tags one other first second same = absurd (omega (arith, tags))
-by_tag (Rule rule) (Key digest2 audience2) tags one other first second same = absurd (omega (arith, tags))
-by_tag (Rule rule) (DropKey digest2) tags one other first second same = absurd (omega (arith, tags))
-by_tag (Rule rule) (Void cause2) tags one other first second same = absurd (omega (arith, tags))
-by_tag (DropRule band scope rank) (Begin count2) tags one other first second same = absurd (omega (arith, tags))
-by_tag (DropRule band scope rank) (Deed num2 donor2 signed2) tags one other first second same = absurd (omega (arith, tags))
-by_tag (DropRule band scope rank) (Image acc2 kind2 deed2 digest2) tags one other first second same = absurd (omega (arith, tags))
-by_tag (DropRule band scope rank) (Rule rule2) tags one other first second same = absurd (omega (arith, tags))
+by_tag (Rule rule) next tags one other first second same = absurd (omega (arith, tags))
 by_tag (DropRule band scope rank) (DropRule band2 scope2 rank2) tags one other first second same =
     let of_band : band ≡ band2 = sym (drop_band band scope rank) ∙ ap (band_in 5) same ∙ drop_band band2 scope2 rank2 in
     let of_scope : scope ≡ scope2 = sym (drop_scope band scope rank) ∙ ap (λ d. number_in (within 0 d)) same ∙ drop_scope band2 scope2 rank2 in
     let of_rank : rank ≡ rank2 = sym (drop_rank band scope rank) ∙ ap (λ d. number_in (within 1 d)) same ∙ drop_rank band2 scope2 rank2 in
     λ i. DropRule (of_band i) (of_scope i) (of_rank i)
-by_tag (DropRule band scope rank) (Key digest2 audience2) tags one other first second same = absurd (omega (arith, tags))
-by_tag (DropRule band scope rank) (DropKey digest2) tags one other first second same = absurd (omega (arith, tags))
-by_tag (DropRule band scope rank) (Void cause2) tags one other first second same = absurd (omega (arith, tags))
-by_tag (Key digest audience) (Begin count2) tags one other first second same = absurd (omega (arith, tags))
-by_tag (Key digest audience) (Deed num2 donor2 signed2) tags one other first second same = absurd (omega (arith, tags))
-by_tag (Key digest audience) (Image acc2 kind2 deed2 digest2) tags one other first second same = absurd (omega (arith, tags))
-by_tag (Key digest audience) (Rule rule2) tags one other first second same = absurd (omega (arith, tags))
-by_tag (Key digest audience) (DropRule band2 scope2 rank2) tags one other first second same = absurd (omega (arith, tags))
+by_tag (DropRule band scope rank) next tags one other first second same = absurd (omega (arith, tags))
 by_tag (Key digest audience) (Key digest2 audience2) tags one other first second same =
     let of_audience : audience ≡ audience2 = sym (audience_back audience) ∙ ap (λ d. audience_in (text_in (within 0 d))) same ∙ audience_back audience2 in
     let bytes : digest ≡ digest2 = same_digest digest digest2 first second (ap (λ d. text_in (within 1 d)) same) in
     λ i. Key (bytes i) (of_audience i)
-by_tag (Key digest audience) (DropKey digest2) tags one other first second same = absurd (omega (arith, tags))
-by_tag (Key digest audience) (Void cause2) tags one other first second same = absurd (omega (arith, tags))
-by_tag (DropKey digest) (Begin count2) tags one other first second same = absurd (omega (arith, tags))
-by_tag (DropKey digest) (Deed num2 donor2 signed2) tags one other first second same = absurd (omega (arith, tags))
-by_tag (DropKey digest) (Image acc2 kind2 deed2 digest2) tags one other first second same = absurd (omega (arith, tags))
-by_tag (DropKey digest) (Rule rule2) tags one other first second same = absurd (omega (arith, tags))
-by_tag (DropKey digest) (DropRule band2 scope2 rank2) tags one other first second same = absurd (omega (arith, tags))
-by_tag (DropKey digest) (Key digest2 audience2) tags one other first second same = absurd (omega (arith, tags))
+by_tag (Key digest audience) next tags one other first second same = absurd (omega (arith, tags))
 by_tag (DropKey digest) (DropKey digest2) tags one other first second same =
     ap DropKey (same_digest digest digest2 first second (ap (λ d. text_in (within 0 d)) same))
-by_tag (DropKey digest) (Void cause2) tags one other first second same = absurd (omega (arith, tags))
-by_tag (Void cause) (Begin count2) tags one other first second same = absurd (omega (arith, tags))
-by_tag (Void cause) (Deed num2 donor2 signed2) tags one other first second same = absurd (omega (arith, tags))
-by_tag (Void cause) (Image acc2 kind2 deed2 digest2) tags one other first second same = absurd (omega (arith, tags))
-by_tag (Void cause) (Rule rule2) tags one other first second same = absurd (omega (arith, tags))
-by_tag (Void cause) (DropRule band2 scope2 rank2) tags one other first second same = absurd (omega (arith, tags))
-by_tag (Void cause) (Key digest2 audience2) tags one other first second same = absurd (omega (arith, tags))
-by_tag (Void cause) (DropKey digest2) tags one other first second same = absurd (omega (arith, tags))
+by_tag (DropKey digest) next tags one other first second same = absurd (omega (arith, tags))
 by_tag (Void cause) (Void cause2) tags one other first second same =
     ap Void (sym (cause_back cause) ∙ ap (λ d. cause_in (text_in (at 0 d))) same ∙ cause_back cause2)
+by_tag (Void cause) next tags one other first second same = absurd (omega (arith, tags))
 
 same_change : (a b : Change) → IsChange a → IsChange b → TellsDigests a → TellsDigests b → change_data a ≡ change_data b → a ≡ b
 same_change a b one other first second same = by_tag a b (sym (tagged a) ∙ ap data_tag same ∙ tagged b) one other first second same

@@ -1,4 +1,4 @@
-ghost use Rattle.std.specs.Prelude.{◌≡◌, ◌↔◌, IsTrue};
+ghost use Rattle.std.specs.Prelude.{◌≡◌, ◌≢◌, ◌↔◌, IfNone, IfSome, IsTrue};
 ghost use Rattle.rd_policy.specs.Days.{HasDay};
 ghost use Rattle.rd_policy.specs.Rules.{IsPlainText};
 ghost use Rattle.rd_history.specs.Entries.{IsChange, IsEntry};
@@ -114,6 +114,28 @@ impl Cause {
             Cause::Unavailable => "unavailable",
             Cause::Lost => "lost",
         }
+    }
+
+    /// The cause that has this word, `None` if no cause has it.
+    pub fn from_word(word: &str) -> Option<Cause>
+        ensures found { IfSome result (λ cause. word.now ≡ cause_word cause) }
+        ensures none { IfNone result ((cause : Cause) → word.now ≢ cause_word cause) }
+    {
+        let causes = [
+            Cause::NoAccession,
+            Cause::NoDeed,
+            Cause::WrongSize,
+            Cause::DigestDiffers,
+            Cause::Conflict,
+            Cause::Unavailable,
+            Cause::Lost,
+        ];
+        for cause in causes {
+            if cause.word() == word {
+                return Some(cause);
+            }
+        }
+        None
     }
 }
 
