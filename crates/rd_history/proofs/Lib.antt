@@ -4,3 +4,4 @@ pub mod BaseLemmas
 pub mod ReadBack
 pub mod LineLemmas
 pub mod LineEntries
+pub mod ReadingLemmas

@@ -1,5 +1,5 @@
 -- A value whose objects have their keys in order is read back from its text; its numbers may have a sign.
-use Rattle.std.proofs.Common.{◌≡◌, ◌∙◌, ◌≤◌, ◌<◌, ◌^◌, ℕ, zero, suc, ℤ, pos, negsuc, List, [], false, Some, ap, append-nil, arith, max, option_and_then, option_map, refl, sym}
+use Rattle.std.proofs.Common.{◌≡◌, ◌∙◌, ◌≤◌, ◌<◌, ◌^◌, ℕ, zero, suc, ℤ, pos, negsuc, [], false, Some, ap, append-nil, arith, option_and_then, option_map, refl, sym}
 use Rattle.json.specs.Json as json
 use Rattle.json.specs.Lex.{tokens}
 use Rattle.json.specs.Tree as tree

@@ -1,8 +1,7 @@
 -- What a list of entries tells.
-use Rattle.std.proofs.Common.{◌≡◌, ◌∙◌, ℕ, List, [], ◌∷◌, ◌++◌, ap, refl, sym}
+use Rattle.std.proofs.Common.{◌≡◌, ◌∙◌, List, [], ◌∷◌, ◌++◌, ap, refl}
 use Rattle.rd_history.specs.Laws.{BasesForget, MayBeVoid, VoidsTakeBack}
-use Rattle.rd_history.specs.Standings.{NOTHING, Standing, changed, standing_after, step, told, told_after}
-use Rattle.rd_history.specs.declared.entry.Cause.{Cause}
+use Rattle.rd_history.specs.Standings.{NOTHING, Standing, step, told, told_after}
 use Rattle.rd_history.specs.declared.entry.Change.{Change}
 use Rattle.rd_history.specs.declared.entry.Change.TheVariants.{Begin, Deed, Image, Rule, DropRule, Key, DropKey, Void}
 use Rattle.rd_history.specs.declared.entry.Entry.{Entry}

@@ -3,6 +3,7 @@
 pub mod Entries
 pub mod Changes
 pub mod Lines
+pub mod Reading
 pub mod Standings
 pub mod Chains
 pub mod Laws

@@ -6,10 +6,12 @@ mod chain;
 mod change;
 mod entry;
 mod laws;
+mod reading;
 mod writing;
 
 pub use chain::next_sum;
 pub use change::change_of;
 pub use entry::{Cause, Change, Entry, LAST_NUMBER};
 pub use laws::{bases_tell, lines_are_entries, one_chain, voids_take_back};
+pub use reading::read_line;
 pub use writing::line;
