@@ -53,18 +53,21 @@ export function whoNow() {
   return { name: name.value.trim(), reason: reason.value.trim() };
 }
 
+// Goes up where a change is sent, and where it ends: what was asked for at a lower count may be older than the change.
+export let changeCount = 0;
+
 // Whether the reason that stands there has gone out with a change that is done: the next change has one of its own.
 let isSpent = false;
 
 // What is not done yet keeps its reason.
-export function keepReason() {
-  isSpent = false;
-}
+export const keepReason = () => (isSpent = false);
 
 export async function changed(method, path, body) {
   const { name, reason } = whoNow();
   const headers = { ...fields(), "Desk-Staff": sentWords(name), "Desk-Note": sentWords(reason) };
-  const said = await askObject(path, { method, body, headers }).catch((fault) => {
+  changeCount += 1;
+  const sent = askObject(path, { method, body, headers }).finally(() => (changeCount += 1));
+  const said = await sent.catch((fault) => {
     throw fault instanceof Refused ? Object.assign(fault, { isOfChange: true }) : fault;
   });
   isSpent = true;
@@ -76,9 +79,7 @@ export async function send(method, path, body) {
   if (said.done !== true) throw new TypeError("it is not done");
 }
 
-export function show(name, ...parts) {
-  part(name).querySelector(".result").replaceChildren(...parts);
-}
+export const show = (name, ...parts) => part(name).querySelector(".result").replaceChildren(...parts);
 
 export const paragraph = (words) => (words instanceof Node ? words : dated("p", words, { className: "callout" }));
 

@@ -2,7 +2,7 @@
 import { nameCell } from "./lists.js";
 import { askObject, box, cell, counted, element, part, row, table } from "./shared.js";
 import { checkWords, checked, surveyed } from "./staff.checks.js";
-import { button, change, dated, formOf, readHeld, rulesOf, showsAnew } from "./staff.desk.js";
+import { button, change, dated, formOf, readHeld, refusedWork, rulesOf, showsAnew } from "./staff.desk.js";
 import { COLUMNS as CHANGES, changeRow } from "./staff.journal.js";
 import { audienceCounts } from "./staff.forecast.js";
 import { SINCE, originsOf, sinceWords, standingDisk, standingRule } from "./staff.origins.js";
@@ -11,8 +11,8 @@ import { SAVE_FIRST, rehearsalDays, rehearsed } from "./staff.rehearsal.js";
 import { makeRuleForm, ruleIn } from "./staff.ruleform.js";
 import { putMany } from "./staff.rules.js";
 import { saveTable } from "./staff.saved.js";
-import { COLUMNS, EFFECT_AT, SAVED_HEADS, UNSAID, byWhichRules, effectOf, mayWords } from "./staff.verdicts.js";
-import { nameOf, namesOf, ruleShown, savedVerdict, verdictsOf } from "./staff.verdicts.js";
+import { COLUMNS, EFFECT_AT, SAVED_HEADS, UNSAID, askedWords, byWhichRules, effectOf } from "./staff.verdicts.js";
+import { mayWords, nameOf, namesOf, ruleShown, savedVerdict, verdictsOf } from "./staff.verdicts.js";
 import { AUDIENCES, PUT, RULES, UNREAD, listed, momentNow, newRuleWords, ruleTexts } from "./staff.words.js";
 import { ruleWords, today } from "./staff.words.js";
 import { noteOf, titleOf } from "./titles.js";
@@ -24,23 +24,30 @@ const MOST_CHANGES = 20;
 let shown = null;
 const frames = { about: box("div", ""), files: box("div", ""), rules: box("div", "") };
 
-// Reads the disk anew, and shows it: what is known of it at once, then who gets what of it, and what the journal says.
-async function readDisk(accession, tools) {
+// Reads a disk anew, and shows it: what is known of it at once, then who gets what of it, and what the journal says.
+async function readDisk(accession, tools, show = showDisk) {
   const survey = await askObject(`/images/${accession}/survey`, { signal: tools.signal });
   for (const what of ["deeds", "takedowns", "checks"]) await readHeld(what, tools.signal);
   const asked = { day: today(), rules: byWhichRules(today()), moment: momentNow() };
   const things = [{ ...standingDisk(survey), origin: UNREAD }, ...decidingRules(survey)];
-  shown = { survey, things, files: [], asked };
-  draw(null);
-  frames.files.replaceChildren(element("p", "Who gets what of it is not read yet."));
-  shown.files = await verdictsOf(survey, asked.day, tools);
-  shown.names = namesOf(shown.files);
-  drawFiles();
+  const disk = { survey, things, files: [], asked };
+  show(disk);
+  disk.files = await verdictsOf(survey, asked.day, tools);
+  disk.names = namesOf(disk.files);
+  show(disk);
   const { told, changes } = await originsOf(things, tools);
   things.forEach((thing, at) => Object.assign(thing, told[at]));
-  shown.changes = changes;
-  for (const span of frames.files.querySelectorAll(".since")) span.textContent = ` ${sinceOf(span.dataset.label)}`;
-  draw(changes);
+  disk.changes = changes;
+  show(disk);
+  return disk;
+}
+
+// What is ticked stays where only the journal comes.
+function showDisk(disk) {
+  shown = disk;
+  draw();
+  if (!disk.changes) drawFiles();
+  for (const one of frames.files.querySelectorAll(".since")) one.textContent = ` ${sinceOf(disk, one.dataset.label)}`;
 }
 
 // All rules that decide on a disk, in the order in which the desk tries them.
@@ -54,7 +61,7 @@ function decidingRules({ accession, deed }) {
 }
 
 // Since when a rule lets a file be read.
-const sinceOf = (label) => (shown.changes ? sinceWords(shown.survey, shown.things, label, shown.changes) : UNREAD);
+const sinceOf = ({ survey, things, changes }, label) => (changes ? sinceWords(survey, things, label, changes) : UNREAD);
 
 // The rule that decides, and, of a file that can be read, a place for since when.
 function ruleParts(record, audience) {
@@ -97,53 +104,66 @@ function journalParts({ accession, deed }, changes) {
   return [element("h2", "The latest changes of the disk and its deed"), ...made, box("p", "", link)];
 }
 
-// Shows what is known of the disk; of the changes null where they are not read yet.
-function draw(changes) {
-  const { survey, things } = shown;
-  const [disk, ...rules] = things;
-  const { accession } = survey;
+// Shows what is known of the disk, and of its changes where they are read.
+function draw() {
+  const { survey, things, changes } = shown;
+  const [[disk, ...rules], { accession }] = [things, survey];
   const title = [titleOf(accession), noteOf(accession)].filter(Boolean).join("; ") || "none";
   const about = surveyed(survey, { Title: title, "Taken in": disk.origin });
   const press = () => change("disk", () => checked(accession, "disk"));
-  frames.about.replaceChildren(about, checkWords(accession), button("Check it", press, { disabled: changes === null }));
+  frames.about.replaceChildren(about, checkWords(accession), button("Check it", press, { disabled: !changes }));
   const heading = element("h2", "The rules, in their order: the first that matches decides");
   const words = "Each says when it was put itself, not since when files have been open or closed.";
   frames.rules.replaceChildren(heading, element("p", words), rulesTable(rules), ...journalParts(survey, changes ?? []));
 }
 
 function drawFiles() {
-  const { files, asked } = shown;
+  const { files, names, asked } = shown;
+  if (!names) return frames.files.replaceChildren(element("p", "Who gets what of it is not read yet."));
   const columns = ["Take down", "Slot", "Name", "Type", "Bytes", ...Object.values(AUDIENCES)];
   const counts = audienceCounts((who, effect) => files.filter((record) => effectOf(record, who) === effect).length);
   frames.files.replaceChildren(
     dated("h2", `Who gets what on ${asked.day}`),
     box("ul", "", ...counts.map((text) => element("li", text))),
-    element("p", SINCE),
+    dated("p", `${askedWords(asked)} ${SINCE}`),
     files.length ? table("files", columns, files.map(fileRow)) : element("p", "It has no file."),
-    button("Save who gets what as CSV", saveShown),
+    button("Save who gets what as CSV", () => saveDisk(shown)),
   );
   part("ticked").hidden = files.length === 0;
 }
 
-// Saves who gets what of the disk, what the rule says that decides, and who put it.
-function saveShown() {
-  const { survey, things, files, asked } = shown;
+// Saves who gets what of a disk, what the rule says that decides, and who put it; gives the name of the file.
+function saveDisk(disk, more = "") {
+  const { survey, things, files, names, asked } = disk;
   const deciding = (label) => {
     const found = things.find((one) => one.label === label);
-    return found ? [ruleWords(found.rule, shown.names), found.origin] : ["", ""];
+    return found ? [ruleWords(found.rule, names), found.origin] : ["", ""];
   };
   const rowOf = ([file, who]) => {
     const label = file[EFFECT_AT[who] + 1];
-    const since = effectOf(file, who) === "read" ? sinceOf(label) : "";
+    const since = effectOf(file, who) === "read" ? sinceOf(disk, label) : "";
     return [...savedVerdict(file, who, asked), ...deciding(label), since];
   };
   const items = files.flatMap((record) => Object.keys(AUDIENCES).map((audience) => [record, audience]));
   const { accession, deed, donor, signed } = survey;
   const whose = `under deed ${deed} of ${donor}, signed on ${signed}; taken in: ${things[0].origin}`;
-  const all = `It has all ${counted(files.length, "file")}. ${SINCE} ${UNSAID}`;
+  const all = `It has all ${counted(files.length, "file")}. ${askedWords(asked)}${more} ${SINCE} ${UNSAID}`;
   const about = `Who gets what of disk ${accession}, ${whose}. ${all}`;
   const heads = [...SAVED_HEADS, "what the rule says", PUT.toLowerCase(), "since when"];
-  return saveTable(`disk-${accession}-${asked.day}`, about, heads, items, rowOf);
+  return saveTable(`disk-${accession}-${asked.day}-asked`, asked.moment, about, heads, items, rowOf);
+}
+
+// What saves, before a question is answered, who gets what of the disk as the desk says now, and what says so.
+function saveFirst(question, tools) {
+  const [said, go] = [element("div", "", { role: "status" }), part("sure").querySelector("[value=go]")];
+  const save = (disk) => saveDisk(disk, ` It is what stood before an answer to: \u201c${question}\u201d`);
+  const press = async () => {
+    [go.disabled, said.textContent] = [true, "Asking the desk."];
+    const saved = readDisk(shown.survey.accession, tools, () => {}).then(save);
+    said.replaceChildren(await saved.then((name) => `Saved: ${name}`).catch(refusedWork));
+    go.disabled = false;
+  };
+  return box("div", "choices", button(SAVE_FIRST, press), said);
 }
 
 // Puts a takedown of each file that is ticked, at a free rank, once all are rehearsed and agreed to.
@@ -163,7 +183,7 @@ async function takeDown(records, tools) {
   const words = `Take down ${counted(commands.length, "file")} of disk ${accession} for ${whom}?`;
   const notes = commands.map(({ name, rank, rule }) => `${name}, at rank ${rank}: ${newRuleWords(rule)}.`);
   const asked = { words, notes, commands, days: rehearsalDays(commands[0].rule), isTakedown: true, go: "Take down" };
-  asked.first = [box("div", "choices", button(SAVE_FIRST, saveShown))];
+  asked.first = [saveFirst(words, tools)];
   if ((await rehearsed(asked, tools)).length === 0) return "Nothing is taken down.";
   const isOf = (one, { rank, select }) => rank === one.rank && select.slot === one.slot;
   const stands = (one) => rulesOf("takedowns", accession).some((rule) => isOf(one, rule));
@@ -172,7 +192,7 @@ async function takeDown(records, tools) {
   const said = () => `These stand: ${those(commands.filter(stands))}. These do not: ${those(commands.filter(not))}.`;
   const cells = ({ slot, name, rank }) => [accession, slot, name, rank].map(String);
   const more = { after: (how) => readDisk(accession, how), more: said, heads: ["Disk", "Slot", "File", "Rank"], cells };
-  return putMany("disk", commands, more, tools);
+  return putMany("disk", commands, { ...more, of: `disk-${accession}` }, tools);
 }
 
 export async function open(accession, tools) {

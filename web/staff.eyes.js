@@ -2,24 +2,24 @@
 import { longTable, nameCell } from "./lists.js";
 import { searchText } from "./names.js";
 import { box, cell, counted, element, kindWords, part, row } from "./shared.js";
-import { dated, diskCell, formOf, work } from "./staff.desk.js";
+import { changeCount, dated, diskCell, formOf, work } from "./staff.desk.js";
 import { limitFields, options } from "./staff.ruleform.js";
 import { countWords } from "./staff.forecast.js";
 import { pastOf } from "./staff.origins.js";
 import { saveTable } from "./staff.saved.js";
-import { COLUMNS, EFFECT_AT, SAVED_HEADS, UNSAID, byWhichRules, effectOf, mayWords, onDay } from "./staff.verdicts.js";
-import { readVerdicts, ruleShown, savedVerdict } from "./staff.verdicts.js";
+import { COLUMNS, EFFECT_AT, SAVED_HEADS, UNSAID, askedWords, byWhichRules, effectOf } from "./staff.verdicts.js";
+import { mayWords, onDay, readVerdicts, ruleShown, savedVerdict } from "./staff.verdicts.js";
 import { AUDIENCES, momentNow, today } from "./staff.words.js";
 import { inParts, keeper } from "./stream.js";
 import { isTitled } from "./titles.js";
 
 // The verdicts of the day that was read last, by which rules and when they were asked, and what is known of a past day;
-// behind each the text to look in.
-let seen = { day: "", files: [] };
+// behind each the text to look in. No files where the page shows none.
+let seen = { day: "", files: null };
 const SEARCHED = 15;
 
 async function read(day, tools) {
-  const asked = { day, words: onDay(day), rules: byWhichRules(day), moment: momentNow() };
+  const asked = { day, words: onDay(day), rules: byWhichRules(day), moment: momentNow(), changeCount };
   asked.name = day === today() ? day : `${day}-by-the-rules-of-${today()}`;
   const [files, once] = [[], keeper()];
   const searchOf = keeper((kind) => keeper((name) => searchText(kind, name)));
@@ -46,8 +46,8 @@ function wanted() {
   return { audience: audience.value, words: words.value.trim().toLowerCase(), showsClosed: closed.checked };
 }
 
-// The files to show: those that are found, and of the closed ones only where they are asked for; words for which these
-// are; and of all files, how many there are of each effect.
+// The files to show: those that are found, and of the closed ones only where they are asked for; of which disk, if all
+// are of one; words for which these are; and of all files, how many there are of each effect.
 async function lookThrough({ audience, words, showsClosed }, all) {
   const isFound = finder(words, audience);
   const counts = { read: 0, list: 0, deny: 0 };
@@ -63,20 +63,19 @@ async function lookThrough({ audience, words, showsClosed }, all) {
   await inParts(all, (some) => some.forEach(take));
   const by = words && `, found by \u201c${words}\u201d`;
   const more = left ? `; ${left.toLocaleString("en")} more, closed to them, left out` : "";
-  const which = `${files.length.toLocaleString("en")} of ${counted(all.length, "file")}${by}${more}.`;
-  return { files, counts, which };
+  const [disk, ...others] = new Set(files.map((file) => file[COLUMNS.accession]));
+  const of = disk && others.length === 0 ? ` of disk ${disk}` : "";
+  const only = of && `, only${of}, which has ${all.filter((file) => file[COLUMNS.accession] === disk).length}`;
+  const which = `${files.length.toLocaleString("en")} of ${counted(all.length, "file")}${by}${only}${more}.`;
+  return { files, counts, of, which };
 }
 
 function fileRow(file, audience) {
-  return row([
-    diskCell(file[COLUMNS.accession]),
-    cell("Kind", kindWords(file[COLUMNS.kind])),
-    cell("Slot", file[COLUMNS.slot], "number"),
-    nameCell(file[COLUMNS.kind], file[COLUMNS.name]),
-    cell("Type", file[COLUMNS.type]),
-    cell("They may", mayWords(file, audience, seen)),
-    cell("Rule", box("span", "", `${file[EFFECT_AT[audience] + 1]} `, ruleShown(file, audience))),
-  ]);
+  const [kind, name, slot] = [file[COLUMNS.kind], file[COLUMNS.name], cell("Slot", file[COLUMNS.slot], "number")];
+  const cells = [diskCell(file[COLUMNS.accession]), cell("Kind", kindWords(kind)), slot, nameCell(kind, name)];
+  const rule = box("span", "", `${file[EFFECT_AT[audience] + 1]} `, ruleShown(file, audience));
+  const may = cell("They may", mayWords(file, audience, seen));
+  return row([...cells, cell("Type", file[COLUMNS.type]), may, cell("Rule", rule)]);
 }
 
 // How often the files were drawn: what was asked for later goes before what has not come yet.
@@ -92,7 +91,8 @@ async function draw() {
   const columns = ["Disk", "Kind", "Slot", "Name", "Type", "They may", "Rule"];
   const made = files.length ? [longTable("verdicts", columns, files, (file) => fileRow(file, asked.audience))] : [];
   const heading = dated("h2", `What ${AUDIENCES[asked.audience]} gets ${seen.words}`);
-  const words = [countWords(asked.audience, (effect) => counts[effect]), `Shown: ${which}`, seen.past ?? []].flat();
+  const shown = `Shown: ${which} ${askedWords(seen)}`;
+  const words = [countWords(asked.audience, (effect) => counts[effect]), shown, seen.past ?? []].flat();
   stands.replaceChildren(heading, ...words.map((text) => dated("p", text)), ...made);
   stands.setAttribute("aria-busy", "false");
   part("eyes").querySelector(".found").hidden = false;
@@ -100,11 +100,12 @@ async function draw() {
 
 async function saveShown() {
   const [asked, mine] = [wanted(), seen];
-  const { files, which } = await lookThrough(asked, mine.files);
-  const name = `${asked.audience}-${mine.name}-${files.length}-of-${mine.files.length}-files`;
-  const who = AUDIENCES[asked.audience];
-  const about = [`What ${who} gets ${mine.words}: ${which} It is for ${who} alone.`, mine.past ?? [], UNSAID].flat();
-  return saveTable(name, about.join(" "), SAVED_HEADS, files, (file) => savedVerdict(file, asked.audience, mine));
+  const { files, of, which } = await lookThrough(asked, mine.files);
+  const [who, counts] = [AUDIENCES[asked.audience], `${files.length}-of-${mine.files.length}-files`];
+  const name = `who-sees-what-${asked.audience}${of.replaceAll(" ", "-")}-${mine.name}-${counts}-asked`;
+  const what = `What ${who} gets ${mine.words}: ${which} ${askedWords(mine)} It is for ${who} alone.`;
+  const about = [what, mine.past ?? [], UNSAID].flat().join(" ");
+  return saveTable(name, mine.moment, about, SAVED_HEADS, files, (file) => savedVerdict(file, asked.audience, mine));
 }
 
 async function look(tools) {
@@ -113,8 +114,14 @@ async function look(tools) {
   return `Read: what everybody gets ${seen.words}.`;
 }
 
-export function open() {
-  formOf("eyes").elements.day.value = today();
+// Opens the view with the day that is shown. What stood before a change goes, and the desk is asked anew.
+export function open(_, tools) {
+  formOf("eyes").elements.day.value = seen.day || today();
+  if (!seen.day || seen.changeCount === changeCount) return null;
+  seen.files = null;
+  part("eyes").querySelector(".stands").replaceChildren();
+  part("eyes").querySelector(".found").hidden = true;
+  return look(tools);
 }
 
 export function listen() {
@@ -123,7 +130,7 @@ export function listen() {
   limitFields(form);
   options(audience, AUDIENCES);
   form.addEventListener("submit", () => work("eyes", look));
-  const redraw = () => seen.day && draw();
+  const redraw = () => seen.files && draw();
   [audience, closed, words].forEach((field) => field.addEventListener("change", redraw));
   words.addEventListener("keydown", (event) => {
     if (event.key !== "Enter") return;

@@ -169,9 +169,9 @@ async function saveShown() {
   const { shown, which } = found(formOf("journal").elements);
   const [since, of] = [changes.at(-1)?.moment.slice(0, 10), disk.accession && `-of-disk-${disk.accession}`];
   const counts = `${shown.length}-of-${changes.length}-changes`;
-  const name = `journal${of}-${today()}-${counts}${since ? `-back-to-${since}` : ""}`;
+  const name = `journal${of}-${counts}${since ? `-back-to-${since}` : ""}-asked`;
   const about = `The journal, read at ${readAt}: ${summary()} Here: ${which}. ${UNSAID}`;
-  return saveTable(name, about, HEADS, shown, savedRecord);
+  return saveTable(name, readAt, about, HEADS, shown, savedRecord);
 }
 
 // Shows the journal, of one disk where its number is given, and else all.

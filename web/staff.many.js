@@ -3,7 +3,7 @@ import { longTable } from "./lists.js";
 import { Refused, box, cell, counted, element, explainRefusal, refusalName, row } from "./shared.js";
 import { button, change, diskCell, isUnsure, keepReason, older, whoNow } from "./staff.desk.js";
 import { saveTable } from "./staff.saved.js";
-import { momentNow, today } from "./staff.words.js";
+import { momentNow } from "./staff.words.js";
 
 const DONE = "done";
 
@@ -28,6 +28,7 @@ const outcomeOf = ({ problem, outcome }) => (outcome === DONE ? DONE : problem |
 // and may have words: `said` in the place of how many are done, `more` where not all are.
 export async function sendMany(run, { progress, signal }) {
   const left = run.items.filter((item) => !isOver(item));
+  run.begun = momentNow();
   for (const [at, item] of left.entries()) {
     if (signal.aborted) break;
     progress("Sending", at, left.length);
@@ -68,9 +69,9 @@ function report(run, isOlder) {
   return box("div", "report", summary(run), table, more, buttons, isOlder ? older(run.section) : null);
 }
 
-function saveReport({ section, items, heads, cells }) {
+function saveReport({ section, of = section, begun, items, heads, cells }) {
   const columns = [...heads.map((head) => head.toLowerCase()), "outcome", "by", "reason", "tried at"];
   const recordOf = (item) => [...cells(item), outcomeOf(item) || "not sent", ...(item.who ?? ["", "", ""])];
   const about = "What was to be sent, and what became of it. It does not say what stands since.";
-  return saveTable(`${section}-report-${today()}`, about, columns, items, recordOf);
+  return saveTable(`${of}-report-of`, begun, about, columns, items, recordOf);
 }

@@ -1,12 +1,14 @@
-// Tables that the page saves. Each row says by itself whose it is, what the table has, and what it does not say.
+// Tables that the page saves. Each row says by itself whose it is, what the table has, and what it does not say; the
+// name of the file says at which moment the page asked for it.
 import { holder } from "./about.js";
 import { csvText } from "./csv.js";
 import { inParts, save } from "./stream.js";
 
-export async function saveTable(name, about, heads, items, recordOf) {
+export async function saveTable(name, moment, about, heads, items, recordOf) {
   const said = [holder() || "(the museum's name was not found)", about];
   const texts = [csvText([["museum", "this table", ...heads], ...(items.length ? [] : [said])])];
   await inParts(items, (some) => texts.push(csvText(some.map((one) => [...said, ...recordOf(one)]))));
-  const moment = new Date().toISOString().slice(0, 19).replaceAll(":", "");
-  save(`${name}-saved-${moment}Z.csv`, texts, "text/csv");
+  const file = `${name}-${moment.slice(0, 19).replaceAll(":", "")}Z.csv`;
+  save(file, texts, "text/csv");
+  return file;
 }

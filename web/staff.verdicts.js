@@ -85,6 +85,7 @@ export function byWhichRules(day) {
 
 export const onDay = (day) => `on ${day}${day === today() ? "" : `, ${byWhichRules(day)}`}`;
 
+export const askedWords = ({ moment: at }) => `The desk was asked on ${at.slice(0, 10)} at ${at.slice(11, 19)} UTC.`;
 export const UNSAID = "It does not say who has read or copied a file, nor what stands on other days.";
 export const SAVED_HEADS = [
   ...["day", "by which rules", "asked at", "audience", "they may", "because", "rule", "rule in words"],

@@ -19,12 +19,10 @@ HEAD, BODY = DEED_10[: DEED_10.index(b"{")], compact(DEED)
 LONGEST_HEAD = with_fields("A: " + "b" * (8192 - len(with_fields("A: "))))
 
 # The parts that a client sends with a pause between them, whether it then ends its sending, and the reply.
-PARTS = {
-    "a head in two parts": ([QUESTION[:30], QUESTION[30:]], False, RECORD),
+PARTS = {"a head in two parts": ([QUESTION[:30], QUESTION[30:]], False, RECORD),
     "the longest head, its last byte after a pause": ([LONGEST_HEAD[:-1], b"\n"], False, RECORD),
     "the longest body": ([with_fields("Content-Length: 262144") + bytes(262144)], False, RECORD),
-    "a deed after a question": ([QUESTION + DEED_10], False, RECORD),
-    "no byte": ([], True, BAD_HEAD),
+    "a deed after a question": ([QUESTION + DEED_10], False, RECORD), "no byte": ([], True, BAD_HEAD),
     "a head and half a body": ([HEAD + BODY[:20]], True, FRAMING),
     "a body in two parts": ([HEAD + BODY[:20], BODY[20:]], False, DONE),
     "a head, then its body, and an end": ([HEAD, BODY], True, DONE)}

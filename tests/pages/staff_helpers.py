@@ -4,6 +4,7 @@ import csv
 import datetime
 
 from support import museums
+from support.browser import TODAY
 from support.samples import compact
 
 CANNOT_REACH = "This page cannot reach the desk. Check the connection, and try again."
@@ -21,8 +22,7 @@ const type = (text) => Object.assign(field, { value: text }).dispatchEvent(new E
 return texts.filter((text) => type(text) && field.checkValidity());"""
 
 def put_deed(staff, deed="35", donor="F. Founder"):
-    staff.fill("deeds", deed=deed, donor=donor, signed="1999-12-31")
-    return staff.submit("deeds")
+    return staff.fill("deeds", deed=deed, donor=donor, signed="1999-12-31").submit("deeds")
 
 takedown = lambda rank, slot: {rank: museums.rule(rank, "deny", ("public", "room"), {"slot": slot})}
 
@@ -33,9 +33,10 @@ def lost_at(number, stays=False):
     is_lost = lambda: sum(came) >= number and (stays or came[-1] and sum(came) == number)
     return lambda method, path: take(method, path) or (b"" if is_lost() else None)
 
-def saved_table(page, name):
-    """The records of a table that the page saved, by the beginning of its name; the moment stands behind it."""
-    return list(csv.reader(page.saved(f"{name}-saved-*Z.csv").decode().splitlines()))
+def saved_table(page, name, button="Save what is shown as CSV"):
+    """The records of a table that a button saves, by its name up to the moment at which the page asked for it."""
+    page.push(button)
+    return list(csv.reader(page.saved(f"{name}-{TODAY}T12*Z.csv").decode().splitlines()))
 
 def moment(at):
     return datetime.datetime.fromtimestamp(at, datetime.timezone.utc).strftime("%Y-%m-%dT%H:%M:%S+00:00")

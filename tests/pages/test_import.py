@@ -79,8 +79,7 @@ def test_dumps_of_a_sheet_are_found_compared_and_put(museum, staff, choose):
     wanted = {disk: says or "done" for disk, _, says in FOUND.values()} | {"2007": NO_DEED}
     others = zip(*(staff.texts(f"#disks .result td:{at}-child") for at in ("first", "last")))
     assert dict(others) == {disk: says for disk, says in wanted.items() if says != "done"}, "what is not done"
-    staff.push("Save the report")
-    rows = [row[2:] for row in saved_table(staff, f"disks-report-{TODAY}")]
+    rows = [row[2:] for row in saved_table(staff, "disks-report-of", "Save the report")]
     assert {row[0]: row[5] for row in rows[1:]} == wanted, "a report says nothing of what was left out"
     assert rows[0] == [*"accession kind deed sha-256 file outcome by reason".split(), "tried at"]
     assert rows[4][:8] == ["2007", "cpm8", "99", digest(RECORD), "'=1+1", NO_DEED, "Ada Archivist", "a letter of today"]

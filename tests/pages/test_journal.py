@@ -72,8 +72,7 @@ def test_what_is_looked_for_is_found_and_saved_without_a_formula(staff):
         staff.fill("journal", **{"accession": "", "deed": "", "words": "", "day": "", "checks": False, **typed})
         shown = staff.read()
         assert (shown["rows"], int(shown["stands"][1].split()[1])) == (rows_of(*found), len(found)), typed
-    staff.push("Save what is shown as CSV")
-    heads, *records = saved_table(staff, f"journal-of-disk-1002-{TODAY}-3-of-11-changes-back-to-{moment(START)[:10]}")
+    heads, *records = saved_table(staff, f"journal-of-disk-1002-3-of-11-changes-back-to-{moment(START)[:10]}-asked")
     assert heads[2:] == ["moment", "name", "reason", "of", "what", "outcome", "method", "path", "status", "body"]
     what, path = rows_of(3)[0][2], CHANGES[3][1][1]
     assert (len(records), records[2][3:]) == (3, ["'=1+1", "100%", "disk 1002", what, "done", "PUT", path, "200", ""])
@@ -86,8 +85,7 @@ def test_journal_of_a_disk_has_the_changes_of_its_deed_and_the_names_of_files(st
     shown, named = read(staff, b"".join(lines), place="journal/1002"), HIDDEN.replace(" closed", " (GUIDE) closed")
     words = [f"Put takedown 1 of disk 1002: {named}", f"Put rule 20 of deed 9: {named}"]
     assert [row[2] for row in shown["rows"]] == [words[0], f"Of its deed: {words[1]}"], "a deed's rules stand elsewhere"
-    staff.push("Save what is shown as CSV")
-    _, *rows = saved_table(staff, f"journal-of-disk-1002-{TODAY}-2-of-3-changes-back-to-{moment(START)[:10]}")
+    _, *rows = saved_table(staff, f"journal-of-disk-1002-2-of-3-changes-back-to-{moment(START)[:10]}-asked")
     assert [row[5:7] for row in rows] == [["disk 1002", words[0]], ["deed 9, the deed of disk 1002", words[1]]]
     holds = "Here: 2 changes of these, of disk 1002 and of its deed 9, which decides about it too, without checks"
     assert holds in rows[0][1], "a saved journal says not which lines it has"

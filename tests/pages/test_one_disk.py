@@ -1,7 +1,5 @@
 """One disk on one page: what it is, who gets what by which rules, who put these; takedowns of ticked files."""
 
-import csv
-
 import pytest
 from staff_helpers import CANNOT_REACH, journal_lines, lost_at, moment, saved_table, takedown
 from support import museums
@@ -27,8 +25,8 @@ return [top > -1 && top < innerHeight / 2, document.activeElement.role];"""
 @pytest.fixture
 def disk(staff):
     """The page of disk 1002, of whose deed a journal has the rule."""
-    line = "200", "PUT", "/deeds/9/rules/20", "Ada", "a%20letter", READ
-    staff.door.journals = {"/journal": journal_lines(1, START, *line)}
+    put = journal_lines(1, START, "200", "PUT", "/deeds/9/rules/20", "Ada", "a%20letter", READ)
+    staff.door.journals = {"/journal": put}
     staff.go("disk/1002")
     return staff
 
@@ -48,10 +46,9 @@ def test_disk_says_what_it_is_and_who_gets_what_by_which_rule(museum, disk):
     assert [[row[0], row[5]] for row in rows[3:5]] == [
         ["takedown 1000 of disk 1002 (T1002.1000)", NOT], [f"{BY_DEED} (R9.20)", BY + NOT]]
     assert rows[5][1].startswith("Ada") and rows[5][2].startswith("Of its deed: Put rule 20 of deed 9: all")
-    disk.push("Save who gets what as CSV")
-    saved = list(csv.DictReader(disk.saved(f"disk-1002-{TODAY}-saved-*.csv").decode().splitlines()))
+    heads, *rows = saved_table(disk, f"disk-1002-{TODAY}-asked", "Save who gets what as CSV")
     keys = "day", "audience", "they may", "rule", "what the rule says", PUT, "since when", "name as shown", "size"
-    assert [[one[key] for key in keys] for one in saved[6:9:2]] == [
+    assert [[dict(zip(heads, one))[key] for key in keys] for one in rows[6:9:2]] == [
         [TODAY, "the public", SHUT, "T1002.1000", f"the file at slot 2 (GUIDE) {ALWAYS}", NOT, "", "GUIDE", "532"],
         [TODAY, "the staff", "read it", "R9.20", f"all files readable for {ALL}", BY + NOT, UNKNOWN, "GUIDE", "532"]]
 
@@ -88,8 +85,12 @@ def test_files_ticked_by_their_shown_names_are_taken_down_and_what_stands_after_
     assert disk.answer(False) and disk.set("#ticked [value=room]", False) is None
     assert disk.push("Take down what is ticked")["sure"][0] == due.format("") and disk.answer(False)
     assert disk.set("#ticked [value=room]", True) or disk.push("Take down what is ticked")
-    disk.push("Save what stands now, first")
-    assert str(saved_table(disk, f"disk-1002-{TODAY}")).count("'read it'") == 6, "what was before cannot be saved"
+    museum.rules["T1002"] = takedown(7, 2)
+    _, *saved = saved_table(disk, f"disk-1002-{TODAY}-asked", "Save what stands now, first")
+    assert str(saved).count("'read it'") == 4, "what is saved stood when the page was opened"
+    assert f"It is what stood before an answer to: “{due.format(' and the reading room')}”" in saved[0][1]
+    assert disk.text("#sure [role=status]").startswith(f"Saved: disk-1002-{TODAY}-asked-{TODAY}T12")
+    del museum.rules["T1002"][7]
     disk.door.before = lost_at(2)
     stand = "These stand: Letter (takedown 1000). These do not: GUIDE (takedown 990)."
     assert disk.answer(True)["result"][:2] == ["1 takedown put, 1 failed.", stand]
@@ -99,9 +100,8 @@ def test_files_ticked_by_their_shown_names_are_taken_down_and_what_stands_after_
         assert (shown["result"][0], *disk.script(SEEN)) == ("2 takedowns put, 0 failed.", True, "status")
     assert [row[5] for row in shown["rows"][:3]] == [CLOSED.format(1000), LISTS, CLOSED.format(990)]
     assert "Save the report" not in str(disk.go("disk/1003")["result"]) and disk.go("keys") and disk.go("disk/1002")
-    disk.push("Save the report")
     due = [["1002", slot, name, rank, f"the file at slot {slot} {ALWAYS}", "done"] for name, rank, slot in rules]
-    _, *rows = saved_table(disk, f"disk-report-{TODAY}")
+    _, *rows = saved_table(disk, "disk-1002-report-of", "Save the report")
     assert [row[2:8] for row in rows] == due, "a report says not what was put"
 
 def test_desk_of_an_older_version_tells_of_all_disks_and_no_more_of_them_is_read_than_needed(museum, disk):

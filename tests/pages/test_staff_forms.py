@@ -37,9 +37,7 @@ def test_key_is_left_nowhere_and_is_gone_with_what_was_put(museum, staff, leave)
 
 def test_key_that_is_put_stands_in_no_field_and_no_text(staff):
     staff.go("keys")
-    staff.fill("keys", key=" a secret\t", audience="room")
-    staff.one("#keys [name=seen]").click()
-    staff.submit("keys")
+    staff.fill("keys", key=" a secret\t", audience="room", seen=True).submit("keys")
     assert ("a secret" in staff.script(LEFT), staff.one("#keys [name=key]").get_property("type")) == (False, "password")
     assert [path for _, path, _, _ in staff.door.sent()] == [f"/badges/{digest(b'a secret')}"]
 

@@ -17,11 +17,9 @@ def test_deed_is_put_with_name_and_reason(staff):
     rules += f"20: all files readable for {EVERYBODY}, on all daysRules"
     assert staff.read()["rows"][0] == ["7", "A. Curator", "2019-05-04", "3", rules, "Change"]
     for name, reason in (("", "a reason"), ("Ada", " "), ("Ada", "ü" * 167)):
-        staff.fill("who", name=name, reason=reason)
-        put_deed(staff)
+        put_deed(staff.fill("who", name=name, reason=reason))
         assert staff.door.sent() == [], (name, reason)
-    staff.fill("who", reason="ü" * 166)
-    shown = put_deed(staff, "31", "E. <b>Müller</b>")
+    shown = put_deed(staff.fill("who", reason="ü" * 166), "31", "E. <b>Müller</b>")
     assert staff.door.sent() == [("PUT", "/deeds/31", "Ada", "%C3%BC" * 166)]
     assert (shown["result"], shown["stands"]) == (["Done: deed 31."], ["4 deeds."])
     assert shown["rows"][3] == ["31", "E. <b>Müller</b>", "1999-12-31", "0", "No rule: closed to everybody", "Change"]
@@ -34,8 +32,7 @@ def test_deed_is_replaced_only_when_that_is_agreed(staff):
     stands, then = "It stands: B. Donor, signed on 2020-02-29.", "Then: E. Müller, signed on 2020-02-29."
     for is_agreed, said, donor in ((False, "Kept: deed 8.", "B. Donor"), (True, "Done: deed 8.", "E. Müller")):
         staff.of_row("deed 8", "Change")
-        staff.fill("change", donor="E. Müller")
-        assert staff.push("Put the deed")["sure"] == ["Replace deed 8?", stands, then]
+        assert staff.fill("change", donor="E. Müller").push("Put the deed")["sure"] == ["Replace deed 8?", stands, then]
         who = staff.texts("#sure > p:not(.choices)")
         assert who == ["By Ada Archivist. Reason: a letter of today"], "a question names neither who asks nor why"
         shown = staff.answer(is_agreed)
@@ -48,8 +45,7 @@ def test_rule_is_put_changed_and_dropped(staff):
     assert (shown["result"], shown["rows"]) == (["Done: rule 20 of deed 8."], [["8", *RULE_20]])
     assert shown["hint"].startswith("In use: rule 20 of deed 8 stands, all files readable for")
     staff.of_row("rule 20 of deed 8", "Change")
-    staff.fill("change", effect="list", until="2099-01-01")
-    staff.push("Put it")
+    staff.fill("change", effect="list", until="2099-01-01").push("Put it")
     shown = staff.answer(True)
     changed = ["8", "20", EVERYBODY, "all files", "see their names, not read them", "until 2099-01-01", "ChangeDrop"]
     assert (shown["rows"], shown["focus"]) == ([changed], "result")
@@ -89,14 +85,12 @@ def test_long_list_stays_sorted_and_filtered_when_it_is_read_anew(museum, staff)
 def test_key_is_put_given_away_and_dropped(museum, staff):
     rows = staff.go("keys")["rows"]
     assert [row[3] for row in rows] == ["Give it to the staffDrop", "Give it to the reading roomDrop"]
-    staff.fill("keys", key="another", audience="room")
-    shown = staff.submit("keys")
+    shown = staff.fill("keys", key="another", audience="room").submit("keys")
     assert (shown["result"], shown["stands"]) == ([f"Done: key of the reading room, SHA-256 {OTHER}."], ["3 keys."])
     assert staff.of_row(f"key {OTHER}", "Drop")["sure"] == [f"Drop key with SHA-256 {OTHER}?", NOBODY]
     assert staff.answer(True)["rows"] == rows
     museum.badges[OTHER] = "staff"
-    staff.fill("keys", digest=STAFF.upper())
-    shown = staff.push("Drop the key")
+    shown = staff.fill("keys", digest=STAFF.upper()).push("Drop the key")
     assert shown["sure"] == [f"Drop key with SHA-256 {STAFF}?", NOBODY, "It is the key that you use now."]
     assert staff.answer(False)["result"] == [f"Kept: key with SHA-256 {STAFF}."]
     words = [f"Done: key of the reading room, SHA-256 {STAFF}.", OLDER.format("keys"),

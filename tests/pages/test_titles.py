@@ -44,8 +44,7 @@ def test_titles_for_the_staff_go_before_those_for_all(staff):
     staff.go("eyes")
     staff.push("Look")
     for words, disks in (("company", [mine] * 2), ("ferryman", [])):
-        staff.fill("eyes", words=words, closed=True)
-        assert [row[0] for row in staff.read()["rows"]] == disks
+        assert [row[0] for row in staff.fill("eyes", words=words, closed=True).read()["rows"]] == disks
 
 def test_table_that_is_none_gives_no_titles(tmp_path, reader):
     for text in ("number,title\n1001,x\n", 'accession,title,note\n1001,"x\n'):

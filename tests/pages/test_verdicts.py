@@ -25,10 +25,8 @@ SINCE = "What has changed since then is not known: there is no journal."
 
 def look(staff, day, audience="public", closed=False, words=""):
     staff.go("eyes")
-    staff.fill("eyes", day=day, audience=audience)
-    staff.push("Look")
-    staff.fill("eyes", closed=closed, words=words)
-    return staff.read()
+    staff.fill("eyes", day=day, audience=audience).push("Look")
+    return staff.fill("eyes", closed=closed, words=words).read()
 
 @pytest.mark.parametrize("day", ["2026-06-14", "2030-01-01"])
 def test_each_audience_sees_and_counts_what_the_desk_gives_out(museum, staff, day):
@@ -55,24 +53,41 @@ def test_file_is_found_by_name_disk_or_rule_and_saved_without_formula(museum, st
         shown = look(staff, TODAY, "staff", True, words)
         assert (len(shown["rows"]), int(shown["stands"][1].split()[1])) == (count, count), words
     staff.script(CLOCK % 86_400_000)
-    staff.push("Save what is shown as CSV")
-    _, *rows = saved_table(staff, f"staff-{TODAY}-5-of-19-files")
+    _, *rows = saved_table(staff, f"who-sees-what-staff-of-disk-1066-{TODAY}-5-of-19-files-asked")
+    assert "5 of 19 files, found by “1066”, only of disk 1066, which has 5. The desk was asked on" in rows[0][1]
     assert [row[16] for row in rows] == [name if name[0] != "=" else f"'{name}" for name in museums.HARMFUL]
     words = ["the staff", "read it", "", "R7.20", "rule 20 of deed 7", "1066", "", "7", "d64", "0", "", "../../X"]
     assert (rows[0][3], rows[0][5:]) == (STOOD, [*words, "../../X", "SEQ", "4", ""]), "saved a day after it was asked"
+
+def test_table_has_the_day_of_its_field_and_is_asked_anew_once_something_was_changed(staff):
+    look(staff, DAYS[1], "room", True, "1002")
+    path = f"/staff/verdicts/{DAYS[1]}"
+    staff.door.before = lambda _, at: b"" if is_lost and at == path else None
+    for rank, count, is_lost in ((None, 2, False), ("1", 1, False), ("2", 0, True)):
+        staff.fill("eyes", day=TODAY).go("takedowns")
+        if rank:
+            staff.take_down("1002", rank, "2", "room")
+            staff.answer(True)
+        staff.door.visits.clear()
+        assert [row[5] for row in staff.go("eyes")["rows"]].count("read it") == count, "it stood before a change"
+        assert [at for _, at, _ in staff.door.visits if at == path] == [path] * bool(rank)
+        assert staff.one("#eyes [name=day]").get_property("value") == DAYS[1], "a table under the day of another"
+        assert staff.one("#eyes .found").is_displayed() != is_lost, "what is not shown can be saved"
 
 def test_day_that_is_over_is_said_to_be_by_rules_of_today_and_a_saved_table_says_what_it_has(staff, tmp_path):
     (tmp_path / "about.csv").write_text("name,value\nmuseum,Museum of the River\n")
     staff.load()
     staff.begin()
     for words, count, left in (("1004", 0, 2), ("logbook", 1, 1)):
-        look(staff, "1999-01-01", words=words)
+        shown = look(staff, "1999-01-01", words=words)["stands"][1].removeprefix("Shown: ")
+        only = count * ", only of disk 1003, which has 2"
+        which = f"{count} of 14 files, found by “{words}”{only}; {left} more, closed to them, left out."
+        assert shown[:-10] == f"{which} The desk was asked on {TODAY} at 12:" and shown.endswith(" UTC.")
         heading = f"What the public gets on 1999-01-01, {PAST}"
         assert staff.texts("#eyes .stands h2") == [heading], "a past day looks known"
-        staff.push("Save what is shown as CSV")
-        _, saved = saved_table(staff, f"public-1999-01-01-by-the-rules-of-{TODAY}-{count}-of-14-files")
-        about = f"{heading}: {count} of 14 files, found by “{words}”; {left} more, closed to them, left out."
-        about = f"{about} It is for the public alone. {SINCE} {UNSAID}"
+        name = f"who-sees-what-public{count * '-of-disk-1003'}-1999-01-01-by-the-rules-of-{TODAY}"
+        _, saved = saved_table(staff, f"{name}-{count}-of-14-files-asked")
+        about = f"{heading}: {shown} It is for the public alone. {SINCE} {UNSAID}"
         assert saved[:2] == ["Museum of the River", about], "a saved table looks as if it had all"
     assert (saved[2:4], saved[4][:14]) == (["1999-01-01", PAST], f"{TODAY}T12:")
     assert saved[5:8] == ["the public", EFFECTS["list"], f"{UNSERVED['SEQ']}; {PAST}; {NO_JOURNAL}"]
@@ -122,7 +137,7 @@ def test_timeline_has_the_next_change_first_and_says_what_is_other_on_each_day(m
     says = ". Since then it has: Put rule 4 of deed 9, 2026-06-10 08:00:00+00:00 by Ada: a letter"
     for lines, words in [({"/journal": put}, f", the journal says{says}"), ({}, " is not known: there is no journal")]:
         staff.door.journals = lines
-        staff.fill("timeline", day="2026-06-09") or staff.push("Look at this day")
+        staff.fill("timeline", day="2026-06-09").push("Look at this day")
         none = f"By the rules of {TODAY} nothing is other on that day; what stood then{words}."
         assert staff.texts("#timeline .day > p")[-1] == none, "a day is told as one like today"
     museum.rules["R9"][6] = museums.rule(6, "deny", ["public"], {"slot": 1}, None, "2025-07-01")

@@ -194,8 +194,7 @@ class StaffPage(Page):
         self.one("#key-form button").click()
         self.wait(lambda state: not state["busy"] and "takes this key" in state["status"], "a key that is taken")
         self.script(AGAIN)
-        self.fill("who", name="Ada Archivist", reason="a letter of today")
-        return self
+        return self.fill("who", name="Ada Archivist", reason="a letter of today")
 
     def set(self, selector, value):
         self.script(SET, self.one(selector), value)
@@ -203,6 +202,7 @@ class StaffPage(Page):
     def fill(self, section, **values):
         for name, value in values.items():
             self.set(f"#{section} [name='{name}']", value)
+        return self
 
     def submit(self, section):
         return self.click(f"#{section} > form [type=submit]")
@@ -212,8 +212,7 @@ class StaffPage(Page):
         for name in ("public", "room", "staff"):
             self.set(f"#{section} [value={name}]", name in audiences)
         self.fill(section, scope=scope, rank=rank, effect=effect, how=how, **{"from": start}, until=until)
-        self.fill(section, **({} if what is None else {"what": what}))
-        return self.submit(section)
+        return self.fill(section, **({} if what is None else {"what": what})).submit(section)
 
     def take_down(self, disk, rank, slot, *audiences, **days):
         return self.put_rule("takedowns", disk, rank, "slot", slot, *audiences, **days)
