@@ -2,12 +2,12 @@
 import { nameCell } from "./lists.js";
 import { askObject, box, cell, counted, element, part, row, table } from "./shared.js";
 import { checkWords, checked, surveyed } from "./staff.checks.js";
-import { button, change, dated, formOf, readHeld, refusedWork, rulesOf, showsAnew } from "./staff.desk.js";
+import { button, change, dated, formOf, readHeld, rulesOf, showsAnew } from "./staff.desk.js";
 import { COLUMNS as CHANGES, changeRow } from "./staff.journal.js";
 import { audienceCounts } from "./staff.forecast.js";
 import { SINCE, originsOf, sinceWords, standingDisk, standingRule } from "./staff.origins.js";
 import { freeRank } from "./staff.ranks.js";
-import { SAVE_FIRST, rehearsalDays, rehearsed } from "./staff.rehearsal.js";
+import { rehearsalDays, rehearsed, saveFirst } from "./staff.rehearsal.js";
 import { makeRuleForm, ruleIn } from "./staff.ruleform.js";
 import { putMany } from "./staff.rules.js";
 import { saveTable } from "./staff.saved.js";
@@ -153,18 +153,8 @@ function saveDisk(disk, more = "") {
   return saveTable(`disk-${accession}-${asked.day}-asked`, asked.moment, about, heads, items, rowOf);
 }
 
-// What saves, before a question is answered, who gets what of the disk as the desk says now, and what says so.
-function saveFirst(question, tools) {
-  const [said, go] = [element("div", "", { role: "status" }), part("sure").querySelector("[value=go]")];
-  const save = (disk) => saveDisk(disk, ` It is what stood before an answer to: \u201c${question}\u201d`);
-  const press = async () => {
-    [go.disabled, said.textContent] = [true, "Asking the desk."];
-    const saved = readDisk(shown.survey.accession, tools, () => {}).then(save);
-    said.replaceChildren(await saved.then((name) => `Saved: ${name}`).catch(refusedWork));
-    go.disabled = false;
-  };
-  return box("div", "choices", button(SAVE_FIRST, press), said);
-}
+// Asks the desk for a disk, and saves what it says now.
+export const saveNow = async (accession, more, tools) => saveDisk(await readDisk(accession, tools, () => {}), more);
 
 // Puts a takedown of each file that is ticked, at a free rank, once all are rehearsed and agreed to.
 async function takeDown(records, tools) {
@@ -183,7 +173,7 @@ async function takeDown(records, tools) {
   const words = `Take down ${counted(commands.length, "file")} of disk ${accession} for ${whom}?`;
   const notes = commands.map(({ name, rank, rule }) => `${name}, at rank ${rank}: ${newRuleWords(rule)}.`);
   const asked = { words, notes, commands, days: rehearsalDays(commands[0].rule), isTakedown: true, go: "Take down" };
-  asked.first = [saveFirst(words, tools)];
+  asked.first = saveFirst(accession, words, tools);
   if ((await rehearsed(asked, tools)).length === 0) return "Nothing is taken down.";
   const isOf = (one, { rank, select }) => rank === one.rank && select.slot === one.slot;
   const stands = (one) => rulesOf("takedowns", accession).some((rule) => isOf(one, rule));

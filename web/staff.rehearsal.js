@@ -1,7 +1,7 @@
 // What a change of rules would open and what it would close, for whom and on which days, before it is made.
 import { shownName } from "./names.js";
-import { box, counted, element } from "./shared.js";
-import { dated, sure } from "./staff.desk.js";
+import { box, counted, element, loaded, part } from "./shared.js";
+import { button, dated, refusedWork, sure } from "./staff.desk.js";
 import { COLUMNS, given, readVerdicts, verdictsOf } from "./staff.verdicts.js";
 import { EFFECTS, audienceWords, dayAfter, isOnNoDay, listed, today } from "./staff.words.js";
 import { readTable } from "./stream.js";
@@ -144,8 +144,19 @@ export function dayParts({ words, groups, past, none }, before) {
   return [heading, ...groups.flatMap((group) => groupParts(group, past))];
 }
 
-// What saves the table of a disk before a change of it: afterwards nobody can have it.
-export const SAVE_FIRST = "Save what stands now, first";
+// A button that saves who gets what of a disk, as the desk says now, before a question is answered, and what says so:
+// afterwards nobody can have it. While it saves, the answer cannot be yes.
+export function saveFirst(accession, question, tools) {
+  const [said, go] = [element("div", "", { role: "status" }), part("sure").querySelector("[value=go]")];
+  const words = ` It is what stood before an answer to: \u201c${question}\u201d`;
+  const press = async () => {
+    [go.disabled, said.textContent] = [true, "Asking the desk."];
+    const saved = loaded(import("./staff.disk.js")).then(({ saveNow }) => saveNow(accession, words, tools));
+    said.replaceChildren(await saved.then((name) => `Saved: ${name}`).catch(refusedWork));
+    go.disabled = false;
+  };
+  return [box("div", "choices", button("Save what stands now, first", press), said)];
+}
 
 // Shows what commands would change, and asks whether to send them. Gives those to send, none where the answer is no.
 export async function rehearsed({ words, notes, first = [], commands, days, isTakedown, go }, tools) {

@@ -1,6 +1,6 @@
 // Rules of deeds, and takedowns: the forms that put and change them, and the tables of those that stand.
 import { listTable } from "./lists.js";
-import { box, cell, counted, element, loaded, part, row } from "./shared.js";
+import { cell, counted, element, loaded, part, row } from "./shared.js";
 import { buttonsCell, change, dated, diskCell, formOf, readHeld, rulesOf, send } from "./staff.desk.js";
 import { showChange, shownAnew, showsAnew, standing } from "./staff.desk.js";
 import { MOST_DISKS, accessionsIn, placeOf } from "./staff.ranks.js";
@@ -31,10 +31,10 @@ async function put(name, scopes, typedRank, rule, tools) {
   const words = placesWords(name, places);
   const replaced = places.flatMap((place) => place.replaced ?? []);
   const notes = [`${capital(newRuleWords(rule))}.`, ...placeNotes(places)];
-  const { SAVE_FIRST, rehearsalDays, rehearsed } = await rehearsals();
+  const { rehearsalDays, rehearsed, saveFirst } = await rehearsals();
   const days = rehearsalDays(rule, replaced);
   const asked = { words: `Put ${words}?`, notes, commands, days, isTakedown: name === "takedowns", go: "Put it" };
-  if (places.length === 1) asked.first = firstParts(name, scopes[0], SAVE_FIRST);
+  if (name === "takedowns" && places.length === 1) asked.first = saveFirst(scopes[0], asked.words, tools);
   const agreed = await rehearsed(asked, tools);
   if (agreed.length === 0) return `Not put: ${words}.`;
   const cells = (one) => [String(one.scope), String(one.rank)];
@@ -57,10 +57,6 @@ export async function putMany(section, commands, { heads, cells, ...more }, tool
   return sendMany(run, tools);
 }
 
-// Before a change on one disk: the way to the page that saves who gets what of it.
-const firstParts = (name, scope, words) =>
-  name === "takedowns" ? [box("div", "choices", element("a", words, { href: `#/disk/${scope}` }))] : [];
-
 const capital = (words) => words[0].toUpperCase() + words.slice(1);
 
 function placesWords(name, places) {
@@ -81,9 +77,9 @@ async function drop(name, scope, rule, tools) {
   const said = words(scope, rule.rank);
   const commands = [{ scope, rank: rule.rank, method: "DELETE", path: path(scope, rule.rank) }];
   const notes = [`It stands: ${ruleWords(rule)}.`];
-  const { SAVE_FIRST, rehearsalDays, rehearsed } = await rehearsals();
-  const first = firstParts(name, scope, SAVE_FIRST);
-  const asked = { words: `Drop ${said}?`, notes, first, commands, days: rehearsalDays(rule), go: "Drop it" };
+  const { rehearsalDays, rehearsed, saveFirst } = await rehearsals();
+  const asked = { words: `Drop ${said}?`, notes, commands, days: rehearsalDays(rule), go: "Drop it" };
+  if (name === "takedowns") asked.first = saveFirst(scope, asked.words, tools);
   if ((await rehearsed(asked, tools)).length === 0) return `Kept: ${said}.`;
   await send("DELETE", path(scope, rule.rank));
   return shownAnew(name, `Done: there is no ${said} now.`);

@@ -15,8 +15,7 @@ from support.samples import ALL, DONE, EVERY, STAFF, put, put_image, put_rule
 HOUR = 3600
 # Days of each place, and those of two of its changes, on some of which the day begins at one, or has midnight twice.
 DAYS = ["1970-07-01", "2008-02-29", "2100-01-01"]
-PLACES = {
-    "Asia/Kathmandu": ("<+0545>-5:45", "1989-03-26", "2026-10-25"),
+PLACES = {"Asia/Kathmandu": ("<+0545>-5:45", "1989-03-26", "2026-10-25"),
     "Europe/Prague": ("CET-1CEST,M3.5.0,M10.5.0/3", "1989-03-26", "2026-10-25"),
     "Europe/Dublin": ("IST-1GMT0,M10.5.0,M3.5.0/1", "1989-03-26", "2026-10-25"),
     "Atlantic/Azores": ("<-01>1<+00>,M3.5.0/0,M10.5.0/1", "1989-03-26", "2026-10-25"),

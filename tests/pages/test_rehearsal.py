@@ -4,7 +4,7 @@ import threading
 
 import pytest
 from selenium.webdriver.common.keys import Keys
-from staff_helpers import CANNOT_REACH, OLDER, TAKES, UNSURE, lost_at, takedown
+from staff_helpers import CANNOT_REACH, OLDER, TAKES, UNSURE, lost_at, saved_table, takedown
 from support import museums
 from support.browser import LIMIT, TODAY
 
@@ -33,8 +33,9 @@ def test_takedowns_are_rehearsed_and_put_each_before_the_others(takedowns):
     for is_agreed, said in ((False, "Not put"), (True, "Done")):
         shown = takedowns.take_down("1002", "", "2", *BOTH)
         assert (shown["hint"], shown["sure"]) == (rank, words)
-        assert takedowns.named("link", "Save what stands now, first").get_attribute("href").endswith("#/disk/1002")
         assert [at for _, at, _ in takedowns.door.visits if "/verdicts/" in at] == [f"/staff/verdicts/{TODAY}/1002"]
+        saved = saved_table(takedowns, f"disk-1002-{TODAY}-asked", "Save what stands now, first")
+        assert str(saved).count("'read it'") == 6 and "an answer to: “Put takedown 1000 of disk 1002?”" in saved[1][1]
         shown = takedowns.answer(is_agreed)
         assert (shown["result"], len(takedowns.door.sent())) == ([f"{said}: takedown 1000 of disk 1002."], is_agreed)
     row = ["1002", "1000", "the public and the reading room", "the file at slot 2", SHUT]
