@@ -12,7 +12,7 @@ const MOST = 40;
 export function rulesOf(files) {
   const labels = new Map();
   for (const { rule } of files) labels.set(rule, (labels.get(rule) ?? 0) + 1);
-  const about = (count) => (labels.size > 1 ? ` about ${counted(count, "file")}` : "");
+  const about = (count) => (labels.size > 1 ? ` on ${counted(count, "file")}` : "");
   return [...labels].map(([label, count]) => `${meaning(label)} (${label})${about(count)}`).join(", ");
 }
 

@@ -1,10 +1,10 @@
 // One disk: its title, what may be read of it, and its directory as its own machine shows it.
 import { closedNow, closedWords, deedWords, rulesOf } from "./room.closed.js";
-import { allDisks, familyOf, known, lastShown, mayRead, nameOfDisk, nameOfFile, typeWords } from "./room.lists.js";
-import { askAbout, button, citation, filesOf, inSight, link, neighbours, numberOf } from "./room.parts.js";
-import { permission, quoting } from "./room.parts.js";
+import { allDisks, familyOf, known, lastShown, listingOf, mayRead, nameOfDisk, nameOfFile } from "./room.lists.js";
+import { typeWords } from "./room.lists.js";
+import { askAbout, button, citation, inSight, link, neighbours, numberOf, permission, quoting } from "./room.parts.js";
 import { directoryScreen } from "./screen.js";
-import { askObject, box, cell, counted, element, kindWords, loaded, refusal, row, table } from "./shared.js";
+import { box, cell, counted, element, kindWords, loaded, refusal, row, table } from "./shared.js";
 import { noteOf } from "./titles.js";
 
 function fileRow(kind, accession, file, hasUsers) {
@@ -61,8 +61,7 @@ async function otherDisks(accession) {
 
 export async function showDisk(number) {
   const accession = Number(number);
-  const listing = await askObject(`/images/${accession}`);
-  const [{ kind, deed }, files] = [listing, filesOf(listing)];
+  const { kind, deed, files } = await listingOf(accession);
   const title = nameOfDisk(accession);
   const sight = inSight(files.length, files.filter(mayRead).length);
   const facts = `Disk ${accession} \u00b7 ${kindWords(kind)} \u00b7 ${sight}`;

@@ -2,12 +2,11 @@
 import { BASIC_WORDS, basicListing } from "./basic.js";
 import { pictureIn } from "./pictures.js";
 import { whyClosed } from "./room.closed.js";
-import { kept, mayRead, nameOfDisk, nameOfFile, typeWords } from "./room.lists.js";
-import { askAbout, button, citation, facts, filesOf, link, neighbours, numberOf, quoting } from "./room.parts.js";
+import { kept, listingOf, mayRead, nameOfDisk, nameOfFile, typeWords } from "./room.lists.js";
+import { askAbout, button, citation, facts, link, neighbours, numberOf, quoting } from "./room.parts.js";
 import { fileName } from "./safe.js";
 import { blocksOf, canvasOf, textScreen } from "./screen.js";
-import { Refused, ask, askObject, box, counted, digestOf, element, kindWords, meaning } from "./shared.js";
-import { part, textOf } from "./shared.js";
+import { Refused, ask, box, counted, digestOf, element, kindWords, meaning, part, textOf } from "./shared.js";
 import { cbmText, cpmText, hexText, isInSmall, petsciiText, wordStarText } from "./texts.js";
 
 // A window in which a line of bytes is short.
@@ -146,8 +145,7 @@ async function copiesOf(place, digest, words) {
 // The listing says how to read the bytes, and comes first. A file that it lacks, and that comes, was opened in between.
 export async function showFile(number, slot) {
   const accession = Number(number);
-  const listing = await askObject(`/images/${accession}`);
-  const [{ kind }, files] = [listing, filesOf(listing)];
+  const { kind, files } = await listingOf(accession);
   const file = files.find((one) => one.slot === Number(slot));
   const heading = file && nameOfFile(kind, file);
   const named = (fault) => {

@@ -1,9 +1,9 @@
 // The home of the page for readers: a search, facets with counts, an order, a list or screens, all in the address.
 import { askStaff, welcome } from "./about.js";
-import { allDisks, allFiles, familyOf, found, isForBasic, kept, known, letterOf, mayRead } from "./room.lists.js";
-import { TOGETHER, nameOfDisk, nameOfFile, plain, showsNow, typeWords, wordsOf } from "./room.lists.js";
-import { filesOf, inSight, link, permission, ways } from "./room.parts.js";
-import { askObject, box, counted, element, kindWords, loaded, own, part } from "./shared.js";
+import { TOGETHER, allDisks, allFiles, familyOf, found, isForBasic, kept, known, letterOf } from "./room.lists.js";
+import { listingOf, mayRead, nameOfDisk, nameOfFile, plain, showsNow, typeWords, wordsOf } from "./room.lists.js";
+import { inSight, link, permission, ways } from "./room.parts.js";
+import { box, counted, element, kindWords, loaded, own, part } from "./shared.js";
 import { noteOf } from "./titles.js";
 
 const PAGE = 48;
@@ -181,9 +181,9 @@ async function showDay(disks, place) {
   const some = disks.filter(({ files }) => files > 3);
   if (some.length === 0 || !HAS_ROOM.matches) return;
   const { accession } = some[Math.floor(Date.now() / 86400000) % some.length];
-  const listing = await kept("today", () => askObject(`/images/${accession}`));
+  const listing = await kept("today", () => listingOf(accession));
   const { directoryScreen } = await machines();
-  const screen = directoryScreen({ ...listing, files: filesOf(listing) }, true, 3);
+  const screen = directoryScreen(listing, true, 3);
   screen.ariaHidden = "true";
   const caption = box("figcaption", "quiet", "On the screen today: ", link(nameOfDisk(accession), accession));
   const figure = box("figure", "", box("div", `monitor ${familyOf(listing.kind)}`, screen), caption);
@@ -192,11 +192,10 @@ async function showDay(disks, place) {
 
 // The view of the home. It stays where only the choices change: `change` draws what they say.
 export async function showHome(choices, progress) {
-  const disks = await allDisks();
-  const items = known(disks);
+  let disks = await allDisks();
   const [form, day, results] = [searchBox(choices.q), box("div", "today"), box("div", "")];
   results.id = "results";
-  let [files, drawn] = [null, 0];
+  let [items, files, drawn] = [known(disks), null, 0];
   async function draw(now, mine) {
     const { hits, matches, counts } = await found(items, files, now);
     const machine = files && now.as === "screens" ? await machines() : null;
@@ -209,21 +208,23 @@ export async function showHome(choices, progress) {
     const heading = element("h2", now.q || now.type || now.kind ? "What was found" : "All disks");
     const head = hits.length ? heading : askStaff("what you look for", `I look for: ${now.q ?? ""}`);
     results.replaceChildren(...[head, choicesBelow(counts, now), letters(hits, now), list, nav].filter(Boolean));
-    progress(summary(hits, counts, now, files));
+    // both lists are no older than this says
+    progress(summary(hits, counts, now, files), Math.min(disks.asked, files?.asked ?? disks.asked));
     if (files && now.q && hits.length <= FEW) sayClosed(shown, cards, files, () => mine !== drawn).catch(() => {});
   }
   async function change(now) {
     const mine = (drawn += 1);
     form.follow(now.q ?? "");
-    const needsFiles = disks.length <= SMALL || now.q || now.type || now.as === "screens";
-    if (!files && needsFiles) {
-      await draw(now, mine);
+    const newest = await allDisks();
+    if (newest !== disks) [disks, items] = [newest, known(newest)];
+    if (disks.length <= SMALL || now.q || now.type || now.as === "screens") {
+      if (!files) await draw(now, mine);
       files = await allFiles((words) => mine === drawn && progress(words));
     }
     await draw(now, mine);
   }
   const parts = disks.length ? [form, day, results] : [element("p", "There is no disk of which you may see a file.")];
-  const isFirst = disks.length ? change(choices) : null;
+  const isFirst = disks.length ? change(choices) : progress("", disks.asked);
   isFirst?.then(() => showDay(disks, day)).catch(() => day.remove());
   return { heading: welcome(), parts, change, ready: isFirst };
 }

@@ -74,9 +74,11 @@ function display({ heading, title = heading, isName, parts, fill, change = null,
   part("heading").textContent = heading;
   part("heading").classList.toggle("name", isName === true);
   document.body.classList.toggle("home", change !== null);
-  if (!change) part("status").textContent = "";
+  if (!change) {
+    part("status").textContent = "";
+    part("asked").textContent = askedWords();
+  }
   part("view").replaceChildren(...parts);
-  part("asked").textContent = change ? "" : askedWords();
   fill?.();
 }
 
@@ -101,8 +103,10 @@ async function show(isMoved) {
   const mine = ++turn;
   const focused = focusedLink();
   const at = arrive();
-  const progress = (words) => {
-    if (shown.path === here.path || mine === turn) part("status").textContent = words;
+  const progress = (words, asked) => {
+    if (shown.path !== here.path && mine !== turn) return;
+    part("status").textContent = words;
+    if (asked) part("asked").textContent = askedWords(asked);
   };
   const failed = (fault) => {
     progress("");

@@ -1,7 +1,7 @@
 // What the desk lists for the key in use, the disks and the files of each, and what is found in these lists.
 import { shownName } from "./names.js";
 import { SIZES } from "./pictures.js";
-import { askObject, counted, forgetWithKey, kindWords, listOf, own } from "./shared.js";
+import { askObject, counted, forgetWithKey, kindWords, listOf, own, textOf } from "./shared.js";
 import { inParts, keeper, readTable } from "./stream.js";
 import { noteOf, titleOf } from "./titles.js";
 
@@ -30,10 +30,11 @@ forgetWithKey(() => {
 export const lastShown = () => lists.shown ?? [];
 export const showsNow = (disks) => Object.assign(lists, { shown: disks });
 
-// What was read, or the promise of it, unless it is too old or did not come.
+// The promise of what was read, with the moment at which it was asked for, unless it is too old or did not come.
 export function kept(name, read) {
-  if (!lists[name] || performance.now() - lists[name].at > KEPT) {
-    const made = { at: performance.now(), list: read() };
+  if (!lists[name] || Date.now() - lists[name].asked > KEPT) {
+    const asked = Date.now();
+    const made = { asked, list: read().then((list) => Object.assign(list, { asked })) };
     lists[name] = made;
     made.list.catch(() => {
       if (lists[name] === made) delete lists[name];
@@ -99,6 +100,20 @@ async function readFiles(progress) {
 }
 
 export const allFiles = (progress) => kept("files", () => readFiles(progress));
+
+// The files of a listing, whose names, types and rules are texts whatever comes.
+const fileOf = (said) => ({ ...said, name: textOf(said.name), type: textOf(said.type), rule: textOf(said.rule) });
+
+// The listing of a disk now. Where the list of all files has others of it, or lets a reader do other things with them,
+// the lists are old, and are asked for anew.
+export async function listingOf(accession, signal) {
+  const listing = await askObject(`/images/${accession}`, { signal });
+  const files = listOf(listing.files).map(fileOf);
+  const rights = (some = []) => some.map(({ slot, effect }) => `${slot} ${effect}`).sort().join();
+  const isOld = (all) => rights(all.get(accession)) !== rights(files);
+  lists.files?.list.then((all) => isOld(all) && (lists = { shown: lists.shown, read: lists.read }), () => {});
+  return { ...listing, files };
+}
 
 // Words to look for, each in its spellings, and these as their pieces between stars. Little words count only alone, and
 // the s of a plural not at all.

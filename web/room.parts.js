@@ -19,10 +19,6 @@ export function ways(label, className, ...inside) {
   return Object.assign(box("nav", className, ...inside), { ariaLabel: label });
 }
 
-// The files of a listing, whose names, types and rules are texts whatever comes.
-const fileOf = (said) => ({ ...said, name: textOf(said.name), type: textOf(said.type), rule: textOf(said.rule) });
-export const filesOf = (listing) => listOf(listing.files).map(fileOf);
-
 const UNSERVED = {
   DEL: "a dividing line of the directory, which has no bytes to read",
   REL: "a file of records, which the desk cannot give out",
@@ -65,10 +61,11 @@ export function facts(pairs) {
 // The number of a disk behind its title, where it has one.
 export const numberOf = (accession) => (titleOf(accession) ? `, disk ${accession}` : "");
 
-// This moment by the clock of this computer, with its zone; and, as evidence, when the page asks the desk, and as whom.
-export const momentWords = () => new Date().toLocaleString("en-GB", { dateStyle: "long", timeStyle: "long" });
-export const askedWords = () =>
-  `The page asked the desk on ${momentWords()} by the reader's clock, with${keyInUse() ? "" : "out"} a key.`;
+// A moment by the clock of this computer, with its zone; and, as evidence, when the page asked the desk, and as whom.
+export const momentWords = (at = Date.now()) =>
+  new Date(at).toLocaleString("en-GB", { dateStyle: "long", timeStyle: "long" });
+export const askedWords = (at) =>
+  `The page asked the desk on ${momentWords(at)} by the reader's clock, with${keyInUse() ? "" : "out"} a key.`;
 
 // How to cite a disk or a file of it: the museum, the title, where it is there, its digest, the address, and the day.
 export function citation(accession, kind, file = "", digest = "") {

@@ -31,6 +31,12 @@ export const ruleOfBody = (body) => ({ from: null, until: null, ...body, audienc
 
 const ruleSaid = (change, names) => said(change, (body) => ruleWords(ruleOfBody(body), names));
 
+// What the rule said that is dropped, where the journal has it for sure.
+function droppedSaid({ stood }, names) {
+  const words = stood.length === 1 ? ruleSaid({ body: stood[0] }, names) : "";
+  return words && `, which said${words}`;
+}
+
 function deedSaid(change) {
   return said(change, ({ donor, signed }) => textOf(donor) && `${donor}, signed on ${textOf(signed)}`);
 }
@@ -52,7 +58,7 @@ function way(path, words) {
 
 const wayOfRules = (path, name, of) => way(path, {
   PUT: (change, parts, names) => `Put ${RULES[name].words(parts[of], parts.rank)}${ruleSaid(change, names)}`,
-  DELETE: (_, parts) => `Drop ${RULES[name].words(parts[of], parts.rank)}`,
+  DELETE: (change, parts, names) => `Drop ${RULES[name].words(parts[of], parts.rank)}${droppedSaid(change, names)}`,
 });
 
 const diskPut = (_, { accession, kind, deed, digest }) =>
@@ -148,9 +154,16 @@ export class AllChanges {
     else if (status !== "begun") Object.assign(known, { moment, at, status: textOf(status) });
   }
 
-  // From the newest on.
+  // From the newest on, each with the bodies of what may have stood at its place before; undefined where no line says.
   inOrder() {
-    return Array.from(this.byId.values()).sort((one, other) => other.at - one.at);
+    const all = Array.from(this.byId.values()).sort((one, other) => one.at - other.at);
+    const stands = new Map();
+    for (const change of all) {
+      change.stood = stands.get(change.place) ?? [undefined];
+      const puts = change.method === "PUT" ? [change.body] : [];
+      if (!isRefused(change)) stands.set(change.place, isUnknown(change) ? [...change.stood, ...puts] : puts);
+    }
+    return all.reverse();
   }
 }
 

@@ -19,6 +19,8 @@ import { noteOf, titleOf } from "./titles.js";
 
 // How many changes of the journal are shown at most.
 const MOST_CHANGES = 20;
+const DAYS = `A day of a rule begins at midnight by the desk's clock, in the museum's time zone. A change holds from \
+the moment at which it is put, not before, whatever its days.`;
 
 // The disk that is shown: its survey, who put it and its rules, its files with their verdicts, and their names; where.
 let shown = null;
@@ -37,7 +39,8 @@ async function readDisk(accession, tools, show = showDisk) {
   show(disk);
   const { told, changes } = await originsOf(things, tools);
   things.forEach((thing, at) => Object.assign(thing, told[at]));
-  disk.changes = changes;
+  const [own, deed] = [survey.accession, survey.deed].map(String);
+  disk.changes = changes.filter((one) => (one.accession ? one.accession === own : one.deed === deed));
   show(disk);
   return disk;
 }
@@ -47,7 +50,8 @@ function showDisk(disk) {
   shown = disk;
   draw();
   if (!disk.changes) drawFiles();
-  for (const one of frames.files.querySelectorAll(".since")) one.textContent = ` ${sinceOf(disk, one.dataset.label)}`;
+  const spans = frames.files.querySelectorAll(".since");
+  everyVerdict(disk).forEach((one, at) => (spans[at].textContent = ` ${sinceOf(disk, ...one)}`));
 }
 
 // All rules that decide on a disk, in the order in which the desk tries them.
@@ -60,15 +64,19 @@ function decidingRules({ accession, deed }) {
   return [...of("takedowns", accession), ...of("rules", deed)];
 }
 
-// Since when a rule lets a file be read.
-const sinceOf = ({ survey, things, changes }, label) => (changes ? sinceWords(survey, things, label, changes) : UNREAD);
+// Each file with each audience, in the order in which they are shown.
+const everyVerdict = ({ files }) =>
+  files.flatMap((record) => Object.keys(AUDIENCES).map((audience) => [record, audience]));
 
-// The rule that decides, and, of a file that can be read, a place for since when.
-function ruleParts(record, audience) {
-  const since = element("span", "", { className: "title since" });
-  since.dataset.label = record[EFFECT_AT[audience] + 1];
-  return [ruleShown(record, audience), effectOf(record, audience) === "read" ? since : null];
+// Since when a file is to an audience as it is now.
+function sinceOf({ things, changes }, record, audience) {
+  const file = { label: record[EFFECT_AT[audience] + 1], slot: Number(record[COLUMNS.slot]), audience };
+  return changes ? sinceWords(things, file, changes) : UNREAD;
 }
+
+// The rule that decides, and a place for since when.
+const ruleParts = (record, audience) =>
+  [ruleShown(record, audience), element("span", "", { className: "title since" })];
 
 function fileRow(record) {
   const [slot, size] = [record[COLUMNS.slot], record[COLUMNS.size]];
@@ -96,11 +104,10 @@ function rulesTable(rules) {
 
 // The latest changes of the disk and its deed, as far as the journal was read.
 function journalParts({ accession, deed }, changes) {
-  const [disk, ofDeed] = [String(accession), String(deed)];
-  const mine = changes.filter((one) => one.accession === disk || (one.deed === ofDeed && !one.accession));
-  const link = element("a", `All changes of disk ${disk} and its deed`, { href: `#/journal/${disk}` });
-  const rows = mine.slice(0, MOST_CHANGES).map((one) => changeRow(one, { deed: ofDeed, names: shown.names }));
-  const made = mine.length ? [table("latest changes", CHANGES, rows)] : [];
+  const link = element("a", `All changes of disk ${accession} and its deed`, { href: `#/journal/${accession}` });
+  const of = { deed: String(deed), names: shown.names };
+  const rows = changes.slice(0, MOST_CHANGES).map((one) => changeRow(one, of));
+  const made = rows.length ? [table("latest changes", CHANGES, rows)] : [];
   return [element("h2", "The latest changes of the disk and its deed"), ...made, box("p", "", link)];
 }
 
@@ -113,7 +120,7 @@ function draw() {
   const press = () => change("disk", () => checked(accession, "disk"));
   frames.about.replaceChildren(about, checkWords(accession), button("Check it", press, { disabled: !changes }));
   const heading = element("h2", "The rules, in their order: the first that matches decides");
-  const words = "Each says when it was put itself, not since when files have been open or closed.";
+  const words = `Each says when it was put itself, not since when files have been open or closed. ${DAYS}`;
   frames.rules.replaceChildren(heading, element("p", words), rulesTable(rules), ...journalParts(survey, changes ?? []));
 }
 
@@ -140,17 +147,15 @@ function saveDisk(disk, more = "") {
     return found ? [ruleWords(found.rule, names), found.origin] : ["", ""];
   };
   const rowOf = ([file, who]) => {
-    const label = file[EFFECT_AT[who] + 1];
-    const since = effectOf(file, who) === "read" ? sinceOf(disk, label) : "";
-    return [...savedVerdict(file, who, asked), ...deciding(label), since];
+    const said = deciding(file[EFFECT_AT[who] + 1]);
+    return [...savedVerdict(file, who, asked), ...said, sinceOf(disk, file, who)];
   };
-  const items = files.flatMap((record) => Object.keys(AUDIENCES).map((audience) => [record, audience]));
   const { accession, deed, donor, signed } = survey;
   const whose = `under deed ${deed} of ${donor}, signed on ${signed}; taken in: ${things[0].origin}`;
-  const all = `It has all ${counted(files.length, "file")}. ${askedWords(asked)}${more} ${SINCE} ${UNSAID}`;
+  const all = `It has all ${counted(files.length, "file")}. ${askedWords(asked)}${more} ${SINCE} ${DAYS} ${UNSAID}`;
   const about = `Who gets what of disk ${accession}, ${whose}. ${all}`;
   const heads = [...SAVED_HEADS, "what the rule says", PUT.toLowerCase(), "since when"];
-  return saveTable(`disk-${accession}-${asked.day}-asked`, asked.moment, about, heads, items, rowOf);
+  return saveTable(`disk-${accession}-${asked.day}-asked`, asked.moment, about, heads, everyVerdict(disk), rowOf);
 }
 
 // Asks the desk for a disk, and saves what it says now.

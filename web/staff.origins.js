@@ -1,6 +1,6 @@
 // Who put what stands, when and why, as the journal says; and what it says of a day that is over.
 import { Refused, counted, meaning } from "./shared.js";
-import { bodyOf, changeWords, isUnknown, ruleOfBody, spaced } from "./staff.changes.js";
+import { UNKNOWN, bodyOf, changeWords, isUnknown, ruleOfBody, spaced } from "./staff.changes.js";
 import { held, readHeld, standing } from "./staff.desk.js";
 import { readBack } from "./staff.lines.js";
 import { COLUMNS } from "./staff.verdicts.js";
@@ -43,10 +43,10 @@ const byWords = ({ moment, name, reason }) =>
   `${spaced(moment)} by ${name || "nobody who is named"}${reason && `: ${reason}`}`;
 
 function originWords({ word }, { put, before }, { reach, isWhole }) {
-  const none = `not in the journal${reach && `, back to ${reach}${isWhole ? ", where it begins" : ""}`}`;
-  if (put === null) return none;
-  const other = before ? `${changeWords(before)}, ${byWords(before)}` : none;
-  return `This ${word} was put ${byWords(put)}; before that: ${other}`;
+  const far = `in the journal${reach && `, back to ${reach}${isWhole ? ", where it begins" : ""}`}`;
+  if (put === null) return `not ${far}`;
+  const other = before ? `${changeWords(before)}, ${byWords(before)}` : `nothing ${far}`;
+  return `This ${word} was put ${byWords(put)}; in its place before: ${other}`;
 }
 
 // The journal as far as it is enough; where it cannot be read, why.
@@ -57,29 +57,54 @@ async function journalTo(isEnough, tools) {
   return { changes, places: byPlaces(changes), far, none: fault ? none : "" };
 }
 
-// For each of some things that stand, the words that say who put it, when and why, and at which moment, if that is in
-// the journal; and the changes that were read.
+// For each of some things that stand, the words that say who put it, when and why, and the change that did, if that is
+// in the journal; and the changes that were read.
 export async function originsOf(things, tools) {
   const isEnough = (changes, places = byPlaces(changes)) => things.every((one) => originOf(one, places).put);
   const { changes, places, far, none } = await journalTo(isEnough, tools);
-  const toldOf = (one, found) => ({ origin: none || originWords(one, found, far), put: found.put?.moment });
+  const toldOf = (one, found) => ({ origin: none || originWords(one, found, far), put: found.put });
   return { told: things.map((one) => toldOf(one, originOf(one, places))), changes };
 }
 
 export const SINCE = `In the journal since: from then on it has no change of the disk, of the rule that decides, or of \
-a rule before that; it may have been so for longer.`;
+a rule before that; it may have been so for longer. Rules for another file by its slot, or for other readers, do not \
+count; what is put where the journal has nothing before counts as new.`;
 
-// Since when the rule of a deed with a label decides about a disk as it does now, as far as the journal knows: the
-// latest moment or day on which it, the disk or a rule before it was put or changed, or began or ended.
-export function sinceWords({ accession, deed }, [disk, ...rules], label, changes) {
-  const at = rules.findIndex((one) => one.label === label);
-  const { put, rule: { from, rank } = {} } = rules[at] ?? {};
-  if (!disk.put || !put) return "since when: not in the journal";
-  const rankOf = ({ place }) => (place.startsWith(`/deeds/${deed}/rules/`) ? Number(place.split("/")[4]) : rank);
-  const isBefore = (one) => one.place.startsWith(`/images/${accession}/rules/`) || rankOf(one) < rank;
-  const changed = changes.filter((one) => counts(one) && isBefore(one)).map(({ moment }) => moment);
-  const days = [from, ...rules.slice(0, at).map(({ rule }) => rule.until)].filter((day) => day && day <= today());
-  return `in the journal since ${spaced([disk.put, put, ...changed, ...days].sort().at(-1))}`;
+// The place of a rule in the order in which the desk tries them: takedowns come before the rules of a deed.
+function orderOf(place) {
+  const [, of, rank] = /^\/(images|deeds)\/[0-9]+\/rules\/([0-9]+)$/.exec(place) ?? [];
+  return Number(rank) + (of === "deeds" ? 10000 : 0);
+}
+
+// Whether a rule can be for a file and an audience, by its slot and its audiences. One that is not known can be.
+const canBeFor = ({ audiences, select }, { slot, audience }) =>
+  (select?.slot ?? slot) === slot && (!Array.isArray(audiences) || audiences.includes(audience));
+
+// Whether a change can concern a file and an audience, by the rule that it puts or by one that may have stood there.
+function concerns({ method, body, stood }, file) {
+  const bodies = method === "PUT" ? [body, ...stood.filter((one) => one !== undefined)] : stood;
+  return bodies.some((one) => canBeFor(bodyOf({ body: one }), file));
+}
+
+// When and by whom something was done, and what, in short.
+function doneWords(change, what = changeWords({ ...change, body: "", stood: [] })) {
+  return byWords({ ...change, reason: isUnknown(change) ? `${what} (${UNKNOWN})` : what });
+}
+
+// Since when a file is to an audience as it is now, as far as the changes of its disk and its deed say: the latest of
+// these, and of the days on which a rule began or ended, that can concern both. `label` is of the rule that decides.
+export function sinceWords([disk, ...rules], { label, ...file }, changes) {
+  const own = rules.find((one) => one.label === label);
+  if (!disk.put || !(own ? own.put : label === "D0")) return "since when: not in the journal";
+  const order = own ? orderOf(own.place) : Infinity;
+  const done = changes.filter((one) => counts(one) && orderOf(one.place) < order && concerns(one, file));
+  if (own) done.push(own.put);
+  const before = rules.filter(({ place, rule }) => orderOf(place) < order && canBeFor(rule, file));
+  const days = [[own?.rule.from, label, "began"], ...before.map((one) => [one.rule.until, one.label, "ended"])];
+  const turns = days.filter(([day]) => day && day <= today()).map(([day, of, did]) => `${day} (${meaning(of)} ${did})`);
+  // these texts begin with their moments or days, and a day comes before its moments
+  const texts = [doneWords(disk.put, "taken in"), ...done.map((one) => doneWords(one)), ...turns];
+  return `in the journal since ${texts.sort().at(-1)}`;
 }
 
 // What is not known to have been so on a day that is over: words for a disk or a rule that stands; "" where it was so.

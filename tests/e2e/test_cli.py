@@ -41,9 +41,8 @@ def keys(ends, name):
 def test_status_and_streams(ends, words, wanted):
     assert ends(*words) == wanted
 
-@pytest.mark.parametrize("stream, told", [
-    ("full", "the disk is full"), ("unread", "nobody reads what is written there"),
-    ("closed", "the system failed, and says no more")])
+@pytest.mark.parametrize("stream, told", [("full", "the disk is full"),
+    ("unread", "nobody reads what is written there"), ("closed", "the system failed, and says no more")])
 def test_output_that_cannot_be_written(desk, stream, told):
     reading, writing = os.pipe()
     os.close(reading)

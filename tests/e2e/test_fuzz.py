@@ -21,8 +21,7 @@ NAMES = set(
 # The image of accession 12 with another byte of its file.
 CHANGED = samples.PROGRAM_DISK[:86018] + b"B" + samples.PROGRAM_DISK[86019:]
 # Visits at the end of each story, so that each name comes whatever is drawn.
-LAST = [
-    *(samples.get(path) for path in ("/catalogue", "/images/16/files/1", "/images/14/files/0")), samples.check(12),
+LAST = [*(samples.get(path) for path in ("/catalogue", "/images/16/files/1", "/images/14/files/0")), samples.check(12),
     *(samples.put_image(12, "d64", 7, data, samples.digest(b"another")) for data in (samples.PROGRAM_DISK, b""))]
 
 def name_of(reply):

@@ -20,8 +20,7 @@ HIDDEN, SIGNS = "AB", "AB ,\"'=%\t"
 CBM_TYPES, CBM_NAMES = st.sampled_from([0x80, 0x81, 0x82, 0x83, 0x02]), st.text(SIGNS, min_size=1, max_size=16)
 CBM_FILES = st.lists(st.tuples(CBM_TYPES, CBM_NAMES, st.binary(min_size=1, max_size=600)), max_size=9)
 CPM_FILES = st.lists(st.tuples(st.text("AB,\"'=", min_size=11, max_size=11), st.integers(0, 16)), max_size=9)
-DISKS = st.tuples(
-    st.tuples(st.sampled_from(["d64", "d64e"]), CBM_FILES) | st.tuples(st.just("cpm8"), CPM_FILES),
+DISKS = st.tuples(st.tuples(st.sampled_from(["d64", "d64e"]), CBM_FILES) | st.tuples(st.just("cpm8"), CPM_FILES),
     st.integers(0, 999), st.text("ab ,\"'=", min_size=1, max_size=9))
 
 def image_of(kind, files, seed):

@@ -36,9 +36,8 @@ def takes_a_byte_a_second(client, ended):
 
 # Clients, the options of their desk, and how many seconds they hold it: at the least, and at the most. A reply may have
 # several writes, each of which waits for its limit: ten seconds is the usual one.
-@pytest.mark.parametrize("visitor, options, least, most", [
-    (sends_nothing, ["--request-timeout", "2"], 1.6, 2), (sends_a_byte_a_second, ["--request-timeout", "2"], 1.6, 2),
-    (takes_nothing, ["--write-timeout", "1"], 0.8, 3),
+@pytest.mark.parametrize("visitor, options, least, most", [(sends_nothing, ["--request-timeout", "2"], 1.6, 2),
+    (sends_a_byte_a_second, ["--request-timeout", "2"], 1.6, 2), (takes_nothing, ["--write-timeout", "1"], 0.8, 3),
     (takes_a_byte_a_second, ["--reply-timeout", "4", "--write-timeout", "3"], 2.4, 4),
     pytest.param(sends_nothing, [], 8, 10, marks=pytest.mark.long),
     pytest.param(takes_nothing, [], 8, 50, marks=pytest.mark.long)])

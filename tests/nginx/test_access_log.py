@@ -19,8 +19,7 @@ NUMBER = KEY_PATH.rpartition("/")[2]
 NOTE = "objection%20of%203%20May%3A%20%22mine%22"
 NAMES = [("Desk-Staff", "anna"), ("Desk-Note", NOTE)]
 # Commands: method, path, body, the status, and the body in the journal, where it is not the one that came.
-COMMANDS = {
-    "deed": ("PUT", "/deeds/70", DEED, 200, None),
+COMMANDS = {"deed": ("PUT", "/deeds/70", DEED, 200, None),
     "takedown": ("PUT", "/images/15/rules/3?x=y", RULE, 200, None),
     "key in capitals dropped": ("DELETE", f"/badges/{NUMBER.upper()}", b"", 200, None),
     "name of the site before the path": ("PUT", f"http://localhost{KEY_PATH}", ROOMS, 200, None),
@@ -81,8 +80,7 @@ LONG_PATH = "/deeds/75?" + '"' * 290
 LONG_NAMES = [("Desk-Staff", "s" * 1000), ("Desk-Note", "n" * 1000)]
 LONG_BODY = DEED + b"\n" * (3072 - len(DEED))
 # What is longer, and how it is refused.
-TOO_LONG = {
-    "path": (414, LONG_PATH + "x", LONG_NAMES, LONG_BODY),
+TOO_LONG = {"path": (414, LONG_PATH + "x", LONG_NAMES, LONG_BODY),
     "note": (400, LONG_PATH, [LONG_NAMES[0], ("Desk-Note", "n" * 1002)], LONG_BODY),
     "quote in a note": (400, LONG_PATH, [("Desk-Note", '"mine"')], LONG_BODY),
     "body": (413, LONG_PATH, LONG_NAMES, LONG_BODY + b"\n"),

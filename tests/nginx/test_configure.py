@@ -11,10 +11,9 @@ from support.room import CONFIGURE, NGINX, OPERATE
 
 EXAMPLES = "such as UTC0 or CET-1CEST,M3.5.0,M10.5.0/3"
 # What is put in the place of a line of a good file of places, and what is told of it.
-BAD_PLACES = {
-    "#": "no place ZONE", "ZONE=UTC0\nA=/a b": "not a place: A=/a b", "ZONE=UTC0\nA=/a;": "not a place: A=/a;",
-    "ZONE=UTC0\nA=": "not a place: A=", "ZONE=UTC0\nA=/a\nA=/a": "given twice: A",
-    "ZONE=CET": f"not the rule of a clock: CET; ZONE takes one, {EXAMPLES}",
+BAD_PLACES = {"#": "no place ZONE", "ZONE=UTC0\nA=/a b": "not a place: A=/a b",
+    "ZONE=UTC0\nA=/a;": "not a place: A=/a;", "ZONE=UTC0\nA=": "not a place: A=",
+    "ZONE=UTC0\nA=/a\nA=/a": "given twice: A", "ZONE=CET": f"not the rule of a clock: CET; ZONE takes one, {EXAMPLES}",
     "OFFSET=E0100": f"OFFSET is now ZONE, which takes the rule of your own clock, {EXAMPLES}"}
 # Texts that are the rule of a clock, and texts that are none.
 RULES = """

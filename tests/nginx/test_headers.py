@@ -11,20 +11,17 @@ FILE, DENIED, LONG = "/images/15/files/0", "/images/13/files/0", "/images/16/fil
 POLICY = (
     "default-src 'none'; script-src 'self'; style-src 'self'; connect-src 'self'; base-uri 'none'; form-action 'none'; "
     "frame-ancestors 'none'; require-trusted-types-for 'script'; trusted-types 'none'")
-ADDED = {
-    "Content-Security-Policy": POLICY, "X-Content-Type-Options": "nosniff", "Referrer-Policy": "no-referrer",
+ADDED = {"Content-Security-Policy": POLICY, "X-Content-Type-Options": "nosniff", "Referrer-Policy": "no-referrer",
     "Cross-Origin-Resource-Policy": "same-origin", "Cross-Origin-Opener-Policy": "same-origin"}
 # What comes at each door, and the types.
 OF_DESK = {FILE: "application/octet-stream"} | dict.fromkeys([DENIED, "/images", "/none"], "application/json")
-OF_PAGE = {
-    "/": "text/html; charset=utf-8", "/room.css": "text/css; charset=utf-8",
+OF_PAGE = {"/": "text/html; charset=utf-8", "/room.css": "text/css; charset=utf-8",
     "/room.js": "text/javascript; charset=utf-8", "/robots.txt": "text/plain; charset=utf-8",
     "/favicon.ico": "image/vnd.microsoft.icon", "/openapi.json": "application/json"}
 
 @pytest.mark.parametrize("path", [*OF_DESK, *OF_PAGE])
 def test_each_reply_has_the_fields_of_nginx(door, path):
-    wanted = ADDED | {
-        "Strict-Transport-Security": "max-age=31536000" if door.name == "outside" else None,
+    wanted = ADDED | {"Strict-Transport-Security": "max-age=31536000" if door.name == "outside" else None,
         "Cache-Control": "no-cache" if path in OF_PAGE else "no-store", "Content-Type": (OF_DESK | OF_PAGE)[path],
         "Content-Disposition": 'attachment; filename="15-0.bin"' if path == FILE else None}
     reply = door.get(path)
@@ -63,8 +60,7 @@ def test_file_of_the_page_is_sent_once(outside, asks, has):
     assert (came.status, came.body, came.getheader("Cache-Control")) == (304, b"", "no-cache")
 
 # Requests of a page of another site: path, method, more fields, the status, and whether the page may read the reply.
-ORIGINS = {
-    "the images": ("/images", "GET", [], 200, "*"), "a file": (FILE, "GET", [], 200, "*"),
+ORIGINS = {"the images": ("/images", "GET", [], 200, "*"), "a file": (FILE, "GET", [], 200, "*"),
     "a denied file": (DENIED, "GET", [], 403, "*"), "the page": ("/", "GET", [], 200, None),
     "a key": ("/images", "GET", [("Desk-Key", STAFF)], 200, None), "a deed": ("/deeds/7", "GET", [], 405, None),
     "an empty key": ("/images", "GET", [("Desk-Key", "")], 401, "*"),

@@ -10,8 +10,7 @@ from support.server import HOST, LIMIT
 
 FILE, DENIED = "/images/15/files/0", "/images/13/files/0"
 BYTES = RECORD.partition(b"\r\n\r\n")[2]
-QUESTIONS = [
-    *(("/images", key) for key in (None, ROOM, STAFF, NOBODY, "")), ("/catalogue", STAFF), (FILE, None),
+QUESTIONS = [*(("/images", key) for key in (None, ROOM, STAFF, NOBODY, "")), ("/catalogue", STAFF), (FILE, None),
     (DENIED, STAFF), ("/images/99", None), (f"{FILE}?/files/1", None), ("/deeds/7", None), (badge("x"), None)]
 
 @pytest.mark.parametrize("path, key", QUESTIONS)
@@ -27,8 +26,7 @@ def test_questions_of_the_staff_are_answered_at_their_door(room, staff, key):
         reply = staff.get(f"/staff/{path}", key=key)
         assert (reply.status, reply.body) == room.ask_desk(get(f"/staff/{path}", key)), path
 
-COMMANDS = [
-    put("/deeds/77", DEED), put_rule("/deeds/9/rules/1", "deny", EVERY, "public"), drop("/deeds/9/rules/1"),
+COMMANDS = [put("/deeds/77", DEED), put_rule("/deeds/9/rules/1", "deny", EVERY, "public"), drop("/deeds/9/rules/1"),
     put_image(77, "cpm8", 9, RECORD_DISK), put(badge("x"), {"audience": "staff"}), drop(badge("x")), check(15)]
 
 def test_commands_are_done_at_the_staffs_door_alone(room, outside, staff):
@@ -63,8 +61,7 @@ def test_one_range_of_a_file_and_of_nothing_else_is_given(door, path, words):
     assert len(set(came.headers)) == len(came.headers), "a field twice"
 
 # What nginx refuses itself, from outside: method, path, fields, body, and the status.
-BAD = {
-    "a target of 9,000 bytes": ("GET", "/" + "x" * 9000, [], b"", 414),
+BAD = {"a target of 9,000 bytes": ("GET", "/" + "x" * 9000, [], b"", 414),
     "a field of 9,000 bytes": ("GET", "/images", [("Desk-Key", "k" * 9000)], b"", 400),
     "fields of 60,000 bytes": ("GET", "/", [(f"F-{n}", "x" * 900) for n in range(60)], b"", 400),
     "a body of 2,000 bytes": ("GET", "/images", [], bytes(2000), 413),
@@ -91,8 +88,7 @@ def test_plain_http_is_sent_on_to_tls(room, redirecting):
         plain.sendall(b"GET / HTTP/1.0\r\n\r\n")
         assert plain.recv(65536).startswith(b"HTTP/1.1 400 ")
 
-HEADS = {
-    "key twice": (2 * [("Desk-Key", STAFF)], FRAMING), "key in UTF-8": ([("Desk-Key", "\xc3\xbc")], UNKNOWN_KEY),
+HEADS = {"key twice": (2 * [("Desk-Key", STAFF)], FRAMING), "key in UTF-8": ([("Desk-Key", "\xc3\xbc")], UNKNOWN_KEY),
     "70 fields": (70 * [("A", "b")], BAD_HEAD),
     **{f"{count} kB": (count * [("A", "b" * 1015)], BAD_HEAD) for count in (12, 20)}}
 

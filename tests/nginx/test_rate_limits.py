@@ -125,8 +125,7 @@ def test_address_has_a_number_of_requests_at_a_time(outside, path, most, same, o
     assert comes(outside, same, 200)
 
 # Slow visitors: what they send first, and what each second; and when nginx ends them, in seconds.
-SLOW = {
-    "head": (b"GET /images/15/fil", b"G", 15),
+SLOW = {"head": (b"GET /images/15/fil", b"G", 15),
     "body": (f"GET {FILE} HTTP/1.1\r\nHost: localhost\r\nContent-Length: 5\r\n\r\n".encode(), b"", 10),
     "reader": (f"GET {LONG[1][1].path} HTTP/1.1\r\nHost: localhost\r\n\r\n".encode(), b"", 30)}
 

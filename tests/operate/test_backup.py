@@ -89,11 +89,10 @@ def take_for_desk(house, words):
 ADD = '{0} staff-key --store "$last" --key another >/dev/null'
 ADDS_A_KEY = f'for last; do case $last in *.sqlite) {ADD} ;; esac; done; exec {{0}} "$@"'
 
-@pytest.mark.parametrize("key, script, words", [
-    ("no key", None, "desk-backup: /staff/deeds: 401 unknown-key\n"),
-    (None, None, "staff-key: No such file or directory\n"),
-    (STAFF, "exit 1", "museum.sqlite\n"), (STAFF, ADDS_A_KEY, "has other keys than the desk\n"),
-], ids=["another-key", "no-key", "a-desk-that-does-not-open-the-copy", "a-desk-that-says-something-else"])
+@pytest.mark.parametrize("key, script, words", [("no key", None, "desk-backup: /staff/deeds: 401 unknown-key\n"),
+    (None, None, "staff-key: No such file or directory\n"), (STAFF, "exit 1", "museum.sqlite\n"),
+    (STAFF, ADDS_A_KEY, "has other keys than the desk\n")], ids=["another-key", "no-key",
+    "a-desk-that-does-not-open-the-copy", "a-desk-that-says-something-else"])
 def test_backup_that_fails_says_why_and_leaves_nothing(house, key, script, words):
     house.do(COMMAND)
     (house.folder / "staff-key").unlink()
@@ -170,10 +169,9 @@ def test_latest_backups_of_days_weeks_and_months_are_kept_and_all_of_a_day_or_wi
     assert names[0] == others[0]
     assert sorted(names[-4:]) == sorted([named.name, *made, "mine"]), "a backup of this day, or with a name, is gone"
     # beside this day: the last one of each of 11 months, of four weeks that begin on Mondays, and of six days
-    assert [name.removesuffix("T031000Z") for name in names[1:-4]] == [
-        "2025-02-28", "2025-03-31", "2025-04-30", "2025-05-31", "2025-06-30", "2025-07-30", "2025-08-31", "2025-09-30",
-        "2025-10-31", "2025-11-30", "2025-12-14", "2025-12-20", "2025-12-26", "2025-12-27", "2025-12-28", "2025-12-29",
-        "2025-12-30", "2025-12-31"]
+    assert [name.removesuffix("T031000Z") for name in names[1:-4]] == ["2025-02-28", "2025-03-31", "2025-04-30",
+        "2025-05-31", "2025-06-30", "2025-07-30", "2025-08-31", "2025-09-30", "2025-10-31", "2025-11-30", "2025-12-14",
+        "2025-12-20", "2025-12-26", "2025-12-27", "2025-12-28", "2025-12-29", "2025-12-30", "2025-12-31"]
     house.restored(named)
     assert [house.back_up("--keep", name)[0] for name in ("", "a/b", "..", "-x", "a b")] == [2] * 5
 

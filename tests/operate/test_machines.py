@@ -255,9 +255,8 @@ BEFORE = [
     put_rule("/deeds/7/rules/10", "public", {"prefix": "TOUR"}, "deny", "2099-01-01"),
     ("systemctl start desk-check desk-backup; echo $?", "0"),
     put_rule("/images/13/rules/1", "public", {"slot": 2}, "deny"), *CHANGED]
-STANDS = [
-    TAKEDOWN, (f"{VISIT}/images/13/files/0", '{"error":"denied","rule":"R7.10"}'), (f"{VISIT}/imprint.html", "imprint"),
-    (f"{VISIT}/about.csv", "name,value"),
+STANDS = [TAKEDOWN, (f"{VISIT}/images/13/files/0", '{"error":"denied","rule":"R7.10"}'),
+    (f"{VISIT}/imprint.html", "imprint"), (f"{VISIT}/about.csv", "name,value"),
     (f"grep -c rate=25r /etc/nginx/conf.d/desk.conf; grep -c {SITE} /etc/desk/site-name", "1\n1")]
 
 def test_upgrade_and_the_way_back_keep_the_store_and_what_is_the_museums_own(machine, packages):

@@ -38,8 +38,7 @@ def tuesday_of(house):
     house.journaled(drop("/images/15/rules/1"), "begun")
     house.journaled(drop("/images/13/rules/5"), "begun", "499")
 
-NOTES = [
-    r"commands since 20[0-9TZ-]+ were done again; the old store is in ",
+NOTES = [r"commands since 20[0-9TZ-]+ were done again; the old store is in ",
     r"PUT /images/13/rules/9: nobody knows its outcome; done",
     r"DELETE /images/15/rules/1: nobody knows its outcome; left out",
     r"DELETE /images/13/rules/5: nobody knows its outcome; left out",
@@ -79,11 +78,10 @@ def test_week_is_restored_while_readers_ask(house, tmp_path):
     differing = [f"/accessions/16/d64/7/{digest(OTHER)}", "/images/16/rules/1", "/images/13/rules/9"]
     assert re.findall("^only in the .* store: (\\S+)", out, re.M) == ([] if sums == SUMMED else differing)
 
-@pytest.mark.parametrize("change, words", [
-    (lambda lines: lines[:-1], "nobody knows its outcome; done"),
+@pytest.mark.parametrize("change, words", [(lambda lines: lines[:-1], "nobody knows its outcome; done"),
     (lambda lines: lines[:-2], "and not in the journal; done"),
     (lambda lines: [*lines[:-2], lines[-2][:120]], "a line of the journal cannot be read"),
-], ids=["its-last-line-is-missing", "both-are-missing", "the-journal-ends-in-it"])
+    ], ids=["its-last-line-is-missing", "both-are-missing", "the-journal-ends-in-it"])
 def test_takedown_whose_lines_are_missing_stays(house, monday, change, words):
     """It has the last two lines of the journal."""
     house.journal.write_bytes(b"".join(change(house.journal.read_bytes().splitlines(True))))

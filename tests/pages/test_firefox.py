@@ -71,15 +71,12 @@ def test_reader_finds_reads_and_saves_a_file(museum, reader):
     museums.harmful_disk(museum, 1066, 9)
     assert reader.load()["disks"][-1] == "Disk 1066"
     assert reader.go("1066")["rows"][2][0].startswith("<IMG") and reader.harmed() == [None, 0]
-    assert reader.script(CONTRAST) == []
-    assert reader.script("return document.querySelector('figure canvas').width") > 1000
+    width = "return document.querySelector('figure canvas').width"
+    assert reader.script(CONTRAST) == [] and reader.script(width) > 1000
     assert reader.find("welcome")["matches"] == ["WELCOME.TXT"] and reader.script(CONTRAST) == []
-    reader.go("1001/0")
-    reader.push("Bytes")
-    assert reader.text("pre").startswith("000000  ")
+    assert reader.go("1001/0") and reader.push("Bytes") and reader.text("pre").startswith("000000  ")
     reader.named("link", "Download").click()
-    assert len(reader.saved("WELCOME.TXT")) == 896
-    assert reader.script(CONTRAST) == []
+    assert len(reader.saved("WELCOME.TXT")) == 896 and reader.script(CONTRAST) == []
     assert reader.driver.execute_async_script(REFUSED) == ["TypeError", "TypeError", "connect-src"]
 
 def test_staff_rehearses_and_puts_a_takedown(staff):

@@ -18,7 +18,7 @@ BAD_BODY = "refused: the desk could not read it, or a value was beyond its limit
 # Changes from the oldest on: the status, what came, and the cells of who, what, outcome and reason.
 CHANGES = [("200", ("PUT", *DEED), "Ada Müller|Put deed 7: A. <b>C</b>, signed on 2019-05-04|done|a letter of 3 May"),
     ("200", ("PUT", "/deeds/7/rules/20", "", "", RULE), f"|Put rule 20 of deed 7: {HIDDEN}|done|"),
-    ("200", ("DELETE", "/deeds/7/rules/20?x=y", "bob"), "bob|Drop rule 20 of deed 7|done|"),
+    ("200", ("DELETE", "/deeds/7/rules/20?x=y", "bob"), f"bob|Drop rule 20 of deed 7, which said: {HIDDEN}|done|"),
     ("200", ("PUT", f"/accessions/1002/d64/9/{KEY}", "=1+1", "100%"),
      f"=1+1|Put disk 1002, Commodore 1541, under deed 9, SHA-256 {KEY}|done|100%"),
     ("404", ("PUT", "/images/99/rules/9", "bob", "", RULE), f"bob|Put takedown 9 of disk 99: {ELSEWHERE}|{NO_DISK}|"),
@@ -82,12 +82,14 @@ def test_what_is_looked_for_is_found_and_saved_without_a_formula(staff):
 def test_journal_of_a_disk_has_the_changes_of_its_deed_and_the_names_of_files(staff):
     came = [("/deeds/7/rules/20", RULE), ("/deeds/9/rules/20", RULE), ("/images/1002/rules/1", RULE)]
     lines = [journal_lines(at, START + at, "200", "PUT", path, "Ada", "", body) for at, (path, body) in enumerate(came)]
+    lines.append(journal_lines(3, START + 3, "200", "DELETE", "/images/1002/rules/1"))
     shown, named = read(staff, b"".join(lines), place="journal/1002"), HIDDEN.replace(" closed", " (GUIDE) closed")
     words = [f"Put takedown 1 of disk 1002: {named}", f"Put rule 20 of deed 9: {named}"]
-    assert [row[2] for row in shown["rows"]] == [words[0], f"Of its deed: {words[1]}"], "a deed's rules stand elsewhere"
-    _, *rows = saved_table(staff, f"journal-of-disk-1002-2-of-3-changes-back-to-{moment(START)[:10]}-asked")
-    assert [row[5:7] for row in rows] == [["disk 1002", words[0]], ["deed 9, the deed of disk 1002", words[1]]]
-    holds = "Here: 2 changes of these, of disk 1002 and of its deed 9, which decides about it too, without checks"
+    due = [f"Drop takedown 1 of disk 1002, which said: {named}", words[0], f"Of its deed: {words[1]}"]
+    assert [row[2] for row in shown["rows"]] == due, "a deed's rules stand elsewhere"
+    _, *rows = saved_table(staff, f"journal-of-disk-1002-3-of-4-changes-back-to-{moment(START)[:10]}-asked")
+    assert [row[5:7] for row in rows[1:]] == [["disk 1002", words[0]], ["deed 9, the deed of disk 1002", words[1]]]
+    holds = "Here: 3 changes of these, of disk 1002 and of its deed 9, which decides about it too, without checks"
     assert holds in rows[0][1], "a saved journal says not which lines it has"
 
 def many(count, first=0, begun=START):

@@ -16,8 +16,7 @@ def test_reader_finds_reads_and_downloads_a_file(reader):
     reach(reader, label, "guide", Keys.ENTER)
     assert reader.read(lambda state: "q=guide" in state["here"] and state["matches"])["disks"] == ["Disk 1002"]
     reach(reader, "GUIDE", Keys.ENTER)
-    reader.read(lambda state: state["heading"] == "GUIDE")
-    assert reader.focused() == "GUIDE"
+    assert reader.read(lambda state: state["heading"] == "GUIDE") and reader.focused() == "GUIDE"
     reach(reader, "Bytes", Keys.ENTER)
     assert reader.named("region", "What is in the file").text.startswith("000000  ")
     reach(reader, "Download", Keys.ENTER)

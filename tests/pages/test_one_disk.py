@@ -7,17 +7,19 @@ from support.browser import TODAY
 from support.samples import DONOR_OF_9, refused
 
 START, ALL = 1_700_000_000, "the public, the reading room and the staff, on all days"
-FAR = f"not in the journal, back to {moment(START).replace('T', ' ')}"
-NOT = f"{FAR}, where it begins"
+when = lambda far: moment(START + far).replace("T", " ")
+FAR = f"in the journal, back to {when(0)}"
+NOT, NOTHING = (f"{word} {FAR}, where it begins" for word in ("not", "nothing"))
 READ = '{"audiences":["room","public","staff"],"select":{"all":true},"effect":"read"}'
 BY_DEED, PUT, UNKNOWN = "rule 20 of deed 9", "put when, by whom, and why", "since when: not in the journal"
-READS, LISTS = f"read it {BY_DEED} ", f"see its name, not read it (the desk gives out no file of type DEL) {BY_DEED}"
+READS = f"read it {BY_DEED} "
+LISTS = f"see its name, not read it (the desk gives out no file of type DEL) {BY_DEED} {UNKNOWN}"
 SHUT = "see only that a closed file is there, not its name"
-CLOSED = f"{SHUT} takedown {{}} of disk 1002"
+CLOSED = f"{SHUT} takedown {{}} of disk 1002 {UNKNOWN}"
 HIDDEN = "closed to the public and the reading room"
 ALWAYS = f"{HIDDEN}, on all days"
 TAKEN_IN = f"/accessions/1002/d64/9/{'0' * 64}"
-BY = f"This rule was put {moment(START + 0.5).replace('T', ' ')} by Ada: a letter; before that: "
+BY = f"This rule was put {when(0.5)} by Ada: a letter; in its place before: "
 # A script: whether the outcome is in the window; and the role of what has the focus.
 SEEN = """const { top } = document.querySelector("#disk .result").getBoundingClientRect();
 return [top > -1 && top < innerHeight / 2, document.activeElement.role];"""
@@ -44,33 +46,53 @@ def test_disk_says_what_it_is_and_who_gets_what_by_which_rule(museum, disk):
     assert [row[2:3] + row[5:] for row in rows[:3]] == [
         ["TOUR", *[reads] * 3], ["-" * 16, *[LISTS] * 3], ["GUIDE", closed, closed, reads]]
     assert [[row[0], row[5]] for row in rows[3:5]] == [
-        ["takedown 1000 of disk 1002 (T1002.1000)", NOT], [f"{BY_DEED} (R9.20)", BY + NOT]]
+        ["takedown 1000 of disk 1002 (T1002.1000)", NOT], [f"{BY_DEED} (R9.20)", BY + NOTHING]]
     assert rows[5][1].startswith("Ada") and rows[5][2].startswith("Of its deed: Put rule 20 of deed 9: all")
     heads, *rows = saved_table(disk, f"disk-1002-{TODAY}-asked", "Save who gets what as CSV")
     keys = "day", "audience", "they may", "rule", "what the rule says", PUT, "since when", "name as shown", "size"
+    said, file = f"the file at slot 2 (GUIDE) {ALWAYS}", [UNKNOWN, "GUIDE", "532"]
     assert [[dict(zip(heads, one))[key] for key in keys] for one in rows[6:9:2]] == [
-        [TODAY, "the public", SHUT, "T1002.1000", f"the file at slot 2 (GUIDE) {ALWAYS}", NOT, "", "GUIDE", "532"],
-        [TODAY, "the staff", "read it", "R9.20", f"all files readable for {ALL}", BY + NOT, UNKNOWN, "GUIDE", "532"]]
+        [TODAY, "the public", SHUT, "T1002.1000", said, NOT, *file],
+        [TODAY, "the staff", "read it", "R9.20", f"all files readable for {ALL}", BY + NOTHING, *file]]
 
 def test_rule_says_what_was_there_before_it_or_how_far_the_journal_is_read(disk):
     disk.door.journals["/journal"] += journal_lines(2, START, "200", "PUT", TAKEN_IN)
-    assert disk.load() and disk.begin().go("disk/1002")["rows"][3][5] == BY + FAR, "it is told as the first of all"
+    assert disk.load() and disk.begin().go("disk/1002")["rows"][3][5] == f"{BY}nothing {FAR}", "as if it were the first"
     disk.door.journals["/journal"] += journal_lines(3, START - 9, "200", "DELETE", "/deeds/9/rules/20", "Bob")
-    dropped = f"Drop rule 20 of deed 9, {moment(START - 8.5).replace('T', ' ')} by Bob"
-    assert disk.go("disk/1002")["rows"][3][5] == BY + dropped
+    assert disk.go("disk/1002")["rows"][3][5] == f"{BY}Drop rule 20 of deed 9, {when(-8.5)} by Bob"
 
-def test_file_that_can_be_read_says_since_when_the_journal_has_no_change_of_its_rules(museum, disk):
-    ended, since = "2026-06-01", lambda words: f"in the journal since {words}"
-    at = lambda far: since(moment(START + far + 0.5).replace("T", " "))
-    cases = [(-60, "200", "PUT", TAKEN_IN, at(0)), (60, "200", "DELETE", "/images/1002/rules/5", at(60)),
-             (70, "200", "PUT", "/deeds/9/rules/30", at(60)), (80, "404", "PUT", "/deeds/9/rules/10", at(60)),
-             (90, "502", "PUT", "/deeds/9/rules/10", at(90)), (99, "200", "PUT", "/images/1002/rules/1", since(ended)),
-             (120, "200", "DELETE", "/deeds/9/rules/20", UNKNOWN)]
-    for number, (far, status, method, path, words) in enumerate(cases, 2):
-        museum.rules["T1002"] = {1: museums.rule(1, "deny", ["public"], until=ended)} if words == since(ended) else {}
-        disk.door.journals["/journal"] += journal_lines(number, START + far, status, method, path)
-        assert disk.go("disk/1002")["rows"][0][5] == READS + words, path
-    assert "In the journal since: from then on it has no change of the disk" in disk.text("#disk .stands")
+def test_file_says_since_when_the_journal_has_no_change_that_can_concern_it_and_its_readers(museum, disk):
+    """A change concerns the file and the readers of the rule that it puts, and of one that stood in its place."""
+    every = READ.replace(',"staff"', "").replace('"read"', '"deny"')
+    one = every.replace('"all":true', '"slot":2')
+    by = lambda far, what, who="nobody who is named": f"{when(far + 0.5)} by {who}: {what}"
+    ranked = lambda word, rank, far: by(far, f"{word} takedown {rank} of disk 1002")
+    at, of_deed, ended = "/images/1002/rules/", "/deeds/9/rules/", "2026-06-01 (takedown 1 of disk 1002 ended)"
+    ruled, drop6 = by(0, f"Put {BY_DEED}", "Ada"), ranked("Drop", 6, 60)
+    maybe = by(90, "Put rule 10 of deed 9 (nobody knows whether the desk did it)")
+    # what is done; since when the first and the last file are so for the public, and the last for the staff
+    cases = [(-60, "200", "PUT", TAKEN_IN, "", None), (20, "200", "PUT", f"{at}5", every, None),
+             (10, "200", "PUT", f"{at}7", one, (*[ranked("Put", 5, 20)] * 2, ruled)),
+             (30, "200", "PUT", f"{at}5", one, (*[ranked("Put", 5, 30)] * 2, ruled)),
+             (40, "200", "DELETE", f"{at}5", "", (ranked("Put", 5, 30), ranked("Drop", 5, 40), ruled)),
+             (60, "200", "DELETE", f"{at}6", "", None), (70, "200", "PUT", f"{of_deed}30", "", None),
+             (80, "404", "PUT", f"{of_deed}10", "", [drop6] * 3),
+             (90, "502", "PUT", f"{of_deed}10", "", (maybe, drop6, maybe)),
+             (99, "200", "PUT", f"{at}1", "", (ended, ended, ranked("Put", 1, 99))),
+             (120, "200", "DELETE", f"{of_deed}20", "", None)]
+    museum.rules["T1002"] = takedown(7, 2)
+    for number, (far, status, method, path, body, due) in enumerate(cases, 2):
+        if path == f"{at}1":
+            museum.rules["T1002"][1] = museums.rule(1, "deny", ["public"], until=ended[:10])
+        disk.door.journals["/journal"] += journal_lines(number, START + far, status, method, path, body=body)
+        rows = disk.go("disk/1002")["rows"] if due else []
+        cells = [rows[row][cell].partition("in the journal since ")[2] for row, cell in ((0, 5), (2, 5), (2, 7)) if due]
+        assert cells == [*(due or [])], path
+    assert disk.go("disk/1002")["rows"][0][5] == READS + UNKNOWN
+    museum.rules["R9"], gone = {}, by(120, f"Drop {BY_DEED}")
+    assert disk.go("disk/1002")["rows"][0][7].endswith(f" no rule matches in the journal since {gone}")
+    for words in ("In the journal since: from then on it has no change of the disk", "begins at midnight by the"):
+        assert words in disk.text("#disk .stands")
 
 def test_files_ticked_by_their_shown_names_are_taken_down_and_what_stands_after_a_failure_is_said(museum, disk):
     museums.put_files(museum, 1002, "d64", 9, [("%CCETTER", "SEQ", b"A"), ("-", "DEL", None), ("GUIDE", "SEQ", b"A")])

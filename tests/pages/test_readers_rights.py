@@ -54,7 +54,7 @@ def test_each_file_leads_to_its_page_and_one_that_is_closed_says_why_there_and_i
     assert (shown["rows"][0], shown["links"]) == ([*WELCOME, why], [f"#/1001/{slot}" for slot in "0011"])
     alone = [CLOSED % "that it is there, not what is in it", "text, 896 bytes", TAKEDOWN % (1001, 1001)]
     assert reader.go("1001/0")["refusal"] == alone and reader.go("1001")
-    rules = "takedown 1 of disk 1001 (T1001.1) about 1 file, rule 20 of deed 9 (R9.20) about 1 file."
+    rules = "takedown 1 of disk 1001 (T1001.1) on 1 file, rule 20 of deed 9 (R9.20) on 1 file."
     assert f"What decides here: {rules}" in reader.text("#view")
     museum.rules["R9"][10] = museums.rule(10, "list", ["public"])
     assert reader.go("1002/0")["refusal"][3:] == [f"2 other files of this disk: {'-' * 16}, GUIDE"]
@@ -70,6 +70,16 @@ def test_each_file_leads_to_its_page_and_one_that_is_closed_says_why_there_and_i
     reader.wait(lambda state: reader.texts(".closed > a[href='#/1003']") == closed, f"{closed} of what was found")
     museum.rules["T1003"] = {2: museums.rule(2, "deny", ["public"], {"slot": 1})}
     assert reader.go("1003") and reader.wait(lambda state: "T1003.2" in str(reader.texts(".callout")), "a new rule")
+
+def test_list_says_when_it_was_asked_and_is_asked_anew_when_it_is_old_or_shows_what_is_closed(museum, reader):
+    at, found = lambda: reader.text("#asked"), lambda name: reader.find(name)["matches"]
+    assert reader.load() and found("welc") == ["WELCOME.TXT"] and "asked the desk on 15 June" in at()
+    hour, museum.rules["T1001"] = at(), {1: museums.rule(1, "deny", ["public"], {"slot": 0})}
+    assert (found("welco"), at()) == (["WELCOME.TXT"], hour), "an hour at which nothing was asked"
+    assert reader.go("1001/0")["refusal"] and (found("welc"), at() == hour) == ([], False)
+    del museum.rules["T1001"]
+    assert found("welco") == [] and reader.script("const now = Date.now; Date.now = () => now() + 400000") is None
+    assert found("welc") == ["WELCOME.TXT"], "a list of many minutes ago"
 
 def test_refusal_says_why_whom_to_ask_and_where_to_go_on(reader):
     others, staff = "The other files of this disk", "Turn to the museum's staff about this "

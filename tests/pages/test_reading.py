@@ -116,13 +116,11 @@ def test_file_can_be_seen_in_the_other_ways(reader):
     small = '10 print "hello"\n20 goto 10\n'
     reader.go("2001/0")
     for button, text in (("Lower case", small), ("Bytes", hexed(BASIC)), ("Listing", small)):
-        reader.push(button)
-        assert reader.text("pre") == text
+        assert reader.push(button) and reader.text("pre") == text
     assert reader.texts("pre .word") == ["print", "goto"]
     reader.go("2001/1")
     for button, text in (("Text", "┌─┐\n│ │\nHello"), ("Lower case", "┌─┐\n│ │\n│ELLO")):
-        reader.push(button)
-        assert reader.text("pre") == text
+        assert reader.push(button) and reader.text("pre") == text
     assert "Shown as text, without its codes for colours and the cursor." in reader.texts("#view p")
     same = "The same bytes as ../../X (Disk 2001)."
     assert [reader.go(f"2001/{slot}") and same in reader.texts("aside p") for slot in "34"] == [False, True]
@@ -211,8 +209,7 @@ def test_file_says_what_is_known_of_it_and_how_to_cite_it(reader):
     file = f"“HELLO”, PRG file, {len(BASIC)} bytes, slot 0, on {disk}. SHA-256 {digest(BASIC)}"
     cite, link = "%s. {} (accessed 15 June 2026).", ("2001/0", "Copy link", "{}")
     for place, name, words in (("2001", "Cite", cite % disk), link, ("2001/0", "Cite", cite % file)):
-        reader.go(place)
-        reader.push(name)
+        assert reader.go(place) and reader.push(name)
         text = words.format(f"{reader.door.address}#/{place}")
         wait_for(text, lambda: reader.text(".copied").partition(": ")[2] == text)
     reader.named("link", "LETTER\u00a0→").click()

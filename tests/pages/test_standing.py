@@ -99,7 +99,7 @@ def test_key_is_put_given_away_and_dropped(museum, staff):
 
 def test_key_says_who_put_it_when_and_why_as_the_journal_has_it(staff):
     key, at = f"/badges/{digest(b'hello')}", moment(START + 0.5).replace("T", " ")
-    by = f"This key was put {at} by Ada: a letter; before that: {NOT}"
+    by = f"This key was put {at} by Ada: a letter; in its place before: {NOT.replace('not', 'nothing', 1)}"
     for later, words in [((), by), (("200", "PUT", '{"audience":"staff"}'), NOT), (("200", "DELETE", ""), NOT),
                          (("404", "DELETE", ""), by), (("502", "DELETE", ""), by), (("502", "PUT", "["), by),
                          (("200", "PUT", '{"audience":"room"}'), by)]:

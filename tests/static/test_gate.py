@@ -71,9 +71,8 @@ def test_missing_package_is_named_in_the_line_that_installs_it(monkeypatch, caps
     line = "missing: run as root: apt-get install -y --no-install-recommends no-such-package\n"
     assert capsys.readouterr().out == line
 
-@pytest.mark.parametrize("last, status, counts", [
-    ("5 passed, 0 failed", 0, (5, 0)), ("5 passed, 2 failed", 1, (5, 2)), ("5 passed, 0 failed", 1, (5, 1)),
-    ("killed", 1, (0, 1)), ("", 0, (0, 1))])
+@pytest.mark.parametrize("last, status, counts", [("5 passed, 0 failed", 0, (5, 0)), ("5 passed, 2 failed", 1, (5, 2)),
+    ("5 passed, 0 failed", 1, (5, 1)), ("killed", 1, (0, 1)), ("", 0, (0, 1))])
 def test_proofs_are_counted_by_their_last_line(monkeypatch, tmp_path, last, status, counts):
     (tmp_path / "rt").write_text(f"#!/bin/sh\necho 'one proof'\necho '{last}'\nexit {status}\n")
     (tmp_path / "rt").chmod(0o755)
@@ -87,10 +86,9 @@ CASES = CASE.format(".TestUpload", 1, "") + CASE.format("", 2, "<skipped/>")
 # A file that breaks before it has a test.
 BROKEN = '<testcase classname="" name="e2e.test_x" file="e2e/test_x.py" time="0.0"><error/></testcase>'
 
-@pytest.mark.parametrize("status, table, counts", [
-    (0, f"<suite>{CASES}</suite>", [1, 1, 3.0]), (2, f"<suite>{CASES}</suite>", [1, 2, 3.0]), (2, "", [0, 1, 0.0]),
-    (-9, "", [0, 1, 0.0]), (0, "", [0, 1, 0.0]), (0, "<suite><case", [0, 1, 0.0]),
-    (1, f"<suite>{BROKEN}</suite>", [0, 1, 0.0])], ids=str)
+@pytest.mark.parametrize("status, table, counts", [(0, f"<suite>{CASES}</suite>", [1, 1, 3.0]),
+    (2, f"<suite>{CASES}</suite>", [1, 2, 3.0]), (2, "", [0, 1, 0.0]), (-9, "", [0, 1, 0.0]), (0, "", [0, 1, 0.0]),
+    (0, "<suite><case", [0, 1, 0.0]), (1, f"<suite>{BROKEN}</suite>", [0, 1, 0.0])], ids=str)
 def test_skipped_test_broken_file_and_run_without_a_whole_table_have_failed(tmp_path, status, table, counts):
     (tmp_path / "one.log").write_text("")
     (tmp_path / "one.xml").write_text(table)

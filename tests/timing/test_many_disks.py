@@ -17,8 +17,7 @@ def question(what, museum):
     museum.disks += what == "a new disk"
     new, acc = museum.disks, CHANCE.randint(1, museum.disks)
     slot = acc % len(FILES)
-    return {
-        "a file": (get(f"/images/{acc}/files/{slot}", ROOM), FILES[slot][2]),
+    return {"a file": (get(f"/images/{acc}/files/{slot}", ROOM), FILES[slot][2]),
         "a listing": (get(f"/images/{acc}", ROOM), has(len(FILES), "files")),
         "a check": (check(acc), b'{"outcome":"sound"}'),
         "a new disk": (put_image(new, "d64", LARGE_DEED, disk_of(new)), b'{"done":true}'),
