@@ -21,8 +21,7 @@ MARKED_DISK = trials.built(trials.image("marked.image"), "over", f"{cbm_image.ma
 LONG_FILE = bytes((7 * n + n // 256) % 251 for n in range(128 * 1928))
 LONG_DISK = cpm_image.of_entries([(b"LONG       ", LONG_FILE, range(2, 243))])
 # The accessions of the filled store: kind, deed and image.
-IMAGES = {
-    12: ("d64", 7, PROGRAM_DISK), 13: ("d64", 8, PROGRAM_DISK),
+IMAGES = {12: ("d64", 7, PROGRAM_DISK), 13: ("d64", 8, PROGRAM_DISK),
     14: ("d64", 9, LOOP_DISK), 15: ("cpm8", 9, RECORD_DISK), 16: ("d64", 9, bytes_of("images", "museum.d64")),
     17: ("cpm8", 9, bytes_of("images", "damaged.img")), 18: ("cpm8", 9, bytes_of("images", "welcome.img")),
     26: ("d64e", 9, bytes_of("images", "damaged.d64"))}
@@ -123,14 +122,12 @@ MORE = [(asked.path, asked, DONE) for asked in (
     put_rule("/deeds/9/rules/11", "list", {"prefix": "H"}, *ALL, **{"from": "9999-12-31"}),
     put_rule("/deeds/9/rules/20", "read", EVERY, *ALL), *(put_image(n, *IMAGES[n]) for n in IMAGES if n > 12),
     put_rule("/images/13/rules/1", "list", {"user": 3}, "staff"))]
-LONG = [
-    ("a full CP/M disk", put_image(21, "cpm8", 9, LONG_DISK), DONE),
+LONG = [("a full CP/M disk", put_image(21, "cpm8", 9, LONG_DISK), DONE),
     ("its file", get("/images/21/files/0"), content(LONG_FILE))]
 COUNTS = {12: 1, 14: 1, 15: 1, 16: 3, 17: 4, 18: 2, 26: 2}
 LINES = [{"accession": n, "deed": IMAGES[n][1], "files": COUNTS[n], "kind": IMAGES[n][0]} for n in COUNTS]
 # What changes nothing.
-READ_BACK = [
-    ("the images to the staff", get("/images", STAFF), told(images=LINES)),
+READ_BACK = [("the images to the staff", get("/images", STAFF), told(images=LINES)),
     ("the images to the room", get("/images", ROOM), told(images=LINES[1:])),
     ("a file to the staff", get("/images/12/files/0", STAFF), HELLO),
     ("a file to the room", get("/images/12/files/0", ROOM), denied("R7.10")),
