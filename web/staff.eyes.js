@@ -103,8 +103,8 @@ async function saveShown() {
   const { files, of, which } = await lookThrough(asked, mine.files);
   const [who, counts] = [AUDIENCES[asked.audience], `${files.length}-of-${mine.files.length}-files`];
   const name = `who-sees-what-${asked.audience}${of.replaceAll(" ", "-")}-${mine.name}-${counts}-asked`;
-  const what = `What ${who} gets ${mine.words}: ${which} ${askedWords(mine)} It is for ${who} alone.`;
-  const about = [what, mine.past ?? [], UNSAID].flat().join(" ");
+  const what = `What ${who} gets ${mine.words}: ${which} ${askedWords(mine)}`;
+  const about = [what, `It says nothing of what others than ${who} get.`, mine.past ?? [], UNSAID].flat().join(" ");
   return saveTable(name, mine.moment, about, SAVED_HEADS, files, (file) => savedVerdict(file, asked.audience, mine));
 }
 

@@ -99,12 +99,14 @@ export function sinceWords([disk, ...rules], { label, ...file }, changes) {
   const order = own ? orderOf(own.place) : Infinity;
   const done = changes.filter((one) => counts(one) && orderOf(one.place) < order && concerns(one, file));
   if (own) done.push(own.put);
+  done.sort((one, other) => one.at - other.at);
   const before = rules.filter(({ place, rule }) => orderOf(place) < order && canBeFor(rule, file));
   const days = [[own?.rule.from, label, "began"], ...before.map((one) => [one.rule.until, one.label, "ended"])];
   const turns = days.filter(([day]) => day && day <= today()).map(([day, of, did]) => `${day} (${meaning(of)} ${did})`);
-  // these texts begin with their moments or days, and a day comes before its moments
-  const texts = [doneWords(disk.put, "taken in"), ...done.map((one) => doneWords(one)), ...turns];
-  return `in the journal since ${texts.sort().at(-1)}`;
+  // These texts begin with their moments or days, and a day comes before its moments. Of one second the last counts.
+  const texts = [...turns, doneWords(disk.put, "taken in"), ...done.map((one) => doneWords(one))];
+  const latest = texts.reduce((last, text) => (text.slice(0, 19) < last.slice(0, 19) ? last : text));
+  return `in the journal since ${latest}`;
 }
 
 // What is not known to have been so on a day that is over: words for a disk or a rule that stands; "" where it was so.
@@ -161,7 +163,8 @@ function changedWords(changes, { day, reach, isFar }) {
   const since = changes.filter(isSince(day));
   const words = listed(Object.entries(SORTS).map(([word, sort]) => counted(since.filter(isSort(sort)).length, word)));
   const short = isFar ? "" : ` What changed before ${reach || "it began"} it does not say.`;
-  return `Put or dropped since ${day}, as the journal has it, and not undone here: ${words}.${short}`;
+  const said = `Put or dropped of all disks and deeds since ${day}, as the journal has it, and not undone here`;
+  return `${said}: ${words}.${short}`;
 }
 
 // The latest changes since a day, the newest first.

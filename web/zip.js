@@ -1,4 +1,4 @@
-// A zip of files as they are, without compression.
+// A zip of files as they are, without compression, with the day and the hour of this computer's clock.
 
 const TABLE = Uint32Array.from({ length: 256 }, (_, start) => {
   let value = start;
@@ -14,25 +14,29 @@ export function crcOf(bytes) {
 }
 
 const VERSION = 20;
-// 1980-01-01, the first day that a zip can have.
-const DAY = 0x0021;
+
+// A moment as a zip has it: the time, in steps of two seconds, and the day, from 1980 on.
+function stampOf(moment) {
+  const time = (moment.getHours() << 11) | (moment.getMinutes() << 5) | (moment.getSeconds() >> 1);
+  return [time, ((moment.getFullYear() - 1980) << 9) | ((moment.getMonth() + 1) << 5) | moment.getDate()];
+}
 
 // Numbers as a zip has them: of two or four bytes each, the low byte first.
 const bytesOf = ([size, value]) => Array.from({ length: size }, (_, at) => (value >>> (8 * at)) & 0xff);
 const numbers = (...pairs) => Uint8Array.from(pairs.flatMap(bytesOf));
 
 // What stands of a file both before its bytes and in the directory.
-function fields({ name, bytes, crc }) {
+function fields({ name, bytes, crc, stamp: [time, day] }) {
   const sizes = [[4, bytes.length], [4, bytes.length], [2, name.length], [2, 0]];
-  return [[2, VERSION], [2, 0], [2, 0], [2, 0], [2, DAY], [4, crc], ...sizes];
+  return [[2, VERSION], [2, 0], [2, 0], [2, time], [2, day], [4, crc], ...sizes];
 }
 
 // The parts of a zip of files, each a name in ASCII and its bytes.
 export function zipParts(files) {
-  const [parts, directory] = [[], []];
+  const [parts, directory, stamp] = [[], [], stampOf(new Date())];
   let place = 0;
   for (const { name, bytes } of files) {
-    const file = { name: new TextEncoder().encode(name), bytes, crc: crcOf(bytes) };
+    const file = { name: new TextEncoder().encode(name), bytes, crc: crcOf(bytes), stamp };
     const head = numbers([4, 0x04034b50], ...fields(file));
     parts.push(head, file.name, bytes);
     const more = [[2, 0], [2, 0], [2, 0], [4, 0], [4, place]];

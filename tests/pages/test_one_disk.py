@@ -74,7 +74,7 @@ def test_file_says_since_when_the_journal_has_no_change_that_can_concern_it_and_
     cases = [(-60, "200", "PUT", TAKEN_IN, "", None), (20, "200", "PUT", f"{at}5", every, None),
              (10, "200", "PUT", f"{at}7", one, (*[ranked("Put", 5, 20)] * 2, ruled)),
              (30, "200", "PUT", f"{at}5", one, (*[ranked("Put", 5, 30)] * 2, ruled)),
-             (40, "200", "DELETE", f"{at}5", "", (ranked("Put", 5, 30), ranked("Drop", 5, 40), ruled)),
+             (30.3, "200", "DELETE", f"{at}5", "", (ranked("Put", 5, 30), ranked("Drop", 5, 30.3), ruled)),
              (60, "200", "DELETE", f"{at}6", "", None), (70, "200", "PUT", f"{of_deed}30", "", None),
              (80, "404", "PUT", f"{of_deed}10", "", [drop6] * 3),
              (90, "502", "PUT", f"{of_deed}10", "", (maybe, drop6, maybe)),

@@ -247,7 +247,7 @@ def zipped(reader):
     """The zip of disk 2001, the rows of its list, and what it says of itself."""
     reader.go("2001")
     reader.named("button", "as a zip").click()
-    made = zipfile.ZipFile(io.BytesIO(reader.saved("disk-2001.zip")))
+    made = zipfile.ZipFile(io.BytesIO(reader.saved("disk-2001-asked-2026-06-15T12*Z.zip")))
     assert made.testzip() is None
     return made, list(csv.reader(made.read("list.csv").decode().splitlines())), made.read("about.txt").decode()
 
@@ -256,15 +256,16 @@ def test_zip_has_all_files_that_may_be_read_by_harmless_names_and_says_what_it_i
     made, rows, about = zipped(reader)
     names = [f"files/{name}" for name in SAVED_AS]
     assert made.namelist() == [*names, "SHA256SUMS", "list.csv", "about.txt"]
+    assert {one.date_time[:3] for one in made.infolist()} == {(2026, 6, 15)}, "another day than that of the clock"
     assert [made.read(name) for name in names] == [data for _, data in GIVEN]
     sums = [f"{digest(data)}  {name}" for name, (_, data) in zip(names, GIVEN)]
     assert made.read("SHA256SUMS").decode().splitlines() == sums
     assert rows[0][3:] == ["name as shown", "type", "bytes", "sha256", "name here", "left out because"]
-    assert [row[2] for row in rows[1:]] == [name if name[0] != "=" else f"'{name}" for name, _ in GIVEN]
+    assert [row[2] for row in rows[1:-2]] == [name if name[0] != "=" else f"'{name}" for name, _ in GIVEN]
+    assert all(row[8] in about.replace("\n", " ") for row in rows[-2:]), "the table does not say what it lacks"
     zip_says(reader, "Saved: 8 files.")
-    day = "15 June 2026 at [0-9:]+ [^ ]+"
-    for words in (f"number 2001. {reader.door.address}#/2001 ", f"asked the desk on {day} by .* clock, without a key.",
-                  f"had come by {day}[.]\n", "zip: 8 files, .*\nfiles/HELLO.prg: HELLO, slot 0, rule 20 of deed 9 ",
+    for words in (f"number 2001. {reader.door.address}#/2001 ", "desk on 15 June 2026 at [0-9:]+ .* without a key.",
+                  "had come by 15 June .*[.]\n", "zip: 8 files, .*\nfiles/HELLO.prg: HELLO, slot 0, rule 20 of deed 9 ",
                   "zip: 0 files[.]\n\n1 more file is closed to you, .*: takedown 1 of disk 2001 .T2001.1.[.]\nThis"):
         assert re.search(words, about), (words, about)
 

@@ -87,7 +87,7 @@ def test_day_that_is_over_is_said_to_be_by_rules_of_today_and_a_saved_table_says
         assert staff.texts("#eyes .stands h2") == [heading], "a past day looks known"
         name = f"who-sees-what-public{count * '-of-disk-1003'}-1999-01-01-by-the-rules-of-{TODAY}"
         _, saved = saved_table(staff, f"{name}-{count}-of-14-files-asked")
-        about = f"{heading}: {shown} It is for the public alone. {SINCE} {UNSAID}"
+        about = f"{heading}: {shown} It says nothing of what others than the public get. {SINCE} {UNSAID}"
         assert saved[:2] == ["Museum of the River", about], "a saved table looks as if it had all"
     assert (saved[2:4], saved[4][:14]) == (["1999-01-01", PAST], f"{TODAY}T12:")
     assert saved[5:8] == ["the public", EFFECTS["list"], f"{UNSERVED['SEQ']}; {PAST}; {NO_JOURNAL}"]
