@@ -68,7 +68,7 @@ export async function originsOf(things, tools) {
 
 export const SINCE = `In the journal since: from then on it has no change of the disk, of the rule that decides, or of \
 a rule before that; it may have been so for longer. Rules for another file by its slot, or for other readers, do not \
-count; what is put where the journal has nothing before counts as new.`;
+count; a takedown that is put where the journal has nothing before counts as new.`;
 
 // The place of a rule in the order in which the desk tries them: takedowns come before the rules of a deed.
 function orderOf(place) {
@@ -81,8 +81,10 @@ const canBeFor = ({ audiences, select }, { slot, audience }) =>
   (select?.slot ?? slot) === slot && (!Array.isArray(audiences) || audiences.includes(audience));
 
 // Whether a change can concern a file and an audience, by the rule that it puts or by one that may have stood there.
-function concerns({ method, body, stood }, file) {
-  const bodies = method === "PUT" ? [body, ...stood.filter((one) => one !== undefined)] : stood;
+// Of a deed's rule older lines may not be read, so one that is not known may have stood; of a disk's takedowns all are.
+function concerns({ place, method, body, stood }, file) {
+  const before = place.startsWith("/deeds/") ? stood : stood.filter((one) => one !== undefined);
+  const bodies = method === "PUT" ? [body, ...before] : stood;
   return bodies.some((one) => canBeFor(bodyOf({ body: one }), file));
 }
 

@@ -62,19 +62,19 @@ def test_rule_says_what_was_there_before_it_or_how_far_the_journal_is_read(disk)
     assert disk.go("disk/1002")["rows"][3][5] == f"{BY}Drop rule 20 of deed 9, {when(-8.5)} by Bob"
 
 def test_file_says_since_when_the_journal_has_no_change_that_can_concern_it_and_its_readers(museum, disk):
-    """A change concerns the file and the readers of the rule that it puts, and of one that stood in its place."""
+    """Cases: what is done; since when the first and last file are so for the public, and the last for the staff."""
     every = READ.replace(',"staff"', "").replace('"read"', '"deny"')
     one = every.replace('"all":true', '"slot":2')
     by = lambda far, what, who="nobody who is named": f"{when(far + 0.5)} by {who}: {what}"
     ranked = lambda word, rank, far: by(far, f"{word} takedown {rank} of disk 1002")
     at, of_deed, ended = "/images/1002/rules/", "/deeds/9/rules/", "2026-06-01 (takedown 1 of disk 1002 ended)"
-    ruled, drop6 = by(0, f"Put {BY_DEED}", "Ada"), ranked("Drop", 6, 60)
-    maybe = by(90, "Put rule 10 of deed 9 (nobody knows whether the desk did it)")
-    # what is done; since when the first and the last file are so for the public, and the last for the staff
+    ruled, drop5, drop6 = by(0, f"Put {BY_DEED}", "Ada"), ranked("Drop", 5, 30.3), ranked("Drop", 6, 60)
+    five, maybe = by(50, "Put rule 5 of deed 9"), by(90, "Put rule 10 of deed 9 (nobody knows whether the desk did it)")
     cases = [(-60, "200", "PUT", TAKEN_IN, "", None), (20, "200", "PUT", f"{at}5", every, None),
              (10, "200", "PUT", f"{at}7", one, (*[ranked("Put", 5, 20)] * 2, ruled)),
              (30, "200", "PUT", f"{at}5", one, (*[ranked("Put", 5, 30)] * 2, ruled)),
-             (30.3, "200", "DELETE", f"{at}5", "", (ranked("Put", 5, 30), ranked("Drop", 5, 30.3), ruled)),
+             (30.3, "200", "DELETE", f"{at}5", "", (ranked("Put", 5, 30), drop5, ruled)),
+             (50, "200", "PUT", f"{of_deed}5", every.replace('"public",', ""), (five, drop5, five)),
              (60, "200", "DELETE", f"{at}6", "", None), (70, "200", "PUT", f"{of_deed}30", "", None),
              (80, "404", "PUT", f"{of_deed}10", "", [drop6] * 3),
              (90, "502", "PUT", f"{of_deed}10", "", (maybe, drop6, maybe)),

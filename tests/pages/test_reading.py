@@ -262,7 +262,7 @@ def test_zip_has_all_files_that_may_be_read_by_harmless_names_and_says_what_it_i
     assert made.read("SHA256SUMS").decode().splitlines() == sums
     assert rows[0][3:] == ["name as shown", "type", "bytes", "sha256", "name here", "left out because"]
     assert [row[2] for row in rows[1:-2]] == [name if name[0] != "=" else f"'{name}" for name, _ in GIVEN]
-    assert all(row[8] in about.replace("\n", " ") for row in rows[-2:]), "the table does not say what it lacks"
+    assert all(row[8] and row[8] in about.replace("\n", " ") for row in rows[-2:]), "what it lacks is not in the table"
     zip_says(reader, "Saved: 8 files.")
     for words in (f"number 2001. {reader.door.address}#/2001 ", "desk on 15 June 2026 at [0-9:]+ .* without a key.",
                   "had come by 15 June .*[.]\n", "zip: 8 files, .*\nfiles/HELLO.prg: HELLO, slot 0, rule 20 of deed 9 ",
