@@ -260,7 +260,8 @@ export function sure({ words, more = [], go, keep }) {
   part("sure-who").textContent = `By ${name}. Reason: ${reason}`;
   part("sure-more").replaceChildren(...more);
   const [yes, no] = dialog.querySelectorAll("button[value]");
-  yes.textContent = go;
+  // (a save that was under way when an earlier question was left may have shut it)
+  [yes.disabled, yes.textContent] = [false, go];
   no.textContent = keep;
   dialog.returnValue = "";
   dialog.showModal();
