@@ -37,10 +37,11 @@ async function readDisk(accession, tools, show = showDisk) {
   disk.files = await verdictsOf(survey, asked.day, tools);
   disk.names = namesOf(disk.files);
   show(disk);
-  const { told, changes } = await originsOf(things, tools);
+  const { told, changes, none } = await originsOf(things, tools);
   things.forEach((thing, at) => Object.assign(thing, told[at]));
   const [own, deed] = [survey.accession, survey.deed].map(String);
   disk.changes = changes.filter((one) => (one.accession ? one.accession === own : one.deed === deed));
+  disk.none = none;
   show(disk);
   return disk;
 }
@@ -69,7 +70,8 @@ const everyVerdict = ({ files }) =>
   files.flatMap((record) => Object.keys(AUDIENCES).map((audience) => [record, audience]));
 
 // Since when a file is to an audience as it is now.
-function sinceOf({ things, changes }, record, audience) {
+function sinceOf({ things, changes, none }, record, audience) {
+  if (none) return `since when: ${none}`;
   const file = { label: record[EFFECT_AT[audience] + 1], slot: Number(record[COLUMNS.slot]), audience };
   return changes ? sinceWords(things, file, changes) : UNREAD;
 }
@@ -158,8 +160,9 @@ function saveDisk(disk, more = "") {
   return saveTable(`disk-${accession}-${asked.day}-asked`, asked.moment, about, heads, everyVerdict(disk), rowOf);
 }
 
-// Asks the desk for a disk, and saves what it says now.
-export const saveNow = async (accession, more, tools) => saveDisk(await readDisk(accession, tools, () => {}), more);
+// Asks the desk for a disk, and saves what it says now, unless that is stopped.
+export const saveNow = async (accession, more, tools) =>
+  saveDisk(await readDisk(accession, tools, () => tools.signal.throwIfAborted()), more);
 
 // Puts a takedown of each file that is ticked, at a free rank, once all are rehearsed and agreed to.
 async function takeDown(records, tools) {

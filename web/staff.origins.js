@@ -58,12 +58,12 @@ async function journalTo(isEnough, tools) {
 }
 
 // For each of some things that stand, the words that say who put it, when and why, and the change that did, if that is
-// in the journal; and the changes that were read.
+// in the journal; and the changes that were read, or why none could be.
 export async function originsOf(things, tools) {
   const isEnough = (changes, places = byPlaces(changes)) => things.every((one) => originOf(one, places).put);
   const { changes, places, far, none } = await journalTo(isEnough, tools);
   const toldOf = (one, found) => ({ origin: none || originWords(one, found, far), put: found.put });
-  return { told: things.map((one) => toldOf(one, originOf(one, places))), changes };
+  return { told: things.map((one) => toldOf(one, originOf(one, places))), changes, none };
 }
 
 export const SINCE = `In the journal since: from then on it has no change of the disk, of the rule that decides, or of \

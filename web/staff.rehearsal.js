@@ -145,15 +145,18 @@ export function dayParts({ words, groups, past, none }, before) {
 }
 
 // A button that saves who gets what of a disk, as the desk says now, before a question is answered, and what says so:
-// afterwards nobody can have it. While it saves, the answer cannot be yes.
+// afterwards nobody can have it. While it saves, the answer cannot be yes; where the question is left, it saves nothing.
 export function saveFirst(accession, question, tools) {
   const [said, go] = [element("div", "", { role: "status" }), part("sure").querySelector("[value=go]")];
   const words = ` It is what stood before an answer to: \u201c${question}\u201d`;
   const press = async () => {
+    const stop = new AbortController();
+    part("sure").addEventListener("close", () => stop.abort(), { once: true });
     [go.disabled, said.textContent] = [true, "Asking the desk."];
-    const saved = loaded(import("./staff.disk.js")).then(({ saveNow }) => saveNow(accession, words, tools));
+    const how = { ...tools, signal: stop.signal };
+    const saved = loaded(import("./staff.disk.js")).then(({ saveNow }) => saveNow(accession, words, how));
     said.replaceChildren(await saved.then((name) => `Saved: ${name}`).catch(refusedWork));
-    go.disabled = false;
+    if (!stop.signal.aborted) go.disabled = false;
   };
   return [box("div", "choices", button("Save what stands now, first", press), said)];
 }

@@ -1,9 +1,11 @@
 """One disk on one page: what it is, who gets what by which rules, who put these; takedowns of ticked files."""
 
+import threading
+
 import pytest
 from staff_helpers import CANNOT_REACH, journal_lines, lost_at, moment, saved_table, takedown
 from support import museums
-from support.browser import TODAY
+from support.browser import LIMIT, TODAY
 from support.samples import DONOR_OF_9, refused
 
 START, ALL = 1_700_000_000, "the public, the reading room and the staff, on all days"
@@ -55,11 +57,15 @@ def test_disk_says_what_it_is_and_who_gets_what_by_which_rule(museum, disk):
         [TODAY, "the public", SHUT, "T1002.1000", said, NOT, *file],
         [TODAY, "the staff", "read it", "R9.20", f"all files readable for {ALL}", BY + NOTHING, *file]]
 
-def test_rule_says_what_was_there_before_it_or_how_far_the_journal_is_read(disk):
+def test_rule_says_what_was_there_before_it_or_how_far_the_journal_is_read_or_that_it_is_not(disk):
     disk.door.journals["/journal"] += journal_lines(2, START, "200", "PUT", TAKEN_IN)
     assert disk.load() and disk.begin().go("disk/1002")["rows"][3][5] == f"{BY}nothing {FAR}", "as if it were the first"
     disk.door.journals["/journal"] += journal_lines(3, START - 9, "200", "DELETE", "/deeds/9/rules/20", "Bob")
     assert disk.go("disk/1002")["rows"][3][5] == f"{BY}Drop rule 20 of deed 9, {when(-8.5)} by Bob"
+    for reply in (b"", refused(500, "X")):
+        disk.door.before = lambda _, path: reply if path == "/journal" else None
+        unread = [row[5] for row in disk.go("disk/1002")["rows"]][:4:3]
+        assert unread == [f"{READS}since when: the journal cannot be read", "the journal cannot be read"]
 
 def test_file_says_since_when_the_journal_has_no_change_that_can_concern_it_and_its_readers(museum, disk):
     """Cases: what is done; since when the first and last file are so for the public, and the last for the staff."""
@@ -104,7 +110,11 @@ def test_files_ticked_by_their_shown_names_are_taken_down_and_what_stands_after_
     asked = disk.push("Take down what is ticked")["sure"][:3]
     due = "Take down 2 files of disk 1002 for the public{}?"
     assert asked == [due.format(" and the reading room"), *notes], "files are not named as they are shown"
+    is_left = threading.Event()
+    disk.door.before = lambda _, path: is_left.wait(LIMIT) and None if path.endswith("/survey") else None
+    disk.push("Save what stands now, first")  # the question is left meanwhile: there is one table below, not two
     assert disk.answer(False) and disk.set("#ticked [value=room]", False) is None
+    is_left.set()
     assert disk.push("Take down what is ticked")["sure"][0] == due.format("") and disk.answer(False)
     assert disk.set("#ticked [value=room]", True) or disk.push("Take down what is ticked")
     museum.rules["T1002"] = takedown(7, 2)
