@@ -99,6 +99,7 @@ function summary(checks) {
 
 // Reads the checks anew, and shows them.
 async function showChecks() {
+  formOf("checks").elements.before.defaultValue = dayAfter(today(), -DAYS);
   const checks = await readHeld("checks");
   const columns = { Disk: (one) => one.accession, "Checked on": (one) => one.day ?? "never" };
   Object.assign(columns, { Outcome: (one) => one.outcome ?? "", "": null });
@@ -114,6 +115,5 @@ export function listen() {
   const { before } = form.elements;
   showsAnew("checks", showChecks);
   limitFields(form);
-  before.value = dayAfter(today(), -DAYS);
   form.addEventListener("submit", () => change("checks", (tools) => checkAll(before.value, tools)));
 }

@@ -20,7 +20,8 @@ const SEARCHED = 15;
 
 async function read(day, tools) {
   const asked = { day, words: onDay(day), rules: byWhichRules(day), moment: momentNow(), changeCount };
-  asked.name = day === today() ? day : `${day}-by-the-rules-of-${today()}`;
+  asked.isToday = day === today();
+  asked.name = asked.isToday ? day : `${day}-by-the-rules-of-${today()}`;
   const [files, once] = [[], keeper()];
   const searchOf = keeper((kind) => keeper((name) => searchText(kind, name)));
   const searched = (record) => searchOf(record[COLUMNS.kind])(record[COLUMNS.name]);
@@ -70,11 +71,11 @@ async function lookThrough({ audience, words, showsClosed }, all) {
   return { files, counts, of, which };
 }
 
-function fileRow(file, audience) {
+function fileRow(file, audience, asked) {
   const [kind, name, slot] = [file[COLUMNS.kind], file[COLUMNS.name], cell("Slot", file[COLUMNS.slot], "number")];
   const cells = [diskCell(file[COLUMNS.accession]), cell("Kind", kindWords(kind)), slot, nameCell(kind, name)];
   const rule = box("span", "", `${file[EFFECT_AT[audience] + 1]} `, ruleShown(file, audience));
-  const may = cell("They may", mayWords(file, audience, seen));
+  const may = cell("They may", mayWords(file, audience, asked));
   return row([...cells, cell("Type", file[COLUMNS.type]), may, cell("Rule", rule)]);
 }
 
@@ -82,19 +83,20 @@ function fileRow(file, audience) {
 let turn = 0;
 
 async function draw() {
-  const mine = ++turn;
-  const asked = wanted();
+  const [mine, of, asked] = [++turn, seen, wanted()];
   const stands = part("eyes").querySelector(".stands");
   stands.setAttribute("aria-busy", "true");
-  const { files, counts, which } = await lookThrough(asked, seen.files);
+  const { files, counts, which } = await lookThrough(asked, of.files);
   if (mine !== turn) return;
-  const columns = ["Disk", "Kind", "Slot", "Name", "Type", "They may", "Rule"];
-  const made = files.length ? [longTable("verdicts", columns, files, (file) => fileRow(file, asked.audience))] : [];
-  const heading = dated("h2", `What ${AUDIENCES[asked.audience]} gets ${seen.words}`);
-  const shown = `Shown: ${which} ${askedWords(seen)}`;
-  const words = [countWords(asked.audience, (effect) => counts[effect]), shown, seen.past ?? []].flat();
-  stands.replaceChildren(heading, ...words.map((text) => dated("p", text)), ...made);
   stands.setAttribute("aria-busy", "false");
+  if (of !== seen) return;
+  const columns = ["Disk", "Kind", "Slot", "Name", "Type", "They may", "Rule"];
+  const rowOf = (file) => fileRow(file, asked.audience, of);
+  const heading = dated("h2", `What ${AUDIENCES[asked.audience]} gets ${of.words}`);
+  const shown = `Shown: ${which} ${askedWords(of)}`;
+  const words = [countWords(asked.audience, (effect) => counts[effect]), shown, of.past ?? []].flat();
+  const made = files.length ? [longTable("verdicts", columns, files, rowOf)] : [];
+  stands.replaceChildren(heading, ...words.map((text) => dated("p", text)), ...made);
   part("eyes").querySelector(".found").hidden = false;
 }
 
@@ -108,17 +110,24 @@ async function saveShown() {
   return saveTable(name, mine.moment, about, SAVED_HEADS, files, (file) => savedVerdict(file, asked.audience, mine));
 }
 
+// (as long as nobody types another day, the field follows its default)
 async function look(tools) {
-  await read(formOf("eyes").elements.day.value, tools);
+  const { day } = formOf("eyes").elements;
+  day.defaultValue = today();
+  await read(day.value, tools);
   await draw();
   return `Read: what everybody gets ${seen.words}.`;
 }
 
-// Opens the view with the day that is shown. What stood before a change goes, and the desk is asked anew.
+// Opens the view with the day that is shown. What stood before a change goes, and so does a today that is over: the
+// desk is asked anew.
 export function open(_, tools) {
-  formOf("eyes").elements.day.value = seen.day || today();
-  if (!seen.day || seen.changeCount === changeCount) return null;
-  seen.files = null;
+  const [{ day }, isOver] = [formOf("eyes").elements, seen.isToday && seen.day !== today()];
+  day.defaultValue = today();
+  if (!seen.day) return null;
+  if (!isOver && day.value !== seen.day) day.value = seen.day;
+  if (!isOver && seen.changeCount === changeCount) return null;
+  seen = { ...seen, files: null };
   part("eyes").querySelector(".stands").replaceChildren();
   part("eyes").querySelector(".found").hidden = true;
   return look(tools);

@@ -150,7 +150,7 @@ async function goOn({ currentTarget: button }) {
 }
 
 function readAnew(tools) {
-  [lines, read, readAt] = [new Lines(), new AllChanges(), momentNow()];
+  [lines, read, readAt, turn] = [new Lines(), new AllChanges(), momentNow(), turn + 1];
   return readOlder(tools);
 }
 
@@ -179,6 +179,7 @@ export function open(accession, tools) {
   formOf("journal").reset();
   formOf("journal").elements.accession.value = accession ?? "";
   disk = NO_DISK;
+  part("journal").querySelector(".stands").replaceChildren();
   return readAnew(tools);
 }
 

@@ -145,7 +145,7 @@ export function dayParts({ words, groups, past, none }, before) {
 }
 
 // A button that saves who gets what of a disk, as the desk says now, before a question is answered, and what says so:
-// afterwards nobody can have it. While it saves, the answer cannot be yes; where the question is left, it saves nothing.
+// afterwards nobody can have it. While it saves, the answer cannot be yes; where the question is left, it stops.
 export function saveFirst(accession, question, tools) {
   const [said, go] = [element("div", "", { role: "status" }), part("sure").querySelector("[value=go]")];
   const words = ` It is what stood before an answer to: \u201c${question}\u201d`;

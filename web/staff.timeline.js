@@ -82,7 +82,7 @@ function mark() {
 }
 
 function choose(day) {
-  field().value = day ?? field().value;
+  if (day) field().value = day;
   mark();
   look();
 }
@@ -127,12 +127,14 @@ async function showDay(day, tools) {
   stands().querySelector(".day").replaceChildren(heading, ...texts.map((text) => dated("p", text)), ...more);
 }
 
-// The day that was read last. One that is chosen meanwhile comes next.
+// The day that was read last. One that is chosen meanwhile comes next; one that nobody chose is today.
 let read = "";
 
 async function look() {
+  field().defaultValue = today();
   const doing = async (tools) => {
     read = field().value;
+    mark();
     await showDay(read, tools);
     return `Read: ${read}.`;
   };
@@ -140,6 +142,7 @@ async function look() {
 }
 
 export async function open() {
+  field().defaultValue = today();
   field().value ||= today();
   await readLines();
   draw();

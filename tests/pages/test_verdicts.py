@@ -18,6 +18,10 @@ UNSERVED = {"DEL": "the desk gives out no file of type DEL",
             "SEQ": "damaged: read-error (the drive could not read a block of it)"}
 # A script: where the bars of the timeline are, and what drags the day.
 ENDS = "return ['.lane', '[type=range]'].map((at) => document.querySelector(`#timeline ${at}`).getBoundingClientRect())"
+# A script: what is drawn next comes two seconds later.
+LATE = """const [later, now] = [setTimeout, performance.now.bind(performance)];
+performance.now = () => performance.far = now() + 99 * (performance.far > 0);
+setTimeout = (go) => { [setTimeout, performance.now] = [later, now]; later(go, 2000); };"""
 UNSAID = "It does not say who has read or copied a file, nor what stands on other days."
 STOOD, PAST = f"by the rules of {TODAY} when it was asked", f"by the rules of {TODAY}, not by those that stood then"
 NO_JOURNAL = "what stood then is not known: there is no journal"
@@ -69,10 +73,24 @@ def test_table_has_the_day_of_its_field_and_is_asked_anew_once_something_was_cha
             staff.take_down("1002", rank, "2", "room")
             staff.answer(True)
         staff.door.visits.clear()
+        staff.script(LATE * is_lost)
+        staff.fill("eyes", closed=True)
         assert [row[5] for row in staff.go("eyes")["rows"]].count("read it") == count, "it stood before a change"
         assert [at for _, at, _ in staff.door.visits if at == path] == [path] * bool(rank)
         assert staff.one("#eyes [name=day]").get_property("value") == DAYS[1], "a table under the day of another"
         assert staff.one("#eyes .found").is_displayed() != is_lost, "what is not shown can be saved"
+
+def test_day_that_nobody_typed_is_today_also_where_a_page_stays_open_overnight(staff):
+    for first, view, button, words in (15, "eyes", "Look", "what everybody gets on "), (17, "timeline", "Look at", ""):
+        staff.go(view)
+        for day in (first, first + 1):
+            assert staff.push(button)["result"] == [f"Read: {words}2026-06-{day}."], "a today that is over"
+            staff.script(CLOCK % 86_400_000)
+    assert staff.go("eyes") and staff.texts("#eyes h2") == ["What the public gets on 2026-06-19"], "what stood days ago"
+    look(staff, "2026-06-19")
+    staff.script(CLOCK % 86_400_000)
+    assert staff.go("eyes") and "on 2026-06-19, by" in staff.push("Look")["result"][0], "not the day that was typed"
+    assert staff.go("checks") and staff.one("[name=before]").get_property("value") == "2025-06-20"
 
 def test_day_that_is_over_is_said_to_be_by_rules_of_today_and_a_saved_table_says_what_it_has(staff, tmp_path):
     (tmp_path / "about.csv").write_text("name,value\nmuseum,Museum of the River\n")
