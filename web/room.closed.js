@@ -1,5 +1,5 @@
 // What is closed to the reader: how many files of a disk, by which rules, and why one of them is.
-import { kept, nameOfDisk, nameOfFile, typeWords } from "./room.lists.js";
+import { nameOfDisk, nameOfFile, typeWords } from "./room.lists.js";
 import { facts, link } from "./room.parts.js";
 import { ask, box, counted, element, meaning, textOf } from "./shared.js";
 import { pause } from "./stream.js";
@@ -20,11 +20,11 @@ export function rulesOf(files) {
 export const deedWords = (deed) => `Deed ${deed} is the paper by which the disk came to the museum. `;
 
 // The refusals of files that a list lacks: at the slots that it leaves out, and behind it up to one without a file.
-export async function closedNow(accession, listed) {
+export async function closedNow(accession, listed, signal) {
   const [closed, slots] = [[], new Set(listed.map(({ slot }) => slot))];
   for (let slot = 0, asked = 0; asked < MOST; slot += 1) {
     if (slots.has(slot)) continue;
-    const came = await ask(`/images/${accession}/files/${slot}`).catch((fault) => fault);
+    const came = await ask(`/images/${accession}/files/${slot}`, { signal }).catch((fault) => fault);
     const name = textOf(came.said?.error);
     if (name === "denied") closed.push({ slot, rule: textOf(came.said.rule) });
     else if (name !== "no-file") throw came;
@@ -35,11 +35,8 @@ export async function closedNow(accession, listed) {
   return Object.assign(closed, { isCut: true });
 }
 
-const closedOn = (accession, listed) => kept(`closed ${accession}`, () => closedNow(accession, listed));
-
 // How many files of a disk are closed besides those of a list, and why; an empty text if the desk tells of none.
-export async function closedWords(accession, listed, read = closedOn) {
-  const closed = await read(accession, listed);
+export function closedWords(closed) {
   const are = closed.length === 1 ? "is" : "are";
   const most = closed.isCut ? "At least " : "";
   const words = `${most}${counted(closed.length, "more file")} ${are} closed to you, name and all: ${rulesOf(closed)}.`;
@@ -56,7 +53,7 @@ function othersOf({ accession, kind, slot, rule }, all) {
 }
 
 // Why a file is closed: what the museum says of the disk, which rule decides, and which other files that closes.
-export function whyClosed(file, listed) {
+export function whyClosed(file, listed, signal) {
   const { accession, files, rule } = file;
   const [, kind, deed] = /^([RT])(\d+)/.exec(rule) ?? [];
   const is = kind === "T" ? "A takedown is how the staff closes files. Name it" : `${deedWords(deed)}Name this rule`;
@@ -67,7 +64,7 @@ export function whyClosed(file, listed) {
   const note = noteOf(accession) && `\u201c${nameOfDisk(accession)}\u201d: ${noteOf(accession)}`;
   const said = { "The museum says of": note, "What it is": known, "What decides": why };
   const list = Object.assign(facts(said), { ariaLive: "polite" });
-  const all = listed ? Promise.resolve(files) : closedOn(accession, files);
+  const all = listed ? Promise.resolve(files) : closedNow(accession, files, signal);
   const more = kind ? "It also closes" : "The same holds for";
   all.then((some) => list.append(...facts({ [more]: othersOf(file, some) }).children)).catch(() => {});
   return box("div", "refused", element("p", `This file is closed to you. You may see ${shown}.`), list);

@@ -59,7 +59,7 @@ async function otherDisks(accession) {
   return at < 0 ? null : neighbours("disk", disks, at, wayTo);
 }
 
-export async function showDisk(number) {
+export async function showDisk(number, signal) {
   const accession = Number(number);
   const { kind, deed, files } = await listingOf(accession);
   const title = nameOfDisk(accession);
@@ -74,7 +74,7 @@ export async function showDisk(number) {
   const staff = askAbout(accession);
   const why = box("p", "quiet", rules, deedWords(deed), staff);
   const say = (closed) => closed && why.before(box("p", "callout", `${closed} `, staff));
-  closedWords(accession, files, closedNow).then(say, () => {});
+  closedNow(accession, files, signal).then(closedWords).then(say, () => {});
   const quotes = quoting(() => citation(accession, kind));
   const text = box("div", "", ...zipWay({ accession, kind, files, quotes }), files.length ? list : none, why);
   const aside = files.length ? machine({ kind, accession, files }) : "";

@@ -143,14 +143,14 @@ async function copiesOf(place, digest, words) {
 }
 
 // The listing says how to read the bytes, and comes first. A file that it lacks, and that comes, was opened in between.
-export async function showFile(number, slot) {
+export async function showFile(number, slot, signal) {
   const accession = Number(number);
   const { kind, files } = await listingOf(accession);
   const file = files.find((one) => one.slot === Number(slot));
   const heading = file && nameOfFile(kind, file);
   const named = (fault) => {
     const closed = { accession, kind, slot: Number(slot), files, rule: textOf(fault.said?.rule) };
-    const why = fault.said?.error === "denied" ? whyClosed(closed, file) : null;
+    const why = fault.said?.error === "denied" ? whyClosed(closed, file, signal) : null;
     throw Object.assign(fault, { heading, why });
   };
   const bytes = new Uint8Array(await (await ask(`/images/${accession}/files/${slot}`).catch(named)).arrayBuffer());

@@ -139,9 +139,10 @@ function summary(hits, counts, { q, type, kind }, isRead) {
 
 // Says of each disk that was found how many of its files are closed, and why; the disk says whom to ask.
 async function sayClosed(shown, cards, files, isOver) {
-  const { closedWords } = await loaded(import("./room.closed.js"));
+  const { closedNow, closedWords } = await loaded(import("./room.closed.js"));
   for (const [at, { accession }] of shown.entries()) {
-    const words = isOver() ? "" : await closedWords(accession, files.get(accession) ?? []);
+    const read = () => closedNow(accession, files.get(accession) ?? []);
+    const words = isOver() ? "" : closedWords(await kept(`closed ${accession}`, read, files.asked));
     if (words) cards[at].lastChild.append(box("p", "closed", link(words, accession)));
   }
 }

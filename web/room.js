@@ -8,6 +8,8 @@ import { readTitles } from "./titles.js";
 
 // How often the view has changed: the page drops a reply to an earlier view.
 let turn = 0;
+// What stops what a view still asks for once the reader goes on.
+let leaving = new AbortController();
 // The path of the view that is shown, what draws its choices anew, and what is to be done when the reader leaves it.
 let shown = { path: null, change: null, leave: () => {} };
 // Of each entry of the browser's history how far it was scrolled, and by which link the reader left it.
@@ -34,9 +36,9 @@ function showPlaces({ path, accession, slot }) {
 }
 
 // What not every reader needs is loaded when it is asked for.
-async function asked({ path, query, accession, slot }, progress) {
-  if (slot !== undefined) return (await loaded(import("./room.file.js"))).showFile(accession, slot);
-  if (accession !== undefined) return (await loaded(import("./room.disk.js"))).showDisk(accession);
+async function asked({ path, query, accession, slot }, progress, signal) {
+  if (slot !== undefined) return (await loaded(import("./room.file.js"))).showFile(accession, slot, signal);
+  if (accession !== undefined) return (await loaded(import("./room.disk.js"))).showDisk(accession, signal);
   if (path !== "") throw new Refused(404, { error: "no-route" });
   return showHome(choicesIn(query), progress);
 }
@@ -103,6 +105,8 @@ async function show(isMoved) {
   const mine = ++turn;
   const focused = focusedLink();
   const at = arrive();
+  leaving.abort();
+  const { signal } = (leaving = new AbortController());
   const progress = (words, asked) => {
     if (shown.path !== here.path && mine !== turn) return;
     part("status").textContent = words;
@@ -121,7 +125,7 @@ async function show(isMoved) {
     const isLost = mine === turn && focused !== null && document.activeElement === document.body;
     if (isLost) part("view").querySelector(focused)?.focus();
   } else {
-    const came = await own.then(() => asked(here, progress)).catch((fault) => refusedView(here, fault));
+    const came = await own.then(() => asked(here, progress, signal)).catch((fault) => refusedView(here, fault));
     if (mine !== turn) return;
     showPlaces(here);
     display(came, here);

@@ -30,9 +30,10 @@ forgetWithKey(() => {
 export const lastShown = () => lists.shown ?? [];
 export const showsNow = (disks) => Object.assign(lists, { shown: disks });
 
-// The promise of what was read, with the moment at which it was asked for, unless it is too old or did not come.
-export function kept(name, read) {
-  if (!lists[name] || Date.now() - lists[name].asked > KEPT) {
+// The promise of what was read, with the moment at which it was asked for, unless it is too old or did not come, or was
+// asked for before another moment.
+export function kept(name, read, since = 0) {
+  if (!lists[name] || lists[name].asked < since || Date.now() - lists[name].asked > KEPT) {
     const asked = Date.now();
     const made = { asked, list: read().then((list) => Object.assign(list, { asked })) };
     lists[name] = made;
@@ -109,7 +110,7 @@ const fileOf = (said) => ({ ...said, name: textOf(said.name), type: textOf(said.
 export async function listingOf(accession, signal) {
   const listing = await askObject(`/images/${accession}`, { signal });
   const files = listOf(listing.files).map(fileOf);
-  const rights = (some = []) => some.map(({ slot, effect }) => `${slot} ${effect}`).sort().join();
+  const rights = (some = []) => some.map(({ slot, effect, size }) => `${slot} ${effect} ${size}`).sort().join();
   const isOld = (all) => rights(all.get(accession)) !== rights(files);
   lists.files?.list.then((all) => isOld(all) && (lists = { shown: lists.shown, read: lists.read }), () => {});
   return { ...listing, files };

@@ -84,11 +84,12 @@ let key = "";
 
 export const keyInUse = () => key;
 
-// What forgets something that was asked with the key.
-const forgetters = [];
+// What forgets something that was asked with the key, until somebody has no more need of that.
+const forgetters = new Set();
 
 export function forgetWithKey(forget) {
-  forgetters.push(forget);
+  forgetters.add(forget);
+  return () => forgetters.delete(forget);
 }
 
 export function useNow(given) {

@@ -77,9 +77,16 @@ def test_list_says_when_it_was_asked_and_is_asked_anew_when_it_is_old_or_shows_w
     hour, museum.rules["T1001"] = at(), {1: museums.rule(1, "deny", ["public"], {"slot": 0})}
     assert (found("welco"), at()) == (["WELCOME.TXT"], hour), "an hour at which nothing was asked"
     assert reader.go("1001/0")["refusal"] and found("welc") == [], "a visit saw that the list is old"
+    museums.put_files(museum, 1002, "d64", 9, [("TOUR", "PRG", b"A"), ("-", "DEL", None), ("GUIDE", "SEQ", None)])
+    assert reader.go("1002") and found("guid") and reader.texts(".matches .badge") == ["Listed only"], "it has no size"
     del museum.rules["T1001"]
     assert found("welco") == [] and reader.script("const now = Date.now; Date.now = () => now() + 400000") is None
     assert found("welc") == ["WELCOME.TXT"] and at() != hour, "a list of many minutes ago"
+    closed = lambda: reader.texts(".closed > a[href='#/1003']")
+    for rank, words in ((1, "logb"), (2, "logbo")):
+        museum.rules["T1003"] = {rank: museums.rule(rank, "deny", ["public"], {"slot": 1})}
+        reader.script("const now = Date.now; Date.now = () => now() + 200000")
+        assert found(words) and reader.wait(lambda state: f"T1003.{rank}" in str(closed()), "closed at the list's hour")
 
 def test_refusal_says_why_whom_to_ask_and_where_to_go_on(reader):
     others, staff = "The other files of this disk", "Turn to the museum's staff about this "
@@ -108,6 +115,9 @@ def test_desk_that_has_nothing_or_does_not_answer_is_said(museum, reader):
     reader.door.before = lambda method, path: None
     assert reader.read()["refusal"][2:] == [] and reader.go("1004") and reader.go("1004/0")
     reader.wait(lambda state: state["refusal"][2:] == ["1 other file of this disk"], "what the desk tells now")
+    museum.rules["R7"][9] = museums.rule(9, "deny", ["public"])
+    others = lambda state: "R7.9" in state["refusal"][1] and state["refusal"][2:] == ["1 other file of this disk"]
+    assert reader.go("1004/0") and reader.wait(others, "what the desk tells now, not minutes ago")
     museum.images.clear()
     assert reader.go("") and reader.load() and reader.text("#view") == "There is no disk of which you may see a file."
 

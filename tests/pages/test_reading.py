@@ -289,16 +289,21 @@ def test_zip_asks_in_a_pace_again_after_429_and_leaves_out_what_was_closed_meanw
     assert f"2 files.\n{left}\nThe desk tells of no other file that is closed.\n" in about
     assert made.namelist()[:3] == ["files/HELLO.prg", "files/LETTER.seq", "files/_CON.usr"]
 
-@pytest.mark.parametrize("stops, words", ids=["lost", "stopped", "another key"], argvalues=[
-    (False, CANNOT_REACH), (True, "Stopped."), (True, "")])
-def test_zip_that_is_stopped_or_whose_connection_is_lost_or_that_gets_another_key_is_not_saved(reader, stops, words):
-    is_stopped = threading.Event()
-    lost_or_late = lambda: is_stopped.wait(LIMIT) and None if stops else b""
-    reader.door.before = lambda method, path: lost_or_late() if path.endswith("/files/1") else None
+@pytest.mark.parametrize("at, then, words", ids=["lost", "stopped", "another key", "late"], argvalues=[
+    (1, 3, CANNOT_REACH), (1, 3, "Stopped."), (1, 3, ""), (2, 9, "Stopped.")])
+def test_zip_that_is_stopped_or_whose_connection_is_lost_or_that_gets_another_key_is_not_saved(
+        museum, reader, at, then, words):
+    museum.rules["T2001"], is_stopped = {1: museums.rule(1, "deny", ["public"], {"slot": 2})}, threading.Event()
+    asked = lambda slot: [path for _, path, _ in reader.door.visits if path.endswith(f"/2001/files/{slot}")]
     reader.go("2001")
+    wait_for("what the page asks of closed files", lambda: asked(9))
+    lost_or_late = lambda: b"" if words == CANNOT_REACH else is_stopped.wait(LIMIT) and None
+    reader.door.before = lambda method, path: lost_or_late() if path.endswith(f"/files/{at}") else None
+    reader.door.visits.clear()
     reader.named("button", "as a zip").click()
-    if stops:
+    wait_for("the file at which it ends", lambda: asked(at))
+    if words != CANNOT_REACH:
         reader.named("button", "Stop").click() if words else reader.give("hello")
     is_stopped.set()
     zip_says(reader, words) if words else time.sleep(1)
-    assert not list(reader.driver.downloads.iterdir()) and "/2001/files/3" not in str(reader.door.visits)
+    assert not list(reader.driver.downloads.iterdir()) and not asked(then)
