@@ -1,7 +1,7 @@
 // What is closed to the reader: how many files of a disk, by which rules, and why one of them is.
 import { nameOfDisk, nameOfFile, typeWords } from "./room.lists.js";
 import { facts, link } from "./room.parts.js";
-import { ask, box, counted, element, meaning, textOf } from "./shared.js";
+import { ask, box, counted, element, keyInUse, meaning, textOf } from "./shared.js";
 import { pause } from "./stream.js";
 import { noteOf } from "./titles.js";
 
@@ -18,6 +18,9 @@ export function rulesOf(files) {
 
 // What the deed is whose number stands in a rule.
 export const deedWords = (deed) => `Deed ${deed} is the paper by which the disk came to the museum. `;
+
+// Whoever gives no key is the public.
+const whom = () => (keyInUse() === "" ? "the public" : "you");
 
 // The refusals of files that a list lacks: at the slots that it leaves out, and behind it up to one without a file.
 export async function closedNow(accession, listed, signal) {
@@ -39,8 +42,8 @@ export async function closedNow(accession, listed, signal) {
 export function closedWords(closed) {
   const are = closed.length === 1 ? "is" : "are";
   const most = closed.isCut ? "At least " : "";
-  const words = `${most}${counted(closed.length, "more file")} ${are} closed to you, name and all: ${rulesOf(closed)}.`;
-  return closed.length ? words : "";
+  const words = `${most}${counted(closed.length, "more file")} ${are} closed to ${whom()}, name and all:`;
+  return closed.length ? `${words} ${rulesOf(closed)}.` : "";
 }
 
 // The other files of a disk that a rule closes, if any: links to those whose names a reader may see.
@@ -67,5 +70,5 @@ export function whyClosed(file, listed, signal) {
   const all = listed ? Promise.resolve(files) : closedNow(accession, files, signal);
   const more = kind ? "It also closes" : "The same holds for";
   all.then((some) => list.append(...facts({ [more]: othersOf(file, some) }).children)).catch(() => {});
-  return box("div", "refused", element("p", `This file is closed to you. You may see ${shown}.`), list);
+  return box("div", "refused", element("p", `This file is closed to ${whom()}. You may see ${shown}.`), list);
 }

@@ -67,22 +67,26 @@ export const momentWords = (at = Date.now()) =>
 export const askedWords = (at) =>
   `The page asked the desk on ${momentWords(at)} by the reader's clock, with${keyInUse() ? "" : "out"} a key.`;
 
+// What is to be said of an address at which only this computer finds the page: the staff's own way, or a trial.
+const IS_OWN = ["127.0.0.1", "localhost", "[::1]"].includes(location.hostname);
+const ALONE = IS_OWN ? ", an address for this computer alone" : "";
+
 // How to cite a disk or a file of it: the museum, the title, where it is there, its digest, the address, and the day.
 export function citation(accession, kind, file = "", digest = "") {
   const disk = `\u201c${nameOfDisk(accession)}\u201d, floppy disk (${kindWords(kind)}), accession number ${accession}`;
   const day = new Date().toLocaleDateString("en-GB", { day: "numeric", month: "long", year: "numeric" });
   const parts = [holder(), file ? `${file}, on ${disk}` : disk, digest && `SHA-256 ${digest}`];
-  return `${parts.filter(Boolean).join(". ")}. ${location.href} (accessed ${day}).`;
+  return `${parts.filter(Boolean).join(". ")}. ${location.href}${ALONE} (accessed ${day}).`;
 }
 
 // Buttons that copy the address of the view and how to cite it, and the place that says what was copied.
 export function quoting(cite) {
   const says = element("p", null, { className: "quiet copied", role: "status" });
-  const copy = async (text) => {
+  const copy = async (text, more = "") => {
     const done = await navigator.clipboard?.writeText(text).then(() => true, () => false);
-    says.replaceChildren(element("strong", done ? "Copied: " : "To copy: "), text);
+    says.replaceChildren(element("strong", done ? "Copied: " : "To copy: "), text, more);
   };
-  return { buttons: [button("Copy link", () => copy(location.href)), button("Cite", () => copy(cite()))], says };
+  return { buttons: [button("Copy link", () => copy(location.href, ALONE)), button("Cite", () => copy(cite()))], says };
 }
 
 // The ways to what comes before and after in a list, and where in the list this is.

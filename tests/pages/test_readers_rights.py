@@ -13,7 +13,7 @@ from support.stand_in import refused_by_nginx
 UMLAUTS = "Schlüssel für den Raum\u00a0"
 AS_PUBLIC, BY_KEY = "I have a key", "You read with a key"
 OPEN, ALL = ([f"Disk {number}" for number in range(1001, end)] for end in (1004, 1007))
-CLOSED = "This file is closed to you. You may see %s."
+CLOSED = "This file is closed to %s. You may see %s."
 TAKEDOWN = "Closed by takedown 1 of disk %d (T%d.1). A takedown is how the staff closes files. Name it when you ask."
 WELCOME = ["WELCOME.TXT", "TXT text", "896"]
 UNREAD = "Damaged the drive could not read a block of it"
@@ -37,14 +37,15 @@ def test_caller_sees_the_disks_of_their_audience(reader, key, asks, disks):
     assert reader.go("1004")["rows"][:1] == ([[*WELCOME, "Read it"]] if is_staff else [])
     asked = f"The page asked the desk on 15 June 2026 at [0-9:]+ .*, with{'' if key else 'out'} a key[.]"
     assert re.fullmatch(asked, reader.text("#asked")), "what stands now has no hour"
-    closed = "2 more files are closed to you, name and all: rule 10 of deed 7 (R7.10). Turn to the museum's staff about"
-    due = [] if is_staff else ["There is no file on it that you may see.", f"{closed} this disk."]
+    whom, ask = "you" if key else "the public", "rule 10 of deed 7 (R7.10). Turn to the museum's staff about this disk."
+    closed = ["There is no file on it that you may see.", f"2 more files are closed to {whom}, name and all: {ask}"]
+    due = [] if is_staff else closed
     reader.wait(lambda state: reader.texts(".callout") == due, f"{due} on the disk")
     deed = "Deed 7 is the paper by which the disk came to the museum. Name this rule when you ask."
     rules = {"1004/0": [f"Closed by rule 10 of deed 7 (R7.10). {deed}", "1 other file of this disk"],
              "1003/1": [TAKEDOWN % (1003, 1003)], "1007/0": ["Closed: no rule lets you see it (D0)."]}
     for place, rule in rules.items():
-        refusal = [CLOSED % "nothing of it but its place: its name is closed, too", *rule]
+        refusal = [CLOSED % (whom, "nothing of it but its place: its name is closed, too"), *rule]
         reader.go(place)
         reader.read(lambda state: state["refusal"] == ([] if is_staff and place != "1007/0" else refusal))
 
@@ -52,7 +53,7 @@ def test_each_file_leads_to_its_page_and_one_that_is_closed_says_why_there_and_i
     museum.rules["T1001"] = {1: museums.rule(1, "list", ["public"], {"slot": 0})}
     shown, why = reader.go("1001"), "Listed only takedown 1 of disk 1001 has closed it"
     assert (shown["rows"][0], shown["links"]) == ([*WELCOME, why], [f"#/1001/{slot}" for slot in "0011"])
-    alone = [CLOSED % "that it is there, not what is in it", "text, 896 bytes", TAKEDOWN % (1001, 1001)]
+    alone = [CLOSED % ("the public", "that it is there, not what is in it"), "text, 896 bytes", TAKEDOWN % (1001, 1001)]
     assert reader.go("1001/0")["refusal"] == alone and reader.go("1001")
     rules = "takedown 1 of disk 1001 (T1001.1) on 1 file, rule 20 of deed 9 (R9.20) on 1 file."
     assert f"What decides here: {rules}" in reader.text("#view")
@@ -66,7 +67,7 @@ def test_each_file_leads_to_its_page_and_one_that_is_closed_says_why_there_and_i
     assert reader.go("1002")["rows"][1] == ["-" * 16, "DEL dividing line", "", why]
     found = [reader.load() and reader.find(name)["matches"] + reader.texts(".matches li") for name in ("welc", "logb")]
     assert found == [["WELCOME.TXT", "WELCOME.TXT text Listed only"], ["LOGBOOK", "LOGBOOK text or data Damaged"]]
-    closed = ["1 more file is closed to you, name and all: takedown 1 of disk 1003 (T1003.1)."]
+    closed = ["1 more file is closed to the public, name and all: takedown 1 of disk 1003 (T1003.1)."]
     reader.wait(lambda state: reader.texts(".closed > a[href='#/1003']") == closed, f"{closed} of what was found")
     museum.rules["T1003"] = {2: museums.rule(2, "deny", ["public"], {"slot": 1})}
     assert reader.go("1003") and reader.wait(lambda state: "T1003.2" in str(reader.texts(".callout")), "a new rule")
