@@ -1,11 +1,10 @@
 // What is on a dump, read in the browser as docs/FORMATS.md says: the files, the units that each one claims, and their
 // faults. A unit is a block of the 1541, or a block of CP/M of eight sectors.
 
-const printed = (bytes, others) =>
-  Array.from(bytes, (byte) => {
-    const isPlain = byte >= 0x20 && byte <= 0x7e && !others.includes(byte);
-    return isPlain ? String.fromCharCode(byte) : `%${byte.toString(16).toUpperCase().padStart(2, "0")}`;
-  }).join("");
+const printed = (bytes, others) => Array.from(bytes, (byte) => {
+  const isPlain = byte >= 0x20 && byte <= 0x7e && !others.includes(byte);
+  return isPlain ? String.fromCharCode(byte) : `%${byte.toString(16).toUpperCase().padStart(2, "0")}`;
+}).join("");
 
 const trimmed = (bytes, pad) => bytes.subarray(0, bytes.findLastIndex((byte) => byte !== pad) + 1);
 

@@ -57,7 +57,7 @@ function way(path, words) {
 }
 
 const wayOfRules = (path, name, of) => way(path, {
-  PUT: (change, parts, names) => `Put ${RULES[name].words(parts[of], parts.rank)}${ruleSaid(change, names)}`,
+  PUT: (change, parts, names) => `${change.put} ${RULES[name].words(parts[of], parts.rank)}${ruleSaid(change, names)}`,
   DELETE: (change, parts, names) => `Drop ${RULES[name].words(parts[of], parts.rank)}${droppedSaid(change, names)}`,
 });
 
@@ -65,7 +65,7 @@ const diskPut = (_, { accession, kind, deed, digest }) =>
   `Put disk ${accession}, ${kindWords(kind)}, under deed ${deed}, SHA-256 ${digest}`;
 
 const PATHS = [
-  way("/deeds/:deed", { PUT: (change, { deed }) => `Put deed ${deed}${deedSaid(change)}` }),
+  way("/deeds/:deed", { PUT: (change, { deed }) => `${change.put} deed ${deed}${deedSaid(change)}` }),
   wayOfRules("/deeds/:deed/rules/:rank", "rules", "deed"),
   wayOfRules("/images/:accession/rules/:rank", "takedowns", "accession"),
   way("/accessions/:accession/:kind/:deed/:digest", { PUT: diskPut }),
@@ -154,14 +154,16 @@ export class AllChanges {
     else if (status !== "begun") Object.assign(known, { moment, at, status: textOf(status) });
   }
 
-  // From the newest on, each with the bodies of what may have stood at its place before; undefined where no line says.
+  // From the newest on, each with the bodies of what may have stood at its place before, undefined where no line says or
+  // nobody knows of a drop; and with the word for what is put: it replaces what the journal has there for sure.
   inOrder() {
     const all = Array.from(this.byId.values()).sort((one, other) => one.at - other.at);
     const stands = new Map();
     for (const change of all) {
-      change.stood = stands.get(change.place) ?? [undefined];
+      const [one, ...others] = (change.stood = stands.get(change.place) ?? [undefined]);
+      change.put = one === undefined || others.length || one === change.body ? "Put" : "Replace";
       const puts = change.method === "PUT" ? [change.body] : [];
-      if (!isRefused(change)) stands.set(change.place, isUnknown(change) ? [...change.stood, ...puts] : puts);
+      if (!isRefused(change)) stands.set(change.place, isUnknown(change) ? [...change.stood, puts[0]] : puts);
     }
     return all.reverse();
   }

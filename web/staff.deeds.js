@@ -10,14 +10,15 @@ const signedWords = ({ donor, signed }) => `${donor}, signed on ${signed}`;
 
 // Puts a deed. One that stands and has another donor or day is replaced only when that is said once more.
 async function put(deed, body) {
-  const stands = (await readHeld("deeds")).find((one) => String(one.deed) === deed);
-  if (stands && signedWords(stands) !== signedWords(body)) {
+  const isOther = (one) => String(one.deed) === deed && signedWords(one) !== signedWords(body);
+  const stands = (await readHeld("deeds")).find(isOther);
+  if (stands) {
     const more = [`It stands: ${signedWords(stands)}.`, `Then: ${signedWords(body)}.`].map((text) => dated("p", text));
     const asked = { words: `Replace deed ${deed}?`, more, go: "Replace it", keep: "Keep it" };
     if (!(await sure(asked))) return `Kept: deed ${deed}.`;
   }
   await send("PUT", `/deeds/${deed}`, JSON.stringify(body));
-  return shownAnew("deeds", `Done: deed ${deed}.`);
+  return shownAnew("deeds", `${stands ? "Replaced" : "Put"}: deed ${deed}.`);
 }
 
 const bodyOf = ({ donor, signed }) => ({ donor: donor.value, signed: signed.value });
@@ -56,7 +57,8 @@ export async function showDeeds() {
   const count = element("p", held.deeds.length ? `${counted(held.deeds.length, "deed")}.` : "There is no deed.");
   const columns = {
     ...{ Deed: ({ deed }) => deed, Donor: ({ donor }) => donor, "Signed on": ({ signed }) => signed },
-    ...{ Disks: ({ accessions }) => accessions, Rules: ({ rules }) => rules.map(ruleWords).join("; "), "": null },
+    Disks: ({ accessions }) => accessions,
+    ...{ Rules: ({ rules }) => rules.map((rule) => ruleWords(rule)).join("; "), "": null },
   };
   const made = held.deeds.length ? [listTable("deeds that stand", columns, held.deeds, deedRow)] : [];
   part("deeds").querySelector(".stands").replaceChildren(count, ...made);

@@ -13,8 +13,7 @@ import { putMany } from "./staff.rules.js";
 import { saveTable } from "./staff.saved.js";
 import { COLUMNS, EFFECT_AT, SAVED_HEADS, UNSAID, askedWords, byWhichRules, effectOf } from "./staff.verdicts.js";
 import { mayWords, nameOf, namesOf, ruleShown, savedVerdict, verdictsOf } from "./staff.verdicts.js";
-import { AUDIENCES, PUT, RULES, UNREAD, listed, momentNow, newRuleWords, ruleTexts } from "./staff.words.js";
-import { ruleWords, today } from "./staff.words.js";
+import { AUDIENCES, PUT, RULES, UNREAD, listed, momentNow, ruleTexts, ruleWords, today } from "./staff.words.js";
 import { noteOf, titleOf } from "./titles.js";
 
 // How many changes of the journal are shown at most.
@@ -57,11 +56,10 @@ function showDisk(disk) {
 
 // All rules that decide on a disk, in the order in which the desk tries them.
 function decidingRules({ accession, deed }) {
-  const of = (name, scope) =>
-    rulesOf(name, scope).map((rule) => {
-      const label = `${RULES[name].letter}${scope}.${rule.rank}`;
-      return { ...standingRule(RULES[name].path(scope, rule.rank), rule), rule, label, name, scope, origin: UNREAD };
-    });
+  const of = (name, scope) => rulesOf(name, scope).map((rule) => {
+    const label = `${RULES[name].letter}${scope}.${rule.rank}`;
+    return { ...standingRule(RULES[name].path(scope, rule.rank), rule), rule, label, name, scope, origin: UNREAD };
+  });
   return [...of("takedowns", accession), ...of("rules", deed)];
 }
 
@@ -76,19 +74,16 @@ function sinceOf({ things, changes, none }, record, audience) {
   return changes ? sinceWords(things, file, changes) : UNREAD;
 }
 
-// The rule that decides, and a place for since when.
-const ruleParts = (record, audience) =>
-  [ruleShown(record, audience), element("span", "", { className: "title since" })];
-
 function fileRow(record) {
   const [slot, size] = [record[COLUMNS.slot], record[COLUMNS.size]];
   const ariaLabel = `Take down ${nameOf(record)}, slot ${slot}`;
   const tick = element("input", null, { type: "checkbox", name: "slots", value: slot, ariaLabel });
   const name = nameCell(record[COLUMNS.kind], record[COLUMNS.name]);
   const cells = [cell("Take down", tick), cell("Slot", slot, "number"), name, cell("Type", record[COLUMNS.type])];
-  const verdicts = Object.entries(AUDIENCES).map(([audience, words]) =>
-    cell(words, box("span", "", `${mayWords(record, audience, shown.asked)} `, ...ruleParts(record, audience))),
-  );
+  const verdicts = Object.entries(AUDIENCES).map(([audience, words]) => {
+    const [may, since] = [mayWords(record, audience, shown.asked), element("span", "", { className: "title since" })];
+    return cell(words, box("span", "", `${may} `, ruleShown(record, audience), since));
+  });
   return row([...cells, cell("Bytes", size && Number(size).toLocaleString("en"), "number"), ...verdicts]);
 }
 
@@ -179,7 +174,7 @@ async function takeDown(records, tools) {
   if (commands.some(({ rank }) => rank === null)) return `All ranks of disk ${accession} are in use.`;
   const whom = listed(commands[0].rule.audiences.map((audience) => AUDIENCES[audience]));
   const words = `Take down ${counted(commands.length, "file")} of disk ${accession} for ${whom}?`;
-  const notes = commands.map(({ name, rank, rule }) => `${name}, at rank ${rank}: ${newRuleWords(rule)}.`);
+  const notes = commands.map(({ name, rank, rule }) => `${name}, at rank ${rank}: ${ruleWords(rule)}.`);
   const asked = { words, notes, commands, days: rehearsalDays(commands[0].rule), isTakedown: true, go: "Take down" };
   asked.first = saveFirst(accession, words, tools);
   if ((await rehearsed(asked, tools)).length === 0) return "Nothing is taken down.";

@@ -5,7 +5,7 @@ import { buttonsCell, change, dated, diskCell, formOf, readHeld, rulesOf, send }
 import { showChange, shownAnew, showsAnew, standing } from "./staff.desk.js";
 import { MOST_DISKS, accessionsIn, placeOf } from "./staff.ranks.js";
 import { fillRule, makeRuleForm, ruleIn } from "./staff.ruleform.js";
-import { RULES, newRuleWords, ruleTexts, ruleWords } from "./staff.words.js";
+import { RULES, ruleTexts, ruleWords } from "./staff.words.js";
 import { titleOf } from "./titles.js";
 
 // Of how many disks the page says one by one what their takedowns replace or follow.
@@ -30,18 +30,20 @@ async function put(name, scopes, typedRank, rule, tools) {
   const commands = places.map(({ scope, rank }) => ({ ...sent, scope, rank, path: RULES[name].path(scope, rank) }));
   const words = placesWords(name, places);
   const replaced = places.flatMap((place) => place.replaced ?? []);
-  const notes = [`${capital(newRuleWords(rule))}.`, ...placeNotes(places)];
+  const [word, done] = replaced.length === places.length ? ["Replace", "Replaced"] : ["Put", "Put"];
+  const notes = [`It says: ${ruleWords(rule)}.`, ...placeNotes(places)];
   const { rehearsalDays, rehearsed, saveFirst } = await rehearsals();
   const days = rehearsalDays(rule, replaced);
-  const asked = { words: `Put ${words}?`, notes, commands, days, isTakedown: name === "takedowns", go: "Put it" };
-  if (name === "takedowns" && places.length === 1) asked.first = saveFirst(scopes[0], asked.words, tools);
+  const isTakedown = name === "takedowns";
+  const asked = { words: `${word} ${words}?`, notes, commands, days, isTakedown, go: `${word} it` };
+  if (isTakedown && places.length === 1) asked.first = saveFirst(scopes[0], asked.words, tools);
   const agreed = await rehearsed(asked, tools);
-  if (agreed.length === 0) return `Not put: ${words}.`;
+  if (agreed.length === 0) return `Not ${done.toLowerCase()}: ${words}.`;
   const cells = (one) => [String(one.scope), String(one.rank)];
-  const more = { after: () => showRules(name), heads: ["Accession", "Rank"], cells };
+  const more = { after: () => showRules(name), heads: ["Accession", "Rank"], cells, verb: done.toLowerCase() };
   if (places.length > 1) return putMany(name, agreed, more, tools);
   await send("PUT", agreed[0].path, sent.body);
-  return shownAnew(name, `Done: ${words}.`);
+  return shownAnew(name, `${done}: ${words}.`);
 }
 
 // Puts takedowns one after the other, in a section; `more` has what else its report needs.
@@ -56,8 +58,6 @@ export async function putMany(section, commands, { heads, cells, ...more }, tool
   };
   return sendMany(run, tools);
 }
-
-const capital = (words) => words[0].toUpperCase() + words.slice(1);
 
 function placesWords(name, places) {
   if (places.length === 1) return RULES[name].words(places[0].scope, places[0].rank);

@@ -97,9 +97,10 @@ export function filesWords(rule, names) {
 
 export const isOnNoDay = ({ from, until }) => Boolean(from && until && from >= until);
 
-export function daysWords({ from, until }, always = "on all days") {
+// (one without days says nothing of the past: it holds from the moment at which it is put)
+export function daysWords({ from, until }) {
   if (isOnNoDay({ from, until })) return `on no day: from ${from}, but until ${until}`;
-  if (!from && !until) return always;
+  if (!from && !until) return "until further notice";
   return [from && `from ${from}`, until && `until ${until}`].filter(Boolean).join(", ");
 }
 
@@ -114,10 +115,9 @@ export const ruleTexts = (rule, names) => ({
 
 const SHORT = { read: "readable for", list: "only listed for", deny: "closed to" };
 
-// A rule in short; and one that is put now, which changes nothing of the days before.
-export const ruleWords = (rule, names, always) =>
-  `${filesWords(rule, names)} ${SHORT[rule.effect]} ${audienceWords(rule.audiences)}, ${daysWords(rule, always)}`;
-export const newRuleWords = (rule) => ruleWords(rule, undefined, "from now on");
+// A rule in short.
+export const ruleWords = (rule, names) =>
+  `${filesWords(rule, names)} ${SHORT[rule.effect]} ${audienceWords(rule.audiences)}, ${daysWords(rule)}`;
 
 // Who put what stands, by the journal: the name of the column, and what is there before the journal is read.
 export const PUT = "Put when, by whom, and why";

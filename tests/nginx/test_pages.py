@@ -65,10 +65,10 @@ def test_desk_that_is_down_is_said(room, reader):
 def test_staff_puts_a_deed_a_rule_and_a_disk(room, staffs, tmp_path):
     staffs.go("deeds")
     staffs.fill("deeds", deed="39", donor="K. Keeper", signed="2001-02-03")
-    assert staffs.submit("deeds")["result"] == ["Done: deed 39."]
+    assert staffs.submit("deeds")["result"] == ["Put: deed 39."]
     staffs.go("rules/39")
     staffs.put_rule("rules", "39", "20", "all", None, "public", effect="read")
-    assert staffs.answer(True)["result"] == ["Done: rule 20 of deed 39."]
+    assert staffs.answer(True)["result"] == ["Put: rule 20 of deed 39."]
     (tmp_path / "new.img").write_bytes(bytes_of("images", "damaged.img"))
     staffs.go("disks")
     staffs.one("#disks [type=file]").send_keys(str(tmp_path / "new.img"))

@@ -8,7 +8,7 @@ from support import museums
 from support.browser import LIMIT, TODAY
 from support.samples import DONOR_OF_9, refused
 
-START, ALL = 1_700_000_000, "the public, the reading room and the staff, on all days"
+START, ALL = 1_700_000_000, "the public, the reading room and the staff, until further notice"
 when = lambda far: moment(START + far).replace("T", " ")
 FAR = f"in the journal, back to {when(0)}"
 NOT, NOTHING = (f"{word} {FAR}, where it begins" for word in ("not", "nothing"))
@@ -18,8 +18,7 @@ READS = f"read it {BY_DEED} "
 LISTS = f"see its name, not read it (the desk gives out no file of type DEL) {BY_DEED} {UNKNOWN}"
 SHUT = "see only that a closed file is there, not its name"
 CLOSED = f"{SHUT} takedown {{}} of disk 1002 {UNKNOWN}"
-HIDDEN = "closed to the public and the reading room"
-ALWAYS = f"{HIDDEN}, on all days"
+ALWAYS = "closed to the public and the reading room, until further notice"
 TAKEN_IN = f"/accessions/1002/d64/9/{'0' * 64}"
 BY = f"This rule was put {when(0.5)} by Ada: a letter; in its place before: "
 # A script: whether the outcome is in the window; and the role of what has the focus.
@@ -78,8 +77,8 @@ def test_file_says_since_when_the_journal_has_no_change_that_can_concern_it_and_
     five, maybe = by(50, "Put rule 5 of deed 9"), by(90, "Put rule 10 of deed 9 (nobody knows whether the desk did it)")
     cases = [(-60, "200", "PUT", TAKEN_IN, "", None), (20, "200", "PUT", f"{at}5", every, None),
              (10, "200", "PUT", f"{at}7", one, (*[ranked("Put", 5, 20)] * 2, ruled)),
-             (30, "200", "PUT", f"{at}5", one, (*[ranked("Put", 5, 30)] * 2, ruled)),
-             (30.3, "200", "DELETE", f"{at}5", "", (ranked("Put", 5, 30), drop5, ruled)),
+             (30, "200", "PUT", f"{at}5", one, (*[ranked("Replace", 5, 30)] * 2, ruled)),
+             (30.3, "200", "DELETE", f"{at}5", "", (ranked("Replace", 5, 30), drop5, ruled)),
              (50, "200", "PUT", f"{of_deed}5", every.replace('"public",', ""), (five, drop5, five)),
              (60, "200", "DELETE", f"{at}6", "", None), (70, "200", "PUT", f"{of_deed}30", "", None),
              (80, "404", "PUT", f"{of_deed}10", "", [drop6] * 3),
@@ -104,7 +103,7 @@ def test_files_ticked_by_their_shown_names_are_taken_down_and_what_stands_after_
     museums.put_files(museum, 1002, "d64", 9, [("%CCETTER", "SEQ", b"A"), ("-", "DEL", None), ("GUIDE", "SEQ", b"A")])
     disk.go("disk/1002")
     rules = [("Letter", "1000", "0"), ("GUIDE", "990", "2")]
-    notes = [f"{name}, at rank {rank}: the file at slot {slot} {HIDDEN}, from now on." for name, rank, slot in rules]
+    notes = [f"{name}, at rank {rank}: the file at slot {slot} {ALWAYS}." for name, rank, slot in rules]
     for slot in (0, 2):
         disk.set(f"#disk [name=slots][value='{slot}']", True)
     asked = disk.push("Take down what is ticked")["sure"][:3]

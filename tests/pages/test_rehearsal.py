@@ -9,8 +9,7 @@ from support import museums
 from support.browser import LIMIT, TODAY
 
 BOTH = ("public", "room")
-HIDDEN = "he file at slot {} closed to the public and the reading room, on all days."
-PUT_NOW = f"T{HIDDEN}".replace("on all days", "from now on")
+HIDDEN = "he file at slot {} closed to the public and the reading room, until further notice."
 NOW, NOTHING = f"Today, {TODAY}", "Nothing opens, and nothing closes."
 SHUT = "see only that closed files are there, not their names"
 CLOSES = f"Closes for the public and the reading room: 1 file. Now they may read them; then they may {SHUT}."
@@ -29,8 +28,9 @@ ranks = lambda shown: [row[1] for row in shown["rows"]]
 
 def test_takedowns_are_rehearsed_and_put_each_before_the_others(takedowns):
     rank = "Rank 1000: it is the first takedown of disk 1002."
-    words = ["Put takedown 1000 of disk 1002?", PUT_NOW.format(2), rank, NOW, CLOSES, "GUIDE (disk 1002, slot 2)"]
-    for is_agreed, said in ((False, "Not put"), (True, "Done")):
+    due = ["Put takedown 1000 of disk 1002?", f"It says: t{HIDDEN.format(2)}", rank, NOW, CLOSES]
+    words = [*due, "GUIDE (disk 1002, slot 2)"]
+    for is_agreed, said in ((False, "Not put"), (True, "Put")):
         shown = takedowns.take_down("1002", "", "2", *BOTH)
         assert (shown["hint"], shown["sure"]) == (rank, words)
         assert [at for _, at, _ in takedowns.door.visits if "/verdicts/" in at] == [f"/staff/verdicts/{TODAY}/1002"]

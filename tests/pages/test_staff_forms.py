@@ -72,4 +72,4 @@ def test_reply_to_a_change_is_explained(staff):
         staff.door.before = lambda method, path: None if method == "GET" else instead
         assert put_deed(staff)["result"][0] == words
     staff.door.before = lambda method, path: None
-    assert staff.submit("deeds")["result"] == ["Done: deed 35."]
+    assert staff.submit("deeds")["result"] == ["Put: deed 35."]

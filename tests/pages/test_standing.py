@@ -6,7 +6,7 @@ from support.browser import TODAY
 from support.samples import digest
 
 EVERYBODY = "the public, the reading room and the staff"
-RULE_20 = ["20", EVERYBODY, "all files", "read them", "on all days", "ChangeDrop"]
+RULE_20 = ["20", EVERYBODY, "all files", "read them", "until further notice", "ChangeDrop"]
 STAFF, OTHER, RESTORE = digest(b"abc"), digest(b"another"), " Restore a backup of what is changed."
 START, NOBODY = 1_800_000_000, "Nobody can use it any more."
 NOT = f"not in the journal, back to {moment(START).replace('T', ' ')}, where it begins"
@@ -14,14 +14,14 @@ NOT = f"not in the journal, back to {moment(START).replace('T', ' ')}, where it 
 def test_deed_is_put_with_name_and_reason(staff):
     """They go as percent-encoded UTF-8, which may have 1,000 bytes. Without one of them nothing is sent."""
     rules = "10: all files closed to the public and the reading room, until 2030-01-01"
-    rules += f"20: all files readable for {EVERYBODY}, on all daysRules"
+    rules += f"20: all files readable for {EVERYBODY}, until further noticeRules"
     assert staff.read()["rows"][0] == ["7", "A. Curator", "2019-05-04", "3", rules, "Change"]
     for name, reason in (("", "a reason"), ("Ada", " "), ("Ada", "ü" * 167)):
         put_deed(staff.fill("who", name=name, reason=reason))
         assert staff.door.sent() == [], (name, reason)
     shown = put_deed(staff.fill("who", reason="ü" * 166), "31", "E. <b>Müller</b>")
     assert staff.door.sent() == [("PUT", "/deeds/31", "Ada", "%C3%BC" * 166)]
-    assert (shown["result"], shown["stands"]) == (["Done: deed 31."], ["4 deeds."])
+    assert (shown["result"], shown["stands"]) == (["Put: deed 31."], ["4 deeds."])
     assert shown["rows"][3] == ["31", "E. <b>Müller</b>", "1999-12-31", "0", "No rule: closed to everybody", "Change"]
     assert staff.one("#who [name=reason]").get_property("value") == "", "a reason goes along with the next change"
     staff.door.before = lost_at(1)
@@ -30,7 +30,7 @@ def test_deed_is_put_with_name_and_reason(staff):
 
 def test_deed_is_replaced_only_when_that_is_agreed(staff):
     stands, then = "It stands: B. Donor, signed on 2020-02-29.", "Then: E. Müller, signed on 2020-02-29."
-    for is_agreed, said, donor in ((False, "Kept: deed 8.", "B. Donor"), (True, "Done: deed 8.", "E. Müller")):
+    for is_agreed, said, donor in ((False, "Kept: deed 8.", "B. Donor"), (True, "Replaced: deed 8.", "E. Müller")):
         staff.of_row("deed 8", "Change")
         assert staff.fill("change", donor="E. Müller").push("Put the deed")["sure"] == ["Replace deed 8?", stands, then]
         who = staff.texts("#sure > p:not(.choices)")
@@ -42,13 +42,13 @@ def test_rule_is_put_changed_and_dropped(staff):
     staff.go("rules/8")
     staff.put_rule("rules", "8", "20", "all", None, "public", "room", "staff", effect="read")
     shown = staff.answer(True)
-    assert (shown["result"], shown["rows"]) == (["Done: rule 20 of deed 8."], [["8", *RULE_20]])
+    assert (shown["result"], shown["rows"]) == (["Put: rule 20 of deed 8."], [["8", *RULE_20]])
     assert shown["hint"].startswith("In use: rule 20 of deed 8 stands, all files readable for")
     staff.of_row("rule 20 of deed 8", "Change")
     staff.fill("change", effect="list", until="2099-01-01").push("Put it")
     shown = staff.answer(True)
     changed = ["8", "20", EVERYBODY, "all files", "see their names, not read them", "until 2099-01-01", "ChangeDrop"]
-    assert (shown["rows"], shown["focus"]) == ([changed], "result")
+    assert (shown["result"], *shown["rows"], shown["focus"]) == (["Replaced: rule 20 of deed 8."], changed, "result")
     staff.of_row("rule 20 of deed 8", "Drop")
     shown = staff.answer(True)
     assert shown["result"] == ["Done: there is no rule 20 of deed 8 now."]
