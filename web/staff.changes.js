@@ -154,8 +154,8 @@ export class AllChanges {
     else if (status !== "begun") Object.assign(known, { moment, at, status: textOf(status) });
   }
 
-  // From the newest on, each with the bodies of what may have stood at its place before, undefined where no line says or
-  // nobody knows of a drop; and with the word for what is put: it replaces what the journal has there for sure.
+  // From the newest on, each with the bodies of what may have stood at its place before: undefined where no line says
+  // or nobody knows of a drop; and with the word for what is put: it replaces what the journal has there for sure.
   inOrder() {
     const all = Array.from(this.byId.values()).sort((one, other) => one.at - other.at);
     const stands = new Map();

@@ -39,8 +39,7 @@ def rows(store):
     tables = ("deed", "image", "rule", "badge", "found", "checked")
     return {table: sorted(shell(store, f".dump {table}").splitlines()) for table in tables}
 
-@pytest.mark.parametrize("words, output", [
-    (["export", "--key", STAFF], TABLE), (["copy", "--to", "copy"], "done\n"),
+@pytest.mark.parametrize("words, output", [(["export", "--key", STAFF], TABLE), (["copy", "--to", "copy"], "done\n"),
     (["serve", "--count", "0", "--socket", "socket"], "listening socket\nserved 0\n")], ids=["export", "copy", "serve"])
 def test_command_migrates_a_store_to_the_tables_of_a_new_desk(ends, store, first, filled, words, output):
     assert ends(*words, "--store", store) == (0, output, "")

@@ -12,8 +12,7 @@ from support.sqlite_shell import shell
 KEY, DONE = ["--key", STAFF], (0, "done\n", "")
 NOT_OPENED, EXISTS = (3, "", "desk: store\n"), (1, "", "desk: exists\n")
 # What sqlite3 is asked about disk 12 and its deed, and the rows of each answer.
-ROWS = {
-    "SELECT id, version FROM desk": "1|2\n",
+ROWS = {"SELECT id, version FROM desk": "1|2\n",
     "SELECT num, donor, signed FROM deed WHERE num < 9 ORDER BY num": "7|A. Curator|18020\n8|B. Donor|18321\n",
     "SELECT kind, deed, lower(hex(digest)), lower(hex(bytes)) FROM image WHERE acc = 12":
         f"1|7|{digest(PROGRAM_DISK)}|{PROGRAM_DISK.hex()}\n",
@@ -23,8 +22,7 @@ ROWS = {
         f"{digest(ROOM.encode())}|1\n{digest(STAFF.encode())}|2\n",
     "SELECT slot, name, ty, quote(user_no), served, size, faults, hex(units), last_len FROM found WHERE acc = 12":
         "0|HELLO|PRG|NULL|1|258|0|0150015A|4\n",
-    "SELECT (SELECT count(*) FROM checked), (SELECT count(*) FROM marks)": "0|1\n",
-    "PRAGMA integrity_check": "ok\n"}
+    "SELECT (SELECT count(*) FROM checked), (SELECT count(*) FROM marks)": "0|1\n", "PRAGMA integrity_check": "ok\n"}
 
 def is_as_filled(serving, store):
     """Looks whether sqlite3 reads the rows of a store, and a desk gives the replies that are due."""

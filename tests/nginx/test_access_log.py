@@ -159,8 +159,7 @@ BEFORE = """/BADGES/ /%42adges/ /%2562adges/ /badge/ /x/badges/ /images/ /images
     /%zz/badges/ /../../badges/""".split()
 LIKE_KEYS = [before + number for before in BEFORE for number in (NUMBER, CODED, CODED.replace("%", "%2525"))]
 # Requests for these, and lines that are no request, or one of a method that nobody has.
-LINES = {
-    "of keys": [f"{method} {target} HTTP/1.1" for target in OF_KEYS for method in ("GET", "DELETE")],
+LINES = {"of keys": [f"{method} {target} HTTP/1.1" for target in OF_KEYS for method in ("GET", "DELETE")],
     "like keys": [f"GET {target} HTTP/1.1" for target in LIKE_KEYS],
     "no requests": [
         NUMBER, KEY_PATH, f" {KEY_PATH} HTTP/1.1", f"get {KEY_PATH} HTTP/1.1", f"PUT\t{KEY_PATH} HTTP/1.1",

@@ -3,9 +3,8 @@
 import socket
 
 import pytest
-from support.samples import (
-    BAD_HEAD, DEED, EVERY, FRAMING, NOBODY, RECORD, RECORD_DISK, ROOM, STAFF, UNKNOWN_KEY, badge, check, drop, get, put,
-    put_image, put_rule)
+from support.samples import BAD_HEAD, DEED, EVERY, FRAMING, NOBODY, RECORD, RECORD_DISK, ROOM, STAFF, UNKNOWN_KEY
+from support.samples import badge, check, drop, get, put, put_image, put_rule
 from support.server import HOST, LIMIT
 
 FILE, DENIED = "/images/15/files/0", "/images/13/files/0"

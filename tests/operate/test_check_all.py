@@ -23,8 +23,7 @@ def reply(status, text):
     return f"HTTP/1.1 {status} \r\nContent-Length: {len(text)}\r\nConnection: close\r\n\r\n{text}".encode()
 
 # Replies, or parts of them; one that stalls is none.
-REPLIES = {
-    "sound": reply(200, '{"outcome":"sound"}'), "changed": reply(200, '{"outcome":"changed"}'),
+REPLIES = {"sound": reply(200, '{"outcome":"sound"}'), "changed": reply(200, '{"outcome":"changed"}'),
     "other": reply(200, '{"outcome":"odd"}'), "array": reply(200, "[]"), "done": reply(200, '{"done":true}'),
     "page": reply(502, "<html>Bad Gateway</html>"), "silent": b"", "cut": reply(200, '{"outcome":"sound"}')[:-10],
     "stalls": None, **{name: reply(status, json.dumps({"error": name})) for name, status in {
@@ -78,9 +77,7 @@ def told(count, sound=0, changed=(), left=0):
     return f"{lines}{count} accessions: {sound} sound, {len(changed)} changed, {left} not asked\n"
 
 # The replies of each accession, the status, the standard output, the errors, and which accession was asked how often.
-CASES = {
-    "all sound": ({12: "sound", 13: "sound"}, 0, told(2, 2), [], [12, 13]),
-    "none": ({}, 0, told(0), [], []),
+CASES = {"all sound": ({12: "sound", 13: "sound"}, 0, told(2, 2), [], [12, 13]), "none": ({}, 0, told(0), [], []),
     "one changed": ({12: "sound", 13: "changed", 999999: "sound"}, 1, told(3, 2, [13]), [], [12, 13, 999999]),
     "a break and a cut": ({12: "silent sound", 13: "cut changed"}, 1, told(2, 1, [13]), [], [12, 12, 13, 13]),
     "breaks that are not in a row": ({12: "silent", 13: "changed", 14: "cut", 15: "sound"}, 2, told(4, 1, [13], 2),

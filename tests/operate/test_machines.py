@@ -173,36 +173,31 @@ INSTALLED = [
      "desk:desk 700\nroot:root 700\nroot:www-data 750\nroot:root 600\nroot:root 600"),
     # nobody knows whether a network sets the clock of the machine that boots it
     ("echo CLOCK=alone >>/etc/desk/places", "")]
-FILLED = [
-    (f"sed -i 's/server_name _;/server_name {SITE};/' /etc/desk/site-name; systemctl reload nginx; {HEALTHY}",
+FILLED = [(f"sed -i 's/server_name _;/server_name {SITE};/' /etc/desk/site-name; systemctl reload nginx; {HEALTHY}",
      DONE),
     (f"""{STAFF} -H 'Desk-Staff: anna' -X PUT {DOOR}/deeds/7 -d '{{"donor":"A","signed":"2019-05-04"}}'""", DONE),
     put_rule("/deeds/7/rules/20", "public room staff", {"all": True}, "read"),
     (f"{STAFF} -X PUT --data-binary @/root/museum.d64 "
      f"{DOOR}/accessions/13/d64/7/$(sha256sum </root/museum.d64 | cut -c1-64)", DONE)]
-DAY = [
-    *FILLED, (f"{VISIT}/images", '{"images":[{"accession":13,"deed":7,"files":3,"kind":"d64"}]}'),
+DAY = [*FILLED, (f"{VISIT}/images", '{"images":[{"accession":13,"deed":7,"files":3,"kind":"d64"}]}'),
     put_rule("/images/13/rules/1", "public", {"all": True}, "deny"), TAKEDOWN,
     ("grep -c anna /var/log/desk/journal; systemctl start desk-check; journalctl -u desk-check -o cat | grep access",
      "2\n1 accessions: 1 sound, 0 changed, 0 not asked"),
     (f"systemctl start desk-backup; echo $?; ls {NEWEST} | grep -c museum.sqlite; ls /var/lib/desk; desk-look; echo $?",
      "0\n2\nmuseum.sqlite\nmuseum.sqlite-wal\n0"),
     (f"logrotate -f /etc/logrotate.d/desk; echo $?; {IS_SHUT}; stat -c '%U:%G %a' /var/log/desk/journal",
-     "0\nroot:www-data 640"),
-    put_rule("/images/13/rules/2", "room", {"slot": 1}, "deny"),
+     "0\nroot:www-data 640"), put_rule("/images/13/rules/2", "room", {"slot": 1}, "deny"),
     ("for _ in $(seq 100); do [ $(wc -l </var/log/desk/journal) -lt 2 ] || break; sleep 0.1; done; "
      "wc -l </var/log/desk/journal", "2"),
     (f"desk-restore {NEWEST} >/root/restored; echo $?; grep -c '^only' /root/restored", "0\n0"), TAKEDOWN,
     (f"stat -c '%U:%G %a' {STORE}; {SUMS}; ls /var/lib/desk | grep -vc '^museum.sqlite\\|^set-aside'",
      "desk:desk 600\n8\n0")]
 # A bit of the store flips, and the desk does not start again, until the backup is restored.
-FLIPPED = [
-    (f"byte=$(od -An -tu1 -j 22528 -N 1 {STORE}); printf \"\\\\x$(printf %02x $((byte ^ 1)))\" | "
+FLIPPED = [(f"byte=$(od -An -tu1 -j 22528 -N 1 {STORE}); printf \"\\\\x$(printf %02x $((byte ^ 1)))\" | "
      f"dd of={STORE} bs=1 seek=22528 conv=notrunc status=none; systemctl restart desk 2>/dev/null; echo $?; "
      "systemctl is-active desk", "1\nactivating"),
     (f"desk-restore {NEWEST} >/root/restored; echo $?; {HEALTHY}; {SUMS}", f"0\n{DONE}8"), TAKEDOWN]
-OUT = [
-    (f"systemctl stop desk; mkdir /root/out; mv {STORE}* /root/out; sha256sum /etc/desk/staff-key >/root/key; "
+OUT = [(f"systemctl stop desk; mkdir /root/out; mv {STORE}* /root/out; sha256sum /etc/desk/staff-key >/root/key; "
      f"dpkg -i $(ls -v /root/desk_*.deb | tail -n 1) 2>&1 | grep -c 'there is no store: put it back'; ls {STORE}* "
      "2>/dev/null; sha256sum -c --quiet /root/key; echo $?", "1\n0"),
     # a store that is large takes a while to open
@@ -216,8 +211,7 @@ BEHIND = [(f"""cd /var/lib/desk; systemctl stop desk; mkdir right; cp -p museum.
      for _ in $(seq 180); do [ $(systemctl show -P NRestarts desk) -lt 11 ] || break; sleep 1; done
      until [ $(systemctl show -P SubState desk) != start-post ]; do sleep 0.1; done
      mv right/* .; rmdir right; {HEALTHY}""", f"13 sound\n1\n{DONE}")]
-ALARM = [
-    ("printf '#!/bin/sh\\n{ echo $*; cat; } >/srv/mail\\n' >/usr/sbin/sendmail; chmod +x /usr/sbin/sendmail; "
+ALARM = [("printf '#!/bin/sh\\n{ echo $*; cat; } >/srv/mail\\n' >/usr/sbin/sendmail; chmod +x /usr/sbin/sendmail; "
      "echo ALARM=anna@museum.example >>/etc/desk/places; systemctl stop desk; systemctl start desk-look 2>/dev/null; "
      "for _ in $(seq 100); do grep -qs 'does not answer' /srv/mail && break; sleep 0.1; done; "
      "sed -n '1,2p; s/.*\\(the desk does not answer\\).*/\\1/p' /srv/mail; desk-alarm --test; echo $?",
@@ -228,8 +222,7 @@ CHANGED = [
     (f"umask 022; echo imprint >/etc/desk/web/imprint.html; {VISIT}/imprint.html", "imprint"),
     (f"umask 022; echo name,value >/etc/desk/web/about.csv; {VISIT}/about.csv", "name,value"),
     ("sed -i 's/rate=20r/rate=25r/' /etc/nginx/conf.d/desk.conf; systemctl reload nginx; echo $?", "0")]
-REMOVED = [
-    (f"{APT} remove desk >/dev/null 2>&1; systemctl is-active desk desk-backup.timer", "inactive\ninactive"),
+REMOVED = [(f"{APT} remove desk >/dev/null 2>&1; systemctl is-active desk desk-backup.timer", "inactive\ninactive"),
     (f"systemctl is-active nginx; nginx -t 2>&1 | tail -n 1 | grep -c successful; {VISIT}/; echo $?", "active\n1\n7"),
     (f"{APT} purge desk 2>&1 | grep -c 'stay; remove them by hand'", "1"),
     ("ls -d /etc/desk/* /etc/nginx/*/desk* /etc/logrotate.d/desk /usr/bin/desk /usr/libexec/desk "

@@ -40,8 +40,7 @@ def tuesday_of(house):
 
 NOTES = [r"commands since 20[0-9TZ-]+ were done again; the old store is in ",
     r"PUT /images/13/rules/9: nobody knows its outcome; done",
-    r"DELETE /images/15/rules/1: nobody knows its outcome; left out",
-    r"DELETE /images/13/rules/5: nobody knows its outcome; left out",
+    *(rf"DELETE /images/{rule}: nobody knows its outcome; left out" for rule in ("15/rules/1", "13/rules/5")),
     r"checks since the backup are lost, of the disks 13"]
 
 @pytest.mark.parametrize("house", [True, False], indirect=True, ids=["sums", "no-sums"])

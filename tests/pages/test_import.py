@@ -113,9 +113,8 @@ def test_dumps_are_described_and_numbered_by_hand(staff, choose):
     staff.answer(True)
     for deed, words in (("7", "1 disk put, 1 failed, 1 left out."), ("9", "2 disks put, 0 failed, 1 left out.")):
         staff.type("Deed of one.d64", deed)
-        shown = staff.push("Go on with the rest")
-        assert shown["result"][0] == words, "a disk goes out under a deed of which nobody was asked"
-    assert [row[4:] for row in shown["list"]] == [["3001", "9", "done"], ["3002", "9", "done"], ["", "", NO_KIND]]
+        assert staff.push("Go on with the rest")["result"][0] == words, "it goes out under a deed that nobody agreed to"
+    assert [at[4:] for at in staff.read()["list"]] == [["3001", "9", "done"], ["3002", "9", "done"], ["", "", NO_KIND]]
 
 def test_map_shows_each_sector_the_chosen_file_and_faults(staff, choose):
     choose({"damaged.d64": samples.bytes_of("images", "damaged.d64"), "plain.img": WELCOME})

@@ -127,10 +127,9 @@ def test_journal_that_has_become_shorter_is_another_one(staff):
     assert staff.push("Read what is older")["stands"][0].startswith("1 change read, ")
 
 def test_journal_that_cannot_be_read_says_why(staff):
-    wanted = [
-        (refused_by_nginx(404, "X"), "There is no journal here: the machine has no file of it. "), (b"", CANNOT_REACH),
-        (refused_by_nginx(500, "X"), "The machine cannot read its journal. Most likely its group may not: "),
-        (refused(403, "staff-only"), "Only the staff may do this. Use a key of the staff.")]
+    wanted = [(b"", CANNOT_REACH), (refused(403, "staff-only"), "Only the staff may do this. Use a key of the staff."),
+        (refused_by_nginx(404, "X"), "There is no journal here: the machine has no file of it. "),
+        (refused_by_nginx(500, "X"), "The machine cannot read its journal. Most likely its group may not: ")]
     for reply, words in wanted:
         staff.door.before = lambda method, path: reply if path == "/journal" else None
         shown = read(staff, JOURNAL)

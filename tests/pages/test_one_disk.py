@@ -1,11 +1,9 @@
 """One disk on one page: what it is, who gets what by which rules, who put these; takedowns of ticked files."""
 
-import threading
-
 import pytest
 from staff_helpers import CANNOT_REACH, journal_lines, lost_at, moment, saved_table, takedown
 from support import museums
-from support.browser import LIMIT, TODAY
+from support.browser import TODAY, wait_for
 from support.samples import DONOR_OF_9, refused
 
 START, ALL = 1_700_000_000, "the public, the reading room and the staff, until further notice"
@@ -96,8 +94,7 @@ def test_file_says_since_when_the_journal_has_no_change_that_can_concern_it_and_
     assert disk.go("disk/1002")["rows"][0][5] == READS + UNKNOWN
     museum.rules["R9"], gone = {}, by(120, f"Drop {BY_DEED}")
     assert disk.go("disk/1002")["rows"][0][7].endswith(f" no rule matches in the journal since {gone}")
-    for words in ("In the journal since: from then on it has no change of the disk", "begins at midnight by the"):
-        assert words in disk.text("#disk .stands")
+    assert all(one in disk.text("#disk .stands") for one in ("In the journal since: from then on it", "at midnight by"))
 
 def test_files_ticked_by_their_shown_names_are_taken_down_and_what_stands_after_a_failure_is_said(museum, disk):
     museums.put_files(museum, 1002, "d64", 9, [("%CCETTER", "SEQ", b"A"), ("-", "DEL", None), ("GUIDE", "SEQ", b"A")])
@@ -109,11 +106,10 @@ def test_files_ticked_by_their_shown_names_are_taken_down_and_what_stands_after_
     asked = disk.push("Take down what is ticked")["sure"][:3]
     due = "Take down 2 files of disk 1002 for the public{}?"
     assert asked == [due.format(" and the reading room"), *notes], "files are not named as they are shown"
-    is_left = threading.Event()
-    disk.door.before = lambda _, path: is_left.wait(LIMIT) and None if path.endswith("/survey") else None
+    left, wait = [], lambda: wait_for("a question that is left", lambda: left)
+    disk.door.before = lambda _, path: wait() and None if path.endswith("/survey") else None
     disk.push("Save what stands now, first")  # the question is left meanwhile: there is one table below, not two
-    assert disk.answer(False) and disk.set("#ticked [value=room]", False) is None
-    is_left.set()
+    left += [disk.answer(False), disk.set("#ticked [value=room]", False)]
     assert disk.push("Take down what is ticked")["sure"][0] == due.format("") and disk.answer(False)
     assert disk.set("#ticked [value=room]", True) or disk.push("Take down what is ticked")
     museum.rules["T1002"] = takedown(7, 2)

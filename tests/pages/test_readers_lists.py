@@ -127,13 +127,9 @@ def test_titles_are_in_order_without_articles_and_accents_and_each_letter_leads_
 
 def test_progress_is_said_while_the_list_comes(reader, museum):
     whole, is_said = museum.ask_catalogue("public").reply, threading.Event()
-
-    def in_parts():
-        yield from (whole[:4000], 0.6, whole[4000:5000])
-        is_said.wait(LIMIT)
-        yield whole[5000:]
-
-    reader.door.before = lambda method, path: in_parts() if path == "/catalogue" else None
+    late = lambda: is_said.wait(LIMIT) and whole[5000:]
+    in_parts = (part() if callable(part) else part for part in (whole[:4000], 0.6, whole[4000:5000], late))
+    reader.door.before = lambda method, path: in_parts if path == "/catalogue" else None
     reader.script("location.hash = '#/?q=letter'")
     reader.wait(lambda state: state["status"].startswith("Reading the list of all files: "), "the progress")
     is_said.set()

@@ -83,17 +83,15 @@ def test_list_says_when_it_was_asked_and_is_asked_anew_when_it_is_old_or_shows_w
     del museum.rules["T1001"]
     assert found("welco") == [] and reader.script("const now = Date.now; Date.now = () => now() + 400000") is None
     assert found("welc") == ["WELCOME.TXT"] and at() != hour, "a list of many minutes ago"
-    closed = lambda: reader.texts(".closed > a[href='#/1003']")
     for rank, words in ((1, "logb"), (2, "logbo")):
         museum.rules["T1003"] = {rank: museums.rule(rank, "deny", ["public"], {"slot": 1})}
         reader.script("const now = Date.now; Date.now = () => now() + 200000")
-        assert found(words) and reader.wait(lambda state: f"T1003.{rank}" in str(closed()), "closed at the list's hour")
+        assert found(words) and reader.wait(lambda _: f"T1003.{rank}" in str(reader.texts(".closed")), "a list's hour")
 
-def test_refusal_says_why_whom_to_ask_and_where_to_go_on(reader):
+def test_refusal_says_why_whom_to_ask_and_where_to_go_on_also_of_a_file_opened_in_between(museum, reader):
     others, staff = "The other files of this disk", "Turn to the museum's staff about this "
-    wanted = {
-        "1003/0": (["Refusal: faulty", f"Faults: {DAMAGED}"], others), "1002/1": (["Refusal: listed-only"], others),
-        "1001/9": (["Refusal: no-file"], others), "99": (["Refusal: no-accession"], "All disks"),
+    wanted = {"1003/0": (["Refusal: faulty", f"Faults: {DAMAGED}"], others), "1001/9": (["Refusal: no-file"], others),
+        "1002/1": (["Refusal: listed-only"], others), "99": (["Refusal: no-accession"], "All disks"),
         **dict.fromkeys(["012", "12/0/0", "%3Cb%3E"], (["Refusal: no-route"], "All disks"))}
     for place, (refusal, way) in wanted.items():
         assert reader.go(place)["refusal"][1:] == refusal, place
@@ -102,6 +100,10 @@ def test_refusal_says_why_whom_to_ask_and_where_to_go_on(reader):
         assert reader.read(lambda state: state["here"] != f"#/{place}")["refusal"] == [], place
     shown = [(at["heading"], at["title"].partition(" – ")[0]) for at in map(reader.go, ("1003/0", "1001/9"))]
     assert shown == [("LOGBOOK", "LOGBOOK, Disk 1003"), ("Disk 1001, slot 9",) * 2]
+    museum.rules["T1001"] = {1: museums.rule(1, "deny", ["public"], {"slot": 0})}
+    reader.door.before = lambda method, path: museum.rules["T1001"].clear() if "/files/" in path else None
+    assert reader.go("1001/0")["refusal"] == ["What you may see has just changed. Try again."]
+    assert reader.load()["heading"] == "WELCOME.TXT"
 
 def test_desk_that_has_nothing_or_does_not_answer_is_said(museum, reader):
     wanted = {429: "You ask too often. Wait a little, and try again.", 503: "The desk cannot answer now. Try again.",
@@ -121,12 +123,6 @@ def test_desk_that_has_nothing_or_does_not_answer_is_said(museum, reader):
     assert reader.go("1004/0") and reader.wait(others, "what the desk tells now, not minutes ago")
     museum.images.clear()
     assert reader.go("") and reader.load() and reader.text("#view") == "There is no disk of which you may see a file."
-
-def test_file_that_was_opened_in_between_is_not_shown(museum, reader):
-    museum.rules["T1001"] = {1: museums.rule(1, "deny", ["public"], {"slot": 0})}
-    reader.door.before = lambda method, path: museum.rules["T1001"].clear() if "/files/" in path else None
-    assert reader.go("1001/0")["refusal"] == ["What you may see has just changed. Try again."]
-    assert reader.load()["heading"] == "WELCOME.TXT"
 
 def test_key_has_a_list_of_files_of_its_own_and_is_left_nowhere_and_without_an_unknown_one_a_reader_goes_on(reader):
     assert reader.find("welcome")["disks"] == ["Disk 1001"]

@@ -93,14 +93,13 @@ def hexed(data, width=16):
     shown = {at: re.sub("[^ -~]", ".", part.decode("latin-1")) for at, part in parts.items()}
     return "\n".join(f"{at:06X}  {part.hex(' ').upper():{3 * width - 1}}  {shown[at]}" for at, part in parts.items())
 
+LISTED = '10 PRINT "HELLO"\n20 GOTO 10\n'
 # By a file: its name as it is shown, what is said of it, its text, the name of its download, and its bytes.
 SHOWN = {"1001/0": ("WELCOME.TXT", "Shown as text.", WELCOME.partition(b"\x1a")[0].decode().replace("\r\n", "\n"),
                "WELCOME.TXT", WELCOME),
-    "2001/0": ("HELLO", "Shown as a listing of BASIC, without the 2 bytes after it.",
-               '10 PRINT "HELLO"\n20 GOTO 10\n', "HELLO.prg", BASIC),
+    "2001/0": ("HELLO", "Shown as a listing of BASIC, without the 2 bytes after it.", LISTED, "HELLO.prg", BASIC),
     "2001/1": ("LETTER", "Shown as it came on the screen of a C64.", "", "LETTER.seq", GRAPHIC),
-    "2002/0": ("LETTER.TXT", "Shown as text of WordStar, without its marks for print.", "The last words.\n",
-               "LETTER.TXT", STAR),
+    "2002/0": ("LETTER.TXT", "text of WordStar, without its marks for print.", "The last words.\n", "LETTER.TXT", STAR),
     "2001/3": ("../../X", "Shown as text.", "<IMG SRC=X ONERROR=1>\n", "____X.usr", b"<IMG SRC=X ONERROR=1>\r"),
     "2001/8": ("DATA", "it loads at 256 ($0100), so it is machine code or data.", hexed(DATA), "DATA.prg", DATA)}
 
@@ -113,9 +112,8 @@ def test_file_comes_in_the_way_that_suits_it_and_is_saved_by_a_safe_name(reader,
     assert reader.saved(name) == data
 
 def test_file_can_be_seen_in_the_other_ways(reader):
-    small = '10 print "hello"\n20 goto 10\n'
     reader.go("2001/0")
-    for button, text in (("Lower case", small), ("Bytes", hexed(BASIC)), ("Listing", small)):
+    for button, text in (("Lower case", LISTED.lower()), ("Bytes", hexed(BASIC)), ("Listing", LISTED.lower())):
         assert reader.push(button) and reader.text("pre") == text
     assert reader.texts("pre .word") == ["print", "goto"]
     reader.go("2001/1")
@@ -148,9 +146,8 @@ def letters(data, x, y):
     return 1 if data[8 * (32 * down + across) + top] >> 7 - left & 1 else 6
 
 DRAWN = {"a Koala picture (drawn with KoalaPainter on a C64)": (0x6000, 10001, koala),
-         "a plain bitmap": (0x2000, 8000, lambda *at: art(*at, None)),
+         "a plain bitmap": (0x2000, 8000, lambda *at: art(*at, None)), "an Art Studio picture": (0x2000, 9009, art),
          "an Advanced Art Studio picture": (0x2000, 10016, lambda *at: koala(*at, 9016, 9001)),
-         "an Art Studio picture": (0x2000, 9009, art),
          "a Doodle picture": (0x5C00, 9216, lambda *at: art(*at, 0, 1024)), "a set of signs": (0x3800, 1024, letters)}
 DECODE = """return import("/pictures.js").then(({ pictureIn }) => {
   const { words, make } = pictureIn(Uint8Array.from(arguments[0]));
@@ -293,12 +290,10 @@ def test_zip_asks_in_a_pace_again_after_429_and_leaves_out_what_was_closed_meanw
 
 @pytest.mark.parametrize("at, then, words", ids=["lost", "stopped", "another key", "late"], argvalues=[
     (1, 3, CANNOT_REACH), (1, 3, "Stopped."), (1, 3, ""), (2, 9, "Stopped.")])
-def test_zip_that_is_stopped_or_whose_connection_is_lost_or_that_gets_another_key_is_not_saved(
-        museum, reader, at, then, words):
+def test_zip_that_is_stopped_or_lost_or_gets_another_key_is_not_saved(museum, reader, at, then, words):
     museum.rules["T2001"], is_stopped = {1: museums.rule(1, "deny", ["public"], {"slot": 2})}, threading.Event()
     asked = lambda slot: [path for _, path, _ in reader.door.visits if path.endswith(f"/2001/files/{slot}")]
-    reader.go("2001")
-    wait_for("what the page asks of closed files", lambda: asked(9))
+    assert reader.go("2001") and wait_for("what the page asks of closed files", lambda: asked(9))
     lost_or_late = lambda: b"" if words == CANNOT_REACH else is_stopped.wait(LIMIT) and None
     reader.door.before = lambda method, path: lost_or_late() if path.endswith(f"/files/{at}") else None
     reader.door.visits.clear()

@@ -9,7 +9,7 @@ from support import museums
 from support.browser import LIMIT, TODAY
 
 BOTH = ("public", "room")
-HIDDEN = "he file at slot {} closed to the public and the reading room, until further notice."
+HIDDEN = "the file at slot {} closed to the public and the reading room, until further notice."
 NOW, NOTHING = f"Today, {TODAY}", "Nothing opens, and nothing closes."
 SHUT = "see only that closed files are there, not their names"
 CLOSES = f"Closes for the public and the reading room: 1 file. Now they may read them; then they may {SHUT}."
@@ -27,9 +27,8 @@ def takedowns(museum, staff):
 ranks = lambda shown: [row[1] for row in shown["rows"]]
 
 def test_takedowns_are_rehearsed_and_put_each_before_the_others(takedowns):
-    rank = "Rank 1000: it is the first takedown of disk 1002."
-    due = ["Put takedown 1000 of disk 1002?", f"It says: t{HIDDEN.format(2)}", rank, NOW, CLOSES]
-    words = [*due, "GUIDE (disk 1002, slot 2)"]
+    rank, guide = "Rank 1000: it is the first takedown of disk 1002.", "GUIDE (disk 1002, slot 2)"
+    words = ["Put takedown 1000 of disk 1002?", f"It says: {HIDDEN.format(2)}", rank, NOW, CLOSES, guide]
     for is_agreed, said in ((False, "Not put"), (True, "Put")):
         shown = takedowns.take_down("1002", "", "2", *BOTH)
         assert (shown["hint"], shown["sure"]) == (rank, words)
@@ -47,7 +46,7 @@ def test_takedowns_are_rehearsed_and_put_each_before_the_others(takedowns):
 
 def test_rank_in_use_is_said_to_be_replaced_and_another_comes_after_it_where_none_is_free_before(takedowns):
     shown = takedowns.take_down("1005", "1", "2", *BOTH)
-    words = f"In use: takedown 1 of disk 1005 stands, t{HIDDEN.format(0)} What you put replaces it."
+    words = f"In use: takedown 1 of disk 1005 stands, {HIDDEN.format(0)} What you put replaces it."
     assert (shown["hint"], shown["sure"][2:]) == (words, [words, NOW, *TURNS])
     takedowns.answer(False)
     shown = takedowns.take_down("1005", "", "2", *BOTH)
@@ -58,7 +57,7 @@ def test_rank_in_use_is_said_to_be_replaced_and_another_comes_after_it_where_non
 
 def test_drop_is_rehearsed_and_done(takedowns):
     shown = takedowns.of_row("takedown 1 of disk 1005", "Drop")
-    wanted = ["Drop takedown 1 of disk 1005?", f"It stands: t{HIDDEN.format(0)}", NOW, *TURNS[:2]]
+    wanted = ["Drop takedown 1 of disk 1005?", f"It stands: {HIDDEN.format(0)}", NOW, *TURNS[:2]]
     assert (shown["sure"], takedowns.focused()) == (wanted, "Leave it as it is")
     takedowns.press(Keys.ESCAPE)
     shown = takedowns.wait(lambda state: not state["busy"] and not state["sure"])

@@ -66,8 +66,7 @@ def test_reply_to_a_change_is_explained(staff):
         (refused_by_nginx(504, "X"), f"The desk took too long. Try again.{MAY_BE}"),
         (refused_by_nginx(413, "X"), "That is longer than the desk takes. It takes at most 262,144 bytes."),
         (refused_by_nginx(429, "X"), "You ask too often. Wait a little, and try again."), (b"", UNSURE),
-        (reply(200, b"<html>"), "This page cannot read the desk's answer."),
-        (reply(200, b'{"done":1}'), "This page cannot read the desk's answer.")]
+        *((reply(200, data), "This page cannot read the desk's answer.") for data in (b"<html>", b'{"done":1}'))]
     for instead, words in wanted:
         staff.door.before = lambda method, path: None if method == "GET" else instead
         assert put_deed(staff)["result"][0] == words

@@ -19,9 +19,8 @@ UNSERVED = {"DEL": "the desk gives out no file of type DEL",
 # A script: where the bars of the timeline are, and what drags the day.
 ENDS = "return ['.lane', '[type=range]'].map((at) => document.querySelector(`#timeline ${at}`).getBoundingClientRect())"
 # A script: what is drawn next comes two seconds later.
-LATE = """const [later, now] = [setTimeout, performance.now.bind(performance)];
-performance.now = () => performance.far = now() + 99 * (performance.far > 0);
-setTimeout = (go) => { [setTimeout, performance.now] = [later, now]; later(go, 2000); };"""
+LATE = """const later = setTimeout; let far = 0; performance.now = () => (far += 99);
+setTimeout = (go) => { setTimeout = later; delete performance.now; later(go, 2000); };"""
 UNSAID = "It does not say who has read or copied a file, nor what stands on other days."
 STOOD, PAST = f"by the rules of {TODAY} when it was asked", f"by the rules of {TODAY}, not by those that stood then"
 NO_JOURNAL = "what stood then is not known: there is no journal"
@@ -73,8 +72,7 @@ def test_table_has_the_day_of_its_field_and_is_asked_anew_once_something_was_cha
             staff.take_down("1002", rank, "2", "room")
             staff.answer(True)
         staff.door.visits.clear()
-        staff.script(LATE * is_lost)
-        staff.fill("eyes", closed=True)
+        assert staff.script(LATE * is_lost) is None and staff.fill("eyes", closed=True)
         assert [row[5] for row in staff.go("eyes")["rows"]].count("read it") == count, "it stood before a change"
         assert [at for _, at, _ in staff.door.visits if at == path] == [path] * bool(rank)
         assert staff.one("#eyes [name=day]").get_property("value") == DAYS[1], "a table under the day of another"
@@ -87,8 +85,7 @@ def test_day_that_nobody_typed_is_today_also_where_a_page_stays_open_overnight(s
             assert staff.push(button)["result"] == [f"Read: {words}2026-06-{day}."], "a today that is over"
             staff.script(CLOCK % 86_400_000)
     assert staff.go("eyes") and staff.texts("#eyes h2") == ["What the public gets on 2026-06-19"], "what stood days ago"
-    look(staff, "2026-06-19")
-    staff.script(CLOCK % 86_400_000)
+    assert look(staff, "2026-06-19") and staff.script(CLOCK % 86_400_000) is None
     assert staff.go("eyes") and "on 2026-06-19, by" in staff.push("Look")["result"][0], "not the day that was typed"
     assert staff.go("checks") and staff.one("[name=before]").get_property("value") == "2025-06-20"
 

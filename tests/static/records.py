@@ -6,9 +6,8 @@ import functools
 from static.rattle import ROOT, Clause
 
 # What a record may be of, and the words of its other lines.
-WORDS = {"rule": "page says defined coded proved tested refused note",
-    "promise": "says clause rests needs tested refused note", "unproved": "says coded tested refused note",
-    "definitions": "file"}
+WORDS = {"rule": "page says defined coded proved tested refused note", "definitions": "file",
+    "promise": "says clause rests needs tested refused note", "unproved": "says coded tested refused note"}
 
 class Record:
     """A record: what it is of, its title, and its other lines, each a word and a text."""

@@ -17,10 +17,9 @@ NAMES = {**{name: name.upper().replace("-", "_") for name in COMMANDS}, "help": 
 # The words that ask for a text of help.
 ASKS = {"DESK": ["--help", "-h", "help", "--help cat", "-h cat"], "HELP": ["help help"]}
 ASKS |= {NAMES[name]: [f"{name} --help", f"{name} -h", f"help {name}"] for name in COMMANDS}
-OPERANDS = {
-    "cat": "d64 disk.d64 0", "list": "d64 disk.d64", "files": "d64 disk.d64 --to folder", "copy": "--store f --to g",
-    "serve": "--store f --port 8041", "import": "--store f --sheet s", "check": "--store f --acc 12",
-    "show": "deeds --store f"}
+OPERANDS = {"cat": "d64 disk.d64 0", "list": "d64 disk.d64", "files": "d64 disk.d64 --to folder",
+    "copy": "--store f --to g", "serve": "--store f --port 8041", "import": "--store f --sheet s",
+    "check": "--store f --acc 12", "show": "deeds --store f"}
 # What is wrong behind the operands of a command, and in their place.
 MISTAKES = "--explian|--nothing=1|-x|more and more|--explain --explain|--explain=1|--help=1|--store".split("|")
 WRONG = [f"{name} {OPERANDS.get(name, '--store f')} {mistake}" for name in COMMANDS for mistake in MISTAKES]
