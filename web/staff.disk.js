@@ -104,8 +104,10 @@ function journalParts({ accession, deed }, changes) {
   const link = element("a", `All changes of disk ${accession} and its deed`, { href: `#/journal/${accession}` });
   const of = { deed: String(deed), names: shown.names };
   const rows = changes.slice(0, MOST_CHANGES).map((one) => changeRow(one, of));
-  const made = rows.length ? [table("latest changes", CHANGES, rows)] : [];
-  return [element("h2", "The latest changes of the disk and its deed"), ...made, box("p", "", link)];
+  const why = shown.none ?? "the journal is not read yet";
+  const none = element("p", why ? `Not shown: ${why}.` : "The journal has none.");
+  const made = rows.length ? table("latest changes", CHANGES, rows) : none;
+  return [element("h2", "The latest changes of the disk and its deed"), made, box("p", "", link)];
 }
 
 // Shows what is known of the disk, and of its changes where they are read.

@@ -63,6 +63,7 @@ def test_rule_says_what_was_there_before_it_or_how_far_the_journal_is_read_or_th
         disk.door.before = lambda _, path: reply if path == "/journal" else None
         unread = [row[5] for row in disk.go("disk/1002")["rows"]][:4:3]
         assert unread == [f"{READS}since when: the journal cannot be read", "the journal cannot be read"]
+        assert "Not shown: the journal cannot be read." in disk.texts("#disk .stands p"), "as if nothing was changed"
 
 def test_file_says_since_when_the_journal_has_no_change_that_can_concern_it_and_its_readers(museum, disk):
     """Cases: what is done; since when the first and last file are so for the public, and the last for the staff."""
