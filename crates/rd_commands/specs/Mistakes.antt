@@ -12,7 +12,7 @@ zone_mistake = codes "error: --zone takes a rule as POSIX writes it, as in UTC0 
 
 -- the day or the accession does not go with what `show` shows
 abbrev pub day_mistake : List ℕ
-day_mistake = codes "error: --on takes a date, as in 2030-01-01; 'show verdicts' needs it, and nothing else takes it or --acc" ++ help_hint
+day_mistake = codes "error: --on takes a date, as in 2030-01-01; 'show verdicts' needs it, and 'show' of anything else takes neither --on nor --acc" ++ help_hint
 
 -- the words of `serve` name two places
 abbrev pub place_mistake : List ℕ

@@ -35,7 +35,7 @@ const ZONE_MISTAKE: &[u8] =
 
 /// What it says about a day or an accession that does not go with what `show` shows.
 const DAY_MISTAKE: &[u8] =
-    b"error: --on takes a date, as in 2030-01-01; 'show verdicts' needs it, and nothing else takes it or --acc\n\nFor more information, try '--help'.\n";
+    b"error: --on takes a date, as in 2030-01-01; 'show verdicts' needs it, and 'show' of anything else takes neither --on nor --acc\n\nFor more information, try '--help'.\n";
 
 /// What it says about words of `serve` that name two places.
 const PLACE_MISTAKE: &[u8] =

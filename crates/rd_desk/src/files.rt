@@ -34,7 +34,7 @@ pub(crate) fn contents<S: Alter>(
     ensures { Reads S.Store store.old store.new result (λ lent. (row : Row) → get (desk S.Store store.old).images acc ≡ Some row
         → lent ≡ record { kind = row.kind; image = row.bytes; file = file }) }
 {
-    let Some(image) = store.image_again(alloc, acc)? else {
+    let Some(image) = store.cached_image(alloc, acc)? else {
         return Err(Unavailable);
     };
     contents_in(image, file)

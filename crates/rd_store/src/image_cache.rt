@@ -93,7 +93,7 @@ impl<S: Alter> Store<S> {
     /// a caller asks here for another. If there is no memory to keep it, it is read from its row each time.
     ///
     /// It fails with `Sql`.
-    pub fn image_again(&mut self, alloc: Global, acc: u32) -> Result<Option<ImageRow>, StoreFault>
+    pub fn cached_image(&mut self, alloc: Global, acc: u32) -> Result<Option<ImageRow>, StoreFault>
         ensures reads { Reads S.Store self.old self.new result (λ found.
             found ≡ get (desk S.Store self.old).images acc) }
         ensures fault { IfErr result (λ fault. fault ≡ StoreFault.Sql) }

@@ -196,9 +196,9 @@ const IMAGES: &[Step<'static>] = &[
         MISSING,
     ),
     Step::Tells(Question::Image(12, Some(PROGRAM))),
-    Step::Tells(Question::ImageAgain(12, Some(PROGRAM))),
-    Step::Tells(Question::ImageAgain(12, Some(PROGRAM))),
-    Step::Tells(Question::ImageAgain(12, Some(PROGRAM))),
+    Step::Tells(Question::CachedImage(12, Some(PROGRAM))),
+    Step::Tells(Question::CachedImage(12, Some(PROGRAM))),
+    Step::Tells(Question::CachedImage(12, Some(PROGRAM))),
 ];
 
 /// A CP/M disk under deed 7.

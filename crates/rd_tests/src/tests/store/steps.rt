@@ -106,7 +106,7 @@ pub(super) enum Question<'a> {
     LatestCheck(u32, Option<(i32, Outcome)>),
     Image(u32, Option<Given>),
     /// The same, and the store may have the image in memory.
-    ImageAgain(u32, Option<Given>),
+    CachedImage(u32, Option<Given>),
     /// Of an accession: the kind and the deed.
     Accession(u32, Option<Accession>),
     Accessions(&'a [u32]),
@@ -317,12 +317,12 @@ pub(super) fn image<S: Alter>(
     desk.image(alloc, acc)
 }
 
-fn image_again<S: Alter>(
+fn cached_image<S: Alter>(
     alloc: Global,
     desk: &mut Store<S>,
     acc: u32,
 ) -> Result<Option<ImageRow>, StoreFault> {
-    desk.image_again(alloc, acc)
+    desk.cached_image(alloc, acc)
 }
 
 pub(super) fn is_given(row: &ImageRow, (picture, deed, digest): Given, bytes: &[u8]) -> bool {
@@ -506,8 +506,8 @@ pub(super) fn tells_so<S: Alter>(
         Question::Keys(wanted) => has_keys(alloc, desk, wanted),
         Question::LatestCheck(acc, wanted) => has_latest_check(desk, acc, wanted),
         Question::Image(acc, wanted) => has_image(alloc, image(alloc, desk, acc), wanted)?,
-        Question::ImageAgain(acc, wanted) => {
-            has_image(alloc, image_again(alloc, desk, acc), wanted)?
+        Question::CachedImage(acc, wanted) => {
+            has_image(alloc, cached_image(alloc, desk, acc), wanted)?
         }
         Question::Accession(acc, wanted) => has_accession(desk, acc, wanted),
         Question::Accessions(wanted) => has_accessions(alloc, desk, wanted),
