@@ -7,8 +7,6 @@ mod fits;
 mod line;
 mod notes;
 mod said;
-#[cfg(test)]
-mod tests;
 mod words;
 
 pub use explanation::explained;

@@ -7,8 +7,6 @@ mod dots;
 mod key_file;
 mod moment;
 mod names;
-#[cfg(test)]
-mod tests;
 mod zone_file;
 
 pub use blanks::trimmed;

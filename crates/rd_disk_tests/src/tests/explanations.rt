@@ -1,6 +1,6 @@
 //! An explanation, as a person reads it.
 
-use crate::{
+use rd_explanations::{
     Advice, Column, Fault, Line, Notes, Reason, Said, Unusable, explained, kind_that_fits,
 };
 use rd_geometry::Kind;

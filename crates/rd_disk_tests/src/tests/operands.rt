@@ -1,6 +1,6 @@
 //! Keys and zones in files, first moments of days, names of files. Python's `zoneinfo` gives the moments.
 
-use crate::{ZoneFileFault, file_name, first_moment, key_in_file, zone_in_file};
+use rd_operands::{ZoneFileFault, file_name, first_moment, key_in_file, zone_in_file};
 use rd_policy::{Zone, date_read};
 use std::test::Fail;
 
