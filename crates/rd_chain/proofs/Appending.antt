@@ -2,12 +2,13 @@
 use Rattle.rd_chain.proofs.Common.{◌≡◌, ◌∙◌, ◌+◌, ◌++◌, ◌<◌, ◌≤◌, ℕ, List, [], ◌∷◌, length, map, inl, refl, sym, ap, subst, arith, true≢false, IsErr, OnOk, Result, Ok, Err, inr, Database, Ghosts, Held, state, Appends, EndsAt, HoldsChain, IsEndOf, IsFullFor, IsOpen, Makes, Moves, RestsIn, Turns, End, MOST_LINES, end_of, end_with, history_schema, lines, next_end}
 use Rattle.rd_chain.specs.declared.faults.ChainFault.{ChainFault}
 use Rattle.rd_chain.specs.declared.faults.ChainFault.TheVariants.{Full, Sql}
-use Rattle.rd_chain.proofs.Laws.{Laws, leaves_only}
+use Rattle.rd_tables.proofs.ConnectionLaws.{Laws}
+use Rattle.rd_chain.proofs.Laws.{leaves_only}
 use Rattle.std.proofs.Common.{append_assoc, get_or, take, take_all}
 use Rattle.std.proofs.lemmas.List.{append-nil, map_more}
 use Rattle.rd_chain.proofs.LineLemmas.{end_push}
 use Rattle.rd_chain.proofs.Statements.{makes_line, params, put_line, put_text, put_writes}
-use Rattle.rd_chain.proofs.TransactionSteps.{then_told}
+use Rattle.rd_tables.proofs.TransactionSteps.{then_told}
 use Rattle.rd_chain.proofs.Transactions.{appends, chain_is, keeps_chain}
 
 -- nothing is done

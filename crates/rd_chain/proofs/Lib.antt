@@ -3,5 +3,6 @@ pub mod Laws
 pub mod LineLemmas
 pub mod Statements
 pub mod Appending
-pub mod TransactionSteps
 pub mod Transactions
+pub mod Reading
+pub mod ChainLemmas

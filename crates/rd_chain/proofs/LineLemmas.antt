@@ -1,5 +1,5 @@
 -- The rows of lines: their order, and what a line more makes of them.
-use Rattle.rd_chain.proofs.Common.{◌≡◌, ◌∙◌, ◌+◌, ◌++◌, ◌<◌, ◌≤◌, ℕ, pos, Bool, false, List, [], ◌∷◌, length, length-append, map, refl, sym, ap, subst, arith, nat_tests, Less, is_eq, is_gt, AllByRecursion, IsPermutation, IsPermutation-map, IsPermutation-sym, Row, Trees, Int, put_row, column, value_cmp-Int, value_cmp_total, FIRST_SUM, next_sum, last_sum, End, end_of, by_number, columns_after, columns_of, line_columns, lines_of, end_with, next_end, seen}
+use Rattle.rd_chain.proofs.Common.{◌≡◌, ◌∙◌, ◌+◌, ◌++◌, ◌<◌, ◌≤◌, ℕ, pos, Bool, false, List, [], ◌∷◌, length, length-append, map, refl, sym, ap, subst, arith, nat_tests, Less, is_eq, is_gt, AllByRecursion, IsPermutation, IsPermutation-map, IsPermutation-refl, IsPermutation-sym, IsSorted, Row, Trees, Int, put_row, column, value_cmp-Int, value_cmp_total, FIRST_SUM, next_sum, last_sum, End, end_of, by_number, columns_after, columns_of, line_columns, lines_of, end_with, next_end, seen}
 use Rattle.std.specs.Cmp.{IsTotalOrder}
 use Rattle.std.specs.List.{IsDistinct}
 use Rattle.std.proofs.lemmas.Cmp.{eq_by_cmp_equiv, on_total}
@@ -46,6 +46,13 @@ no_ties : (rows : List Row) → IsDistinct same_number rows → IsAscending (λ 
 unfolding IsDistinct
 no_ties [] apart = tt
 no_ties (row ∷ rows) apart = (apart.0, no_ties rows apart.1)
+
+-- rows whose numbers rise are the only ones in order
+pub rising_alone : (ups rows : List Row) → IsAscending (λ row other. by_number row other ≡ Less) ups → IsPermutation ups rows → IsSorted by_number rows → rows ≡ ups
+rising_alone ups rows up same sorted =
+    let free = no_ties ups (apart ups up) in
+    sorted_is-sort_by by_number number_total ups rows free same sorted
+    ∙ sym (sorted_is-sort_by by_number number_total ups ups free (IsPermutation-refl ups) (sorted_from_ascending by_number number_total ups (ascending_weaker _ _ (λ row other less. ap is_gt less) ups up)))
 
 by_number_sorted : (these : List (List ℕ)) (rows : List Row) → IsPermutation (columns_of these) rows → columns_of these ≡ sort_by by_number rows
 by_number_sorted these rows same =

@@ -1,27 +1,12 @@
 -- What a transaction makes of a chain.
-use Rattle.rd_chain.proofs.Common.{◌≡◌, ◌++◌, ℕ, List, [], inl, inr, Result, Ok, Err, OnOk, OnErr, IfErr, IsErr, IsTrue, ap, subst, sym, false, Error, Database, Ghosts, Held, state, Survives, IsRolledBack, Shows, KeepsCounts, FailsToCommit, Appends, HoldsChain, IsChain, IsChainOf, IsClean, IsOpen, LeavesOldOrNew, Moves, RestsIn, Turns, lines, lines_of}
-use Rattle.rd_chain.proofs.Laws.{Laws, clean_at, leaves_only, left_is}
+use Rattle.rd_chain.proofs.Common.{◌≡◌, ◌++◌, ℕ, List, [], inl, inr, Result, Ok, Err, OnOk, OnErr, ap, subst, sym, Database, Ghosts, Held, state, Appends, HoldsChain, IsChain, IsChainOf, IsOpen, LeavesOldOrNew, RestsIn, Turns, lines, lines_of}
+use Rattle.rd_tables.proofs.ConnectionLaws.{Laws}
+use Rattle.rd_chain.proofs.Laws.{leaves_only, left_is}
 use Rattle.rd_chain.proofs.LineLemmas.{lines_are}
-use Rattle.rd_chain.proofs.TransactionSteps.{begun, commits, undoes}
 
 -- a database is the chain of its lines, if it is that of any
 pub chain_is : (these : List (List ℕ)) (db : Database) → IsChainOf these db → IsChain db × (lines_of db.trees ≡ these)
 chain_is these db chain = let is = lines_are these db.trees chain.rows in (subst (λ l. IsChainOf l db) (sym is) chain, is)
-
--- ---- from where a transaction begins to where the connection is handed back
-
-module _ {S : Type 0} (g : Ghosts S) (laws : Laws g) (old begin : Held S) (begins : begin ≡ begun old) {Before : Database → Type 0} (start : IsOpen g old → RestsIn Before (state g old)) {mid : Held S} (last end : Held S) (same : last ≡ end) where
-  -- it failed, and all is undone
-  pub step_failed : {U Y V Z : Type 0} {q : Result U Y} {After : Database → Type 0} → Moves g begin mid Before After q → (IsClean g last → IsRolledBack (state g mid) (state g last)) → Survives (state g mid) (state g last) (λ _. ⊥) → (r : Result V Z) → IsErr r → Turns g old end After r
-  step_failed {q} {After} moves undone ended r failed =
-      subst (λ (h : Held S). Turns g old h After r) same (undoes g (clean_at g laws) old mid last Before After start (subst (λ (h : Held S). Moves g h mid Before After q) begins moves) undone ended r failed)
-
-  -- it was done, and is committed
-  pub step_done : {V X : Type 0} {x : V} {After : Database → Type 0} → Moves {X = X} g begin mid Before After (Ok x) → Survives (state g mid) (state g last) (λ trees. trees ≡ (state g mid).now.trees) → (r : Result (Unit {0}) Error)
-      → (IsClean g last → OnOk r (IsTrue mid.in_transaction × Shows (state g mid) (state g last) (state g mid).now (state g mid).now false × KeepsCounts (state g mid) (state g last) × ((state g last).marks ≡ [])))
-      → (IsClean g last → IfErr r (FailsToCommit (state g mid) (state g last))) → Turns g old end After r
-  step_done {X} {x} {After} moves all r done failed =
-      subst (λ (h : Held S). Turns g old h After r) same (commits g (clean_at g laws) old mid last Before After start x (subst (λ (h : Held S). Moves {X = X} g h mid Before After (Ok x)) begins moves) all r done failed)
 
 -- ---- the chain after it
 

@@ -1,5 +1,5 @@
--- The chain of sums over the lines of a history: each sum is over the one before and the line.
-use Rattle.std.specs.Prelude.{◌≡◌, ◌≢◌, ℕ, List, [], ◌∷◌, ◌++◌, Contains, replicate}
+-- The chain of sums over lines: each sum is over the one before and the line.
+use Rattle.std.specs.Prelude.{◌≡◌, ◌≢◌, ◌⊎◌, ℕ, List, [], ◌∷◌, ◌++◌, Contains, length, replicate}
 use Rattle.sha2.specs.Sha256.{sha256}
 
 -- the sum before the first line: 32 zeros
@@ -32,3 +32,9 @@ pub record Collides (lines others : List (List ℕ)) : Type 0 where
   pub of_others : Contains (all_summed FIRST_SUM others) other
   pub differ : text ≢ other
   pub same : sha256 text ≡ sha256 other
+
+-- two lists of lines of one length whose last sums are equal are the same, or two different texts with one
+-- SHA-256 are among what is summed for them
+abbrev pub OneChain : Type 0
+OneChain = (lines others : List (List ℕ)) → length lines ≡ length others
+    → last_sum FIRST_SUM lines ≡ last_sum FIRST_SUM others → (lines ≡ others) ⊎ Collides lines others

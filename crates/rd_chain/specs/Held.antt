@@ -1,23 +1,20 @@
 -- What a chain holds, what a call makes of it, and what a crash leaves.
-use Rattle.std.specs.Prelude.{◌≡◌, ◌≢◌, ◌⊎◌, ◌+◌, ◌<◌, ◌≤◌, ◌++◌, ℕ, List, [], false, length, IsTrue, Result, Err, OnOk, OnErr}
-use Rattle.sqlite_disk.specs.Disk.{MoreFaults}
+use Rattle.std.specs.Prelude.{◌≡◌, ◌≢◌, ◌⊎◌, ◌+◌, ◌<◌, ◌++◌, ℕ, List, [], drop, length, map, take, IsTrue, Result, Vec, Err, IfErr, IfOk, OnOk, OnErr}
+use Rattle.std.specs.declared.alloc.Global.{Global}
 use Rattle.sqlite.specs.Tree.{Trees}
 use Rattle.sqlite.specs.Store.{Ghosts}
-use Rattle.sqlite.specs.Effect.{Database}
-use Rattle.sqlite.specs.State.{State, HasCleanDisk}
+use Rattle.sqlite.specs.State.{State}
 use Rattle.sqlite.specs.Held.{Held, state}
+use Rattle.rd_tables.specs.Connections.{IsClean, IsOpen, IsUntouched, Lasts, LeavesOld, LeavesOpen, RestsIn}
 use Rattle.rd_tables.specs.Schemas.{IsBlank}
-use Rattle.rd_chain.specs.Rows.{IsChain, IsChainOf, MOST_LINES, history_schema, lines_of}
+use Rattle.rd_chain.specs.Rows.{IsChain, IsChainOf, MOST_LINES, MOST_READ, columns_of, history_schema, lines_of, row_of}
 use Rattle.rd_chain.specs.declared.faults.ChainFault.{ChainFault}
-use Rattle.rd_chain.specs.declared.faults.ChainFault.TheVariants.{Full}
+use Rattle.rd_chain.specs.declared.faults.ChainFault.TheVariants.{Full, Sql}
 use Rattle.rd_chain.specs.declared.faults.CreateFault.{CreateFault}
 use Rattle.rd_chain.specs.declared.faults.CreateFault.TheVariants.{Occupied}
-
--- Outside a transaction, with nothing to commit, and this is true of the database.
-pub record RestsIn (P : Database → Type 0) (s : State) : Type 0 where
-  pub settled : s.committed ≡ s.now
-  pub autocommit : s.in_transaction ≡ false
-  pub holds : P s.now
+use Rattle.rd_chain.specs.declared.faults.OpenFault.{OpenFault}
+use Rattle.rd_chain.specs.declared.faults.OpenFault.TheVariants.{Broken, NotAChain}
+use Rattle.rd_chain.specs.declared.read.SummedLine.{SummedLine}
 
 -- what a chain keeps true of its connection: while it is open, its database is that of a chain, all of it committed; of
 -- one that a fault of the disk has shut nothing is known
@@ -29,14 +26,6 @@ module _ {S : Type 0} (g : Ghosts S) (h : Held S) where
   abbrev pub lines : List (List ℕ)
   lines = lines_of (state g h).now.trees
 
-  -- the connection is open
-  abbrev pub IsOpen : Type 0
-  IsOpen = IsTrue (state g h).is_open
-
-  -- so far nothing else has written the files, and the disk has returned what was written
-  abbrev pub IsClean : Type 0
-  IsClean = HasCleanDisk (state g h)
-
 -- trees that a crash left are the chain of these lines
 abbrev pub IsLeft : List (List ℕ) → Trees → Type 0
 IsLeft these left = IsChainOf these (record { schema = history_schema; trees = left })
@@ -44,24 +33,6 @@ IsLeft these left = IsChainOf these (record { schema = history_schema; trees = l
 -- a crash leaves these lines and nothing else
 abbrev pub LeavesOnly : {S : Type 0} → Ghosts S → Held S → List (List ℕ) → Type 0
 LeavesOnly g h these = (left : Trees) → g.recovers h.store left → IsLeft these left
-
--- What every call does to its connection, whatever it answers. Only a connection that was open is open, and
--- only a disk that was clean is clean. No fault of the disk is forgotten, and where the disk is clean only a
--- fault of it shuts the connection. The limit of steps stays.
-pub record Lasts {S : Type 0} (g : Ghosts S) (old new : Held S) : Type 0 where
-  pub was_open : IsOpen g new → IsOpen g old
-  pub clean : IsClean g new → IsClean g old
-  pub faults : (state g old).faults ≤ (state g new).faults
-  pub closes : IsOpen g old → IsClean g new → IsOpen g new ⊎ MoreFaults (state g old).faults (state g new).faults
-  pub limit : (state g new).step_limit ≡ (state g old).step_limit
-
--- After Ok the connection is open, where the disk has returned what was written.
-abbrev pub LeavesOpen : {S T X : Type 0} → Ghosts S → Held S → Result T X → Type 0
-LeavesOpen g new result = IsClean g new → OnOk result (IsOpen g new)
-
--- a crash leaves what it left before
-abbrev pub LeavesOld : {S : Type 0} → Ghosts S → Held S → Held S → Type 0
-LeavesOld g old new = IsOpen g old → IsClean g new → (left : Trees) → g.recovers new.store left → g.recovers old.store left
 
 -- A connection at rest. While it is open, its database is the chain of its lines, and a crash leaves them and nothing
 -- else.
@@ -86,13 +57,6 @@ pub record IsFullFor {S T : Type 0} (g : Ghosts S) (old new : Held S) (count : �
   pub room : IsOpen g old → result ≡ Err Full → MOST_LINES < length (lines g old) + count
   pub same : result ≡ Err Full → new ≡ old
 
--- The connection was open, and shows the database that it showed.
-pub record IsUntouched {S : Type 0} (g : Ghosts S) (old new : Held S) : Type 0 where
-  pub was_open : IsOpen g old
-  pub now : (state g new).now ≡ (state g old).now
-  pub committed : (state g new).committed ≡ (state g old).committed
-  pub autocommit : (state g new).in_transaction ≡ (state g old).in_transaction
-
 -- a crash leaves what it left before, or a chain without lines
 abbrev pub LeavesOldOrNew : {S : Type 0} → Ghosts S → Held S → Held S → Type 0
 LeavesOldOrNew g old new = IsOpen g old → IsClean g new → (left : Trees) → g.recovers new.store left → g.recovers old.store left ⊎ IsLeft [] left
@@ -116,3 +80,37 @@ pub record IsNotCreated {S : Type 0} (g : Ghosts S) (old new : Held S) (fault : 
   pub untouched : IsOpen g new → IsUntouched g old new
   pub durable : IsOpen g new → LeavesOld g old new
   pub crash : LeavesOldOrNew g old new
+
+-- A chain was opened, and nothing else was done.
+pub record IsOpened {S : Type 0} (g : Ghosts S) (old new : Held S) : Type 0 where
+  pub lasts : Lasts g old new
+  pub schema : old.schema ≡ history_schema
+  pub chain : IsOpen g new → IsChain (state g old).now
+  pub same : IsOpen g new → lines g new ≡ lines g old
+  pub untouched : IsOpen g new → IsUntouched g old new
+  pub ends_open : IsClean g new → IsOpen g new
+  pub crash : LeavesOld g old new
+  pub durable : IsOpen g new → LeavesOnly g new (lines g new)
+
+-- No chain was opened, and nothing else was done: NotAChain exactly where the tables are not those of a chain, and Broken
+-- only where the rows are not those of lines.
+pub record IsNotOpened {S : Type 0} (g : Ghosts S) (old new : Held S) (fault : OpenFault) : Type 0 where
+  pub lasts : Lasts g old new
+  pub other : old.schema ≢ history_schema → fault ≡ NotAChain
+  pub schema : old.schema ≡ history_schema → fault ≢ NotAChain
+  pub same : fault ≡ NotAChain → new ≡ old
+  pub broken : IsOpen g new → fault ≡ Broken → ¬ IsChain (state g old).now
+  pub untouched : IsOpen g new → IsUntouched g old new
+  pub ends_open : fault ≡ Broken → IsClean g new → IsOpen g new
+  pub crash : LeavesOld g old new
+
+-- A call that reads lines and changes nothing: where the connection is open at the end, it tells after Ok the first 200
+-- after a number, or all of them.
+pub record ReadsAfter {S : Type 0} (g : Ghosts S) (old new : Held S) (number : ℕ) (result : Result (Vec SummedLine Global) ChainFault) : Type 0 where
+  pub lasts : Lasts g old new
+  pub same : IsOpen g new → lines g new ≡ lines g old
+  pub answer : IsOpen g new → IfOk result (λ found. map row_of found.items ≡ take MOST_READ (drop number (columns_of (lines g old))))
+  pub fault : IfErr result (λ fault. fault ≡ Sql)
+  pub ends_open : LeavesOpen g new result
+  pub crash : LeavesOld g old new
+  pub durable : IsOpen g new → LeavesOnly g new (lines g new)

@@ -13,6 +13,7 @@ use Rattle.sqlite_keyed.specs.Lists.{sort_by}
 use Rattle.sqlite_value.specs.Order.{bytes}
 use Rattle.rd_tables.specs.Schemas.{column_of, numbered}
 use Rattle.rd_chain.specs.Chains.{FIRST_SUM, next_sum}
+use Rattle.rd_chain.specs.declared.read.SummedLine.{SummedLine}
 
 -- the columns of the table
 abbrev pub history_columns : List Column
@@ -31,6 +32,10 @@ history_schema = record { tables = history_table ∷ []; indexes = []; views = [
 abbrev pub MOST_LINES : ℕ
 MOST_LINES = 999999999
 
+-- the most lines that are read at once
+abbrev pub MOST_READ : ℕ
+MOST_READ = 200
+
 -- the columns of a line: its number, the line, and its sum
 abbrev pub line_columns : ℕ → List ℕ → List ℕ → Row
 line_columns number line sum = Int (pos number) ∷ Text line ∷ Blob sum ∷ []
@@ -48,6 +53,10 @@ columns_of lines = columns_after 0 FIRST_SUM lines
 -- nothing.
 abbrev pub seen : Row → Row
 seen row = column row 0 ∷ column row 2 ∷ column row 3 ∷ []
+
+-- the columns of a line that was read
+abbrev pub row_of : SummedLine → Row
+row_of line = line_columns line.number line.line.items line.sum
 
 -- The database is the chain of these lines: it has the table, and its rows are theirs, in any order.
 pub record IsChainOf (lines : List (List ℕ)) (db : Database) : Type 0 where

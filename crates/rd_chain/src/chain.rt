@@ -1,12 +1,16 @@
 ghost use Rattle.std.specs.Prelude.{◌≡◌, ◌∷◌, [], false, IfOk, IfErr, length, map};
 ghost use Rattle.sqlite.specs.Held.{Held, state};
-ghost use Rattle.rd_chain.specs.Held.{Appends, HoldsChain, IsAtRest, IsCreated, IsFullFor, IsNotCreated, IsOpen, lines};
+ghost use Rattle.rd_tables.specs.Connections.{IsOpen};
+ghost use Rattle.rd_chain.specs.Held.{Appends, HoldsChain, IsAtRest, IsCreated, IsFullFor, IsNotCreated, IsNotOpened, IsOpened, ReadsAfter, lines};
 
-use crate::faults::{ChainFault, CreateFault, Refused};
+use crate::faults::{ChainFault, CreateFault, OpenFault, Refused};
+use crate::read::{SummedLine, judge, later_rows, summed_lines};
+use crate::schema::is_history;
 use crate::sum::End;
 use crate::write::{write_lines, write_table};
 use rd_tables::is_blank;
 use sqlite::{Alter, Connection};
+use std::alloc::Global;
 use std::marker::Model;
 
 /// A chain of lines over a connection, whose database has one table and nothing else:
@@ -65,11 +69,44 @@ impl<S: Alter> Chain<S> {
         }
     }
 
+    /// Opens the chain that a database holds. It reads all lines at once. The connection is outside a transaction.
+    ///
+    /// It fails with `NotAChain` unless the database has the one table, declared as `create` declares it, and nothing
+    /// else; then with `Broken` if its rows are not those of lines; and with `Sql` if the database fails, or if memory
+    /// runs out.
+    pub fn open(mut conn: Connection<S>) -> Result<Chain<S>, Refused<OpenFault, S>>
+        requires outside { conn.in_transaction ≡ false }
+        ensures opened { IfOk result (λ chain. IsOpened S.Store conn chain) }
+        ensures refused { IfErr result (λ refused. IsNotOpened S.Store conn refused.conn refused.fault) }
+    {
+        if !is_history(conn.schema()) {
+            return Err(Refused {
+                fault: OpenFault::NotAChain,
+                conn,
+            });
+        }
+        let _outside = conn.is_autocommit();
+        match judge(&mut conn) {
+            Ok(end) => Ok(Chain { conn, end }),
+            Err(fault) => Err(Refused { fault, conn }),
+        }
+    }
+
     /// How many lines there are, which is the number of the last. It is answered from memory.
     pub fn last(&self) -> u32
         ensures { IsOpen S.Store self.now → result ≡ length (lines S.Store self.now) }
     {
         self.end.number
+    }
+
+    /// The lines after a number, which is 0 for all lines; of more than 200 the first 200.
+    ///
+    /// It fails with `Sql` if the database fails, or if memory runs out.
+    pub fn lines_after(&mut self, alloc: Global, number: u32) -> Result<Vec<SummedLine>, ChainFault>
+        ensures { ReadsAfter S.Store self.old self.new number result }
+    {
+        let rows = later_rows(&mut self.conn, number)?;
+        summed_lines(alloc, &rows)
     }
 
     /// Puts lines at the end, in one transaction: all of them, or none. After `Ok` they are durable.

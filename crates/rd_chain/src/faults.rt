@@ -18,6 +18,18 @@ pub enum CreateFault {
     Sql,
 }
 
+/// Why `open` opens no chain.
+#[derive(Clone, Copy, Debug, PartialEq, Eq)]
+pub enum OpenFault {
+    /// The database has not the one table of a chain alone, declared as `create` declares it.
+    NotAChain,
+    /// The numbers are not 1, 2, .. without a gap, at most 999,999,999, or a sum is not that of its line and the sum
+    /// before it.
+    Broken,
+    /// The database failed, or memory ran out.
+    Sql,
+}
+
 /// Why a connection does not become a chain, and the connection.
 pub struct Refused<F, S: Alter> {
     /// Why.

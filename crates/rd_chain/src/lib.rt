@@ -4,9 +4,12 @@
 
 mod chain;
 mod faults;
+mod read;
+mod schema;
 mod sum;
 mod write;
 
 pub use chain::Chain;
-pub use faults::{ChainFault, CreateFault, Refused};
-pub use sum::next_sum;
+pub use faults::{ChainFault, CreateFault, OpenFault, Refused};
+pub use read::SummedLine;
+pub use sum::{next_sum, one_chain};

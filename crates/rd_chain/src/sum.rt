@@ -19,6 +19,12 @@ pub fn next_sum(sum: &[u8; 32], line: &[u8]) -> [u8; 32]
     hasher.finalize()
 }
 
+/// Law: two lists of lines of one length whose last sums are equal are the same, or else two different texts
+/// with one SHA-256 can be named: each is a sum and a line of one of the lists. It does nothing.
+pub fn one_chain()
+    ensures { spec.OneChain }
+{}
+
 /// Where lines end: how many there are, which is the number of the last, and the sum of the last.
 #[derive(Clone, Copy)]
 pub(crate) struct End {

@@ -1,7 +1,8 @@
 ghost use Rattle.std.specs.Prelude.{◌≡◌, ◌∷◌, ◌++◌, ◌+◌, ◌<◌, ◌≤◌, [], false, length, map, IfOk};
 ghost use Rattle.sqlite.specs.Held.{state};
-ghost use Rattle.rd_chain.specs.Held.{Appends, HoldsChain, IsOpen, RestsIn};
-ghost use Rattle.rd_chain.specs.Inside.{EndsAt, IsEmpty, IsEndOf, Moves, Turns, end_with, next_end};
+ghost use Rattle.rd_tables.specs.Connections.{IsOpen, Moves, RestsIn, Turns};
+ghost use Rattle.rd_chain.specs.Held.{Appends, HoldsChain};
+ghost use Rattle.rd_chain.specs.Inside.{EndsAt, IsEmpty, IsEndOf, end_with, next_end};
 ghost use Rattle.rd_chain.specs.Rows.{IsChainOf, MOST_LINES};
 
 use crate::sum::End;

@@ -1,4 +1,3 @@
-pub mod ChainLemmas
 pub mod ToldLemmas
 pub mod BaseLemmas
 pub mod ReadBack

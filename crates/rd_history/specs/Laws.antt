@@ -1,6 +1,5 @@
--- Laws of lines, of their chain, and of what a list of entries tells.
-use Rattle.std.specs.Prelude.{◌≡◌, ◌⊎◌, ℕ, List, [], ◌∷◌, ◌++◌, length, map}
-use Rattle.rd_history.specs.Chains.{Collides, FIRST_SUM, last_sum}
+-- Laws of lines, and of what a list of entries tells.
+use Rattle.std.specs.Prelude.{◌≡◌, ℕ, List, [], ◌∷◌, ◌++◌, map}
 use Rattle.rd_history.specs.Entries.{HasDigests, IsEntry}
 use Rattle.rd_history.specs.Lines.{line_of}
 use Rattle.rd_history.specs.Standings.{Standing, base_of, standing_after}
@@ -13,12 +12,6 @@ use Rattle.rd_history.specs.declared.entry.Entry.{Entry}
 abbrev pub LinesAreEntries : Type 0
 LinesAreEntries = (one other : Entry) → IsEntry one → IsEntry other → HasDigests one → HasDigests other
     → line_of one ≡ line_of other → one ≡ other
-
--- two lists of lines of one length whose last sums are equal are the same, or two different texts with one
--- SHA-256 are among what is summed for them
-abbrev pub OneChain : Type 0
-OneChain = (lines others : List (List ℕ)) → length lines ≡ length others
-    → last_sum FIRST_SUM lines ≡ last_sum FIRST_SUM others → (lines ≡ others) ⊎ Collides lines others
 
 -- a change that may be taken back: it begins nothing, and takes nothing back itself
 abbrev pub MayBeVoid : Change → Type 0

@@ -1,9 +1,8 @@
--- The history of a desk: entries that tell what was changed, who asked it and when, the line of each, the
--- chain of sums over the lines, and what a list of entries tells.
+-- The history of a desk: entries that tell what was changed, who asked it and when, the line of each,
+-- and what a list of entries tells.
 pub mod Entries
 pub mod Changes
 pub mod Lines
 pub mod Reading
 pub mod Standings
-pub mod Chains
 pub mod Laws

@@ -1,17 +1,11 @@
 //! Laws of lines and entries. No code calls them.
 
-ghost use Rattle.rd_history.specs.Laws.{BasesForget, BasesTell, LinesAreEntries, OneChain, VoidsTakeBack};
+ghost use Rattle.rd_history.specs.Laws.{BasesForget, BasesTell, LinesAreEntries, VoidsTakeBack};
 
 /// Law: a line is its entry. Two entries within their limits, with digests of 32 bytes, have the same line
 /// only if they are the same.
 pub fn lines_are_entries()
     ensures { LinesAreEntries }
-{}
-
-/// Law: two lists of lines of one length whose last sums are equal are the same, or else two different texts
-/// with one SHA-256 can be named: each is a sum and a line of one of the lists.
-pub fn one_chain()
-    ensures { OneChain }
 {}
 
 /// Law: an entry and one behind it that takes it back leave exactly what stood before, wherever they come.

@@ -9,8 +9,7 @@ use Rattle.sqlite.specs.Held.{Held, state}
 use Rattle.rd_policy.specs.Days.{HasDay}
 use Rattle.rd_policy.specs.Zones.{day_number}
 use Rattle.rd_policy.specs.declared.zone.Zone.{Zone}
-use Rattle.rd_store.specs.Created.{IsUntouched}
-use Rattle.rd_store.specs.Held.{IsOpen, Lasts, desk}
+use Rattle.rd_store.specs.Held.{IsOpen, IsUntouched, Lasts, desk}
 use Rattle.rd_store.specs.Migrated.{IsNotMigrated, SpellsDesk}
 use Rattle.rd_holdings.specs.State.{Desk}
 use Rattle.rd_store.specs.declared.faults.OpenFault.TheVariants as open_fault

@@ -1,7 +1,7 @@
 -- Calls that change the desk, after a call that reads.
 use Rattle.rd_store.proofs.Common.{◌≡◌, ◌⊎◌, ◌∙◌, Result, Ok, Err, OnOk, OnErr, ap, inl, subst, sym, Ghosts, Held, state, KeptImage, Desk, Changes, HoldsDesk, IsLeft, Keeps, Reads, desk, IsAmong, IsLastOf, Register, IsRegisterOf, register_of}
 use Rattle.rd_store.proofs.KeptImages.{last_changes}
-use Rattle.rd_store.proofs.Laws.{lasts_then}
+use Rattle.rd_tables.proofs.ConnectionLaws.{lasts_then}
 
 -- a call that fails before it changes anything
 pub unchanged : {S T X : Type 0} (g : Ghosts S) (old new : Held S) (after : Desk) (fault : X) → Keeps g old new → Changes {T = T} g old new after (Err fault)

@@ -25,8 +25,8 @@ pub use Rattle.rd_policy.specs.declared.select.Select.TheVariants.{Prefix, Slot,
 pub use Rattle.rd_store.specs.Batched.{IsIndexed, IsIndexedBy, filed_shown, files_at, is_from_to, is_number_below, is_number_up_to}
 pub use Rattle.rd_store.specs.Codes.{audience_code, audience_in, audiences_code, audiences_in, band_in, class_code, class_in, day_in, effect_code, effect_in, how, kind_code, kind_in, number, number_in, outcome_code, outcome_in, select_in, units_code, units_in, word}
 pub use Rattle.rd_store.specs.Copied.{AndClean, AreHoldingsOf, Compares, IsCopied, IsNotCopied, KeepsOrStays, LeavesCopy, OpensCopy, TakesImage, TellsSame, numbered_check, with_checks, with_deeds, with_images, with_keys, with_rules}
-pub use Rattle.rd_store.specs.Created.{HasFirstTables, IsUntouched, LeavesOldOrNew, RestsIn, Turns, empty_desk, new_desk}
-pub use Rattle.rd_store.specs.Held.{Asks, Changes, Holds, HoldsCommonTables, HoldsDesk, HoldsTables, IsAtRest, IsClean, IsDeskAt, IsDeskWith, IsLeft, IsOf, IsOpen, IsReadable, Judges, Keeps, LacksImage, Lasts, LeavesOld, LeavesOnly, LeavesOpen, Moves, Reads, RestsOver, Stays, desk}
+pub use Rattle.rd_store.specs.Created.{HasFirstTables, LeavesOldOrNew, empty_desk, new_desk}
+pub use Rattle.rd_store.specs.Held.{Changes, Holds, HoldsCommonTables, HoldsDesk, HoldsTables, IsAtRest, IsDeskAt, IsDeskWith, IsLeft, IsOf, Judges, Keeps, LacksImage, LeavesOnly, Reads, desk}
 pub use Rattle.rd_store.specs.ImageCache.{IsAmong, IsLastOf}
 pub use Rattle.rd_store.specs.Index.{AreFilesIn, FileAt, IsFileIn, IsFiledTo, IsIndexOf, file_cmp, with_new_image}
 pub use Rattle.rd_store.specs.Latest.{check_shown, checks_after, checkup_shown, is_of}
@@ -62,6 +62,7 @@ pub use Rattle.rd_tables.proofs.UniqueKeys.{agree_one, agree_three, agree_two, o
 pub use Rattle.rd_tables.proofs.Values.{equal_blobs, equal_integers, equal_numbers, greater_int, least_numbers, most_numbers, same_numbers, truth_kept}
 pub use Rattle.rd_tables.proofs.VersionText.{desk_first, one_tree, version_asks}
 pub use Rattle.rd_tables.specs.Asked.{AreRising, IsListed, IsPicked, IsStart, asks_of, equals, greater, picked, rising}
+pub use Rattle.rd_tables.specs.Connections.{Asks, IsClean, IsOpen, IsReadable, IsUntouched, Lasts, LeavesOld, LeavesOpen, Moves, RestsIn, RestsOver, Stays, Turns}
 pub use Rattle.rd_tables.specs.Queries.{all_checks_query, all_deeds_query, all_files_query, all_images_query, all_keys_query, all_marks_query, all_rules_query, audience_query, batch_query, deed_query, file_query, files_query, image_query, keys_query, marks_query, placed_rules_query, rules_query, version_query}
 pub use Rattle.rd_tables.specs.Schemas.{IsBlank, TellsVersion, desk_schema, desk_with, first_schema, has_desk, has_desk_columns, has_foreign_desk, marks_table, may_be_desk}
 pub use Rattle.rd_tables.specs.Spellings.{HaveRowids, IsSpelled, SpellLawful, Spelling, Spells, entry_of, map_of, natural, natural_of, seen}

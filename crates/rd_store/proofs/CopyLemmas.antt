@@ -2,8 +2,9 @@
 use Rattle.rd_store.proofs.Common.{apart_if_less, IsKeyOrder, halves, ◌≡◌, ◌⊎◌, ◌∙◌, inl, inr, ℕ, zero, suc, ◌+◌, ◌<◌, ◌++◌, List, [], ◌∷◌, length, get_or, take, Bool, false, cond, T, Some, None, Result, Ok, Err, Ordering, ap, arith, refl, subst, sym, is_lt, IfOk, IsErr, IsTrue, MatchBool, OnOk, true≢false, map, FinMap, entries, entries_sorted, from_entries, from_entries_push, get, get-entries, get-from_entries, insert, same_map, below_all, find, is_sorted, eq_by_cmp, eq_by_cmp_equiv, take_all, take_more, get_or-map, length-map, Ghosts, Database, Held, state, Error, Desk, IsBlank, has_desk, AndClean, IsCopied, IsNotCopied, KeepsOrStays, LeavesCopy, OpensCopy, LeavesOldOrNew, RestsIn, Turns, OpenFault, IsNotOpened, IsOpened, Holds, IsAtRest, IsClean, IsLeft, IsOpen, Keeps, Lasts, LeavesOpen, Moves, Reads, desk, IsOf, true}
 use Rattle.rd_store.specs.declared.faults.CreateFault.{CreateFault}
 use Rattle.rd_store.specs.declared.faults.CreateFault.TheVariants.{Exists, Sql}
-use Rattle.rd_store.proofs.Laws.{lasts_still, lasts_then, left_is}
-use Rattle.rd_store.proofs.TransactionSteps.{and_then, stopped, then_told}
+use Rattle.rd_tables.proofs.ConnectionLaws.{lasts_still, lasts_then}
+use Rattle.rd_store.proofs.Laws.{left_is}
+use Rattle.rd_tables.proofs.TransactionSteps.{and_then, stopped, then_told}
 
 -- ---- the first entries of a finite map
 

@@ -4,7 +4,8 @@ use Rattle.std.specs.List.{IsDistinct}
 use Rattle.sqlite.specs.Change.{created, next_tree, KeepsRows}
 use Rattle.sqlite.specs.Listing.{understood}
 use Rattle.rd_tables.proofs.TableSteps.{went, same_value}
-use Rattle.rd_store.proofs.Laws.{Laws, leaves_only, left_is}
+use Rattle.rd_tables.proofs.ConnectionLaws.{Laws}
+use Rattle.rd_store.proofs.Laws.{leaves_only, left_is}
 use Rattle.rd_store.proofs.MarkedImages.{joined_none}
 use Rattle.rd_store.proofs.StatementCalls.{rests_on}
 use Rattle.rd_store.proofs.Orders.{number_order, place_order, digest_order, checkup_order, file_order}

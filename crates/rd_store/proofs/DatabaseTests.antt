@@ -1,7 +1,7 @@
 -- What the tests of a database say of it, from the tests of its rows.
 use Rattle.rd_store.proofs.Common.{IsErr, or_true, ◌≡◌, ◌≢◌, inl, inr, ℕ, List, [], get_or, true, false, Option, Result, Ok, Err, IfOk, IfErr, refl, sym, ap, subst, ◌∙◌, true≢false, arith, IsErrAnd, Row, column, Ghosts, Database, IsDatabase, Held, state, Table, TellsVersion, desk_schema, desk_with, first_schema, has_desk_columns, has_foreign_desk, may_be_desk, natural, desk_first, one_tree, OpenFault, NotADesk, Inconsistent, Version, HasVersion, HaveOwnRowids, unmarked, Asks, IsClean, IsOpen, Stays, IsConsistent, IsConsistentAs, IsNamed, IsNoDesk, IsResting, IsSaid, IsSettledAt, Judged, IsHeld, NamesDesk, Refuses, Says, Tests, TestsDatabase, IsHeldFirst, RefusesEach}
 use Rattle.rd_store.specs.declared.faults.OpenFault.TheVariants.{Version as OtherVersion, Sql}
-use Rattle.rd_store.proofs.Laws.{stays_here, stays_then}
+use Rattle.rd_tables.proofs.ConnectionLaws.{stays_here, stays_then}
 
 held : (db : Database) → db.schema ≡ desk_schema → IsDatabase db → IsConsistent db.trees → HaveOwnRowids db.trees → IsHeld db
 held db schema sound all rowids = record { of = record { schema = schema; rows = all.spelled; rowids = rowids; sound = sound; is = refl; index = all.index }; lawful = all.lawful }

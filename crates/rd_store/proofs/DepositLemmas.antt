@@ -1,7 +1,7 @@
 -- A transaction that puts an image and its files.
 use Rattle.rd_store.proofs.Common.{◌≡◌, ◌⊎◌, ℕ, None, IsSome, OnOk, Result, Option, sym, subst, ap, get, Ghosts, Held, state, ImageRow, RestsIn, Turns, Changes, HoldsDesk, IsLeft, IsOf, IsOpen, LacksImage, desk, IsImage, Desk, put_or_kept, with_image, with_new_image, lawful_insert}
 use Rattle.rd_store.proofs.StatementCalls.{LeavesDesk}
-use Rattle.rd_store.proofs.Laws.{Laws}
+use Rattle.rd_tables.proofs.ConnectionLaws.{Laws}
 use Rattle.rd_store.proofs.Transactions.{starts, changes}
 
 -- the same change, told by a desk that is the same where the connection was open

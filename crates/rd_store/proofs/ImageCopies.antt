@@ -3,7 +3,7 @@ use Rattle.rd_store.proofs.Common.{◌≡◌, ◌∙◌, ℕ, ◌+◌, ◌<◌, 
 use Rattle.rd_store.proofs.Listings.{any_default, has_at}
 use Rattle.rd_store.proofs.CopyLemmas.{both_clean, first_all, first_of, moves_none, next_free, next_put}
 use Rattle.rd_store.proofs.Orders.{number_order}
-use Rattle.rd_store.proofs.TransactionSteps.{and_then, moves_to, stopped, then_told}
+use Rattle.rd_tables.proofs.TransactionSteps.{and_then, moves_to, stopped, then_told}
 
 -- the entry at a place, of a map whose keys these are
 module _ {X : Type 0} (m : FinMap nat_cmp X) (numbers : List ℕ) (at number : ℕ) (none : ℕ × X) (are : numbers ≡ keys m) (low : at < length numbers) (is : number ≡ get_or numbers at number) where

@@ -7,7 +7,7 @@ use Rattle.rd_store.specs.declared.faults.OpenFault.TheVariants.{Sql}
 use Rattle.rd_store.proofs.ColumnValues.{number_shown, number_spelled, one_of_spelled}
 use Rattle.rd_store.proofs.IndexTests.{filed_at, have_accessions, lawful_files}
 use Rattle.rd_store.proofs.QueryResults.{images_listed}
-use Rattle.rd_store.proofs.Laws.{stays_then}
+use Rattle.rd_tables.proofs.ConnectionLaws.{stays_then}
 use Rattle.rd_store.proofs.Orders.{kind_back, number_order}
 use Rattle.rd_store.proofs.Registers.{entries_told, none_marked, one_marked}
 use Rattle.rd_store.proofs.TestSequences.{common_in, consistent_first, consistent_second, denied_part, files_in, files_in_first, images_in, marks_in}

@@ -1,13 +1,11 @@
 pub mod Common
 pub mod Laws
-pub mod QueryEffects
 pub mod Orders
 pub mod QueryResults
 pub mod IndexQueries
 pub mod BatchQueries
 pub mod StatementCalls
 pub mod ReadLemmas
-pub mod TransactionSteps
 pub mod Transactions
 pub mod DatabaseSteps
 pub mod DepositLemmas

@@ -3,7 +3,8 @@ use Rattle.rd_store.proofs.Common.{◌≡◌, inl, inr, ℕ, pos, List, [], ◌�
 use Rattle.sqlite.specs.Listing.{understood}
 use Rattle.rd_store.specs.declared.faults.OpenFault.TheVariants.{Sql}
 use Rattle.rd_store.proofs.CreationLemmas.{one_made}
-use Rattle.rd_store.proofs.Laws.{Laws, lasts_then, leaves_only, left_is, same_commit}
+use Rattle.rd_tables.proofs.ConnectionLaws.{Laws, lasts_then, same_commit}
+use Rattle.rd_store.proofs.Laws.{leaves_only, left_is}
 use Rattle.rd_store.proofs.StatementCalls.{rests_on}
 
 -- ---- trees that differ in the version alone

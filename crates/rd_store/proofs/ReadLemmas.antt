@@ -1,6 +1,7 @@
 -- Calls that read.
 use Rattle.rd_store.proofs.Common.{Ok, Err, IfOk, OnOk, Result, ◌≡◌, ℕ, List, Vec, Global, IfOk-weaker, Ghosts, Held, state, Asks, HoldsDesk, IsOpen, Keeps, Reads, HoldsCommonTables, Table, Term, Row, Shown, desk_schema, desk_with, SpellDesk, IsPicked, IsStart, asks_of, shown_picks, shown_starts, shown_was_open, AsksStart, AsksOver, Key}
-use Rattle.rd_store.proofs.Laws.{Laws, crash_same, desk_same, leaves_only, stays_desk}
+use Rattle.rd_tables.proofs.ConnectionLaws.{Laws, asks_as}
+use Rattle.rd_store.proofs.Laws.{crash_same, desk_same, leaves_only, stays_desk}
 
 -- a query leaves the desk as it was
 pub keeps_of : {S T X : Type 0} (g : Ghosts S) → Laws g → (old new : Held S) → HoldsDesk (state g old) → {r : Result T X} {only : X} {Answers : T → Type 0} → Asks g old new r only Answers → Keeps g old new
@@ -18,10 +19,6 @@ reads_of g laws old new held asks = record { keeps = keeps_of g laws old new hel
 -- what it answers, told in another way
 pub reads_as : {S T X : Type 0} (g : Ghosts S) (old new : Held S) {P Q : T → Type 0} {r : Result T X} → Reads g old new r P → (IsOpen g new → (value : T) → P value → Q value) → Reads g old new r Q
 reads_as g old new {P} {Q} {r} reads told_so = record { keeps = reads.keeps; answer = λ o. IfOk-weaker r P Q (told_so o) (reads.answer o); ends_open = reads.ends_open }
-
--- the same of a query
-pub asks_as : {S T X : Type 0} (g : Ghosts S) (old new : Held S) {P Q : T → Type 0} {r : Result T X} {only : X} → Asks g old new r only P → (IsOpen g new → (value : T) → P value → Q value) → Asks g old new r only Q
-asks_as g old new {P} {Q} {r} asks told_so = record { stays = asks.stays; answer = λ o. IfOk-weaker r P Q (told_so o) (asks.answer o); ends_open = asks.ends_open; fault = asks.fault }
 
 module _ {S X : Type 0} (g : Ghosts S) (old new : Held S) {text : List ℕ} {tree : ℕ} {tests shown : List Term} {order : List (Term × Key)} (params : Row) {r : Result (Vec Row Global) X} where
   -- what a query shows of a desk

@@ -1,6 +1,7 @@
 -- A call that is one statement outside a transaction, from what the statement makes of a desk.
 use Rattle.rd_store.proofs.Common.{◌≡◌, inl, inr, ℕ, List, false, Result, Ok, Err, OnOk, OnErr, sym, ap, subst, ◌∙◌, IsTrue, Row, Ghosts, Command, Database, Error, State, Executes, Survives, CommitsBy, Held, state, desk_schema, IsWrite, Makes, write_fails, was_open, done_was_open, ran, committed, Desk, IsLawful, desk_of, IsOf, Holds, IsDeskAt, HoldsDesk, Changes, IsOpen, IsClean, desk}
-use Rattle.rd_store.proofs.Laws.{Laws, clean_at, lasts_of, leaves_only, left_is}
+use Rattle.rd_tables.proofs.ConnectionLaws.{Laws, clean_at, lasts_of}
+use Rattle.rd_store.proofs.Laws.{leaves_only, left_is}
 
 -- ---- a connection that rests on a database of a desk
 

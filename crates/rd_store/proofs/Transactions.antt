@@ -1,8 +1,9 @@
 -- A transaction that turns one desk into another.
 use Rattle.rd_store.proofs.Common.{◌≡◌, inl, inr, Result, Ok, Err, OnOk, OnErr, ap, [], subst, IfErr, IsErr, IsTrue, false, Ghosts, Database, Held, state, Desk, IsLawful, desk_of, IsOf, IsDeskAt, HoldsDesk, IsOpen, desk, Moves, IsClean, RestsIn, Turns, Error, IsRolledBack, Survives, Shows, KeepsCounts, FailsToCommit}
-use Rattle.rd_store.proofs.Laws.{Laws, clean_at, leaves_only, left_is}
+use Rattle.rd_tables.proofs.ConnectionLaws.{Laws}
+use Rattle.rd_store.proofs.Laws.{leaves_only, left_is}
 use Rattle.rd_store.proofs.StatementCalls.{rests_on, rests_as, LeavesDesk}
-use Rattle.rd_store.proofs.TransactionSteps.{begun, commits, undoes}
+use Rattle.rd_tables.proofs.TransactionSteps.{begun, step_done, step_failed}
 
 -- where a transaction begins
 pub starts : {S : Type 0} (g : Ghosts S) (old : Held S) → HoldsDesk (state g old) → IsOpen g old → RestsIn (IsOf (desk g old)) (state g old)
@@ -46,28 +47,14 @@ module _ {S : Type 0} (g : Ghosts S) (laws : Laws g) (old new : Held S) (holds :
       err (Ok value) h = tt
       err (Err e) h = h
 
--- ---- a step in a transaction, from where it begins to where the connection is handed back
+-- ---- from where a transaction begins to where the connection is handed back, with another lawful desk
 
 module _ {S : Type 0} (g : Ghosts S) (laws : Laws g) (old begin : Held S) (begins : begin ≡ begun old) {Before : Database → Type 0} (start : IsOpen g old → RestsIn Before (state g old)) {mid : Held S} (last end : Held S) (same : last ≡ end) where
-  -- it failed, and all is undone
-  pub step_failed : {U Y V Z : Type 0} {q : Result U Y} {After : Database → Type 0} → Moves g begin mid Before After q → (IsClean g last → IsRolledBack (state g mid) (state g last)) → Survives (state g mid) (state g last) (λ _. ⊥) → (r : Result V Z) → IsErr r → Turns g old end After r
-  step_failed {q} {After} moves undone ended r failed =
-      subst (λ (h : Held S). Turns g old h After r) same (undoes g (clean_at g laws) old mid last Before After start (subst (λ (h : Held S). Moves g h mid Before After q) begins moves) undone ended r failed)
-
-  -- it was done, and is committed
-  pub step_done : {V X : Type 0} {x : V} {After : Database → Type 0} → Moves {X = X} g begin mid Before After (Ok x) → Survives (state g mid) (state g last) (λ trees. trees ≡ (state g mid).now.trees) → (r : Result (Unit {0}) Error)
-      → (IsClean g last → OnOk r (IsTrue mid.in_transaction × Shows (state g mid) (state g last) (state g mid).now (state g mid).now false × KeepsCounts (state g mid) (state g last) × ((state g last).marks ≡ [])))
-      → (IsClean g last → IfErr r (FailsToCommit (state g mid) (state g last))) → Turns g old end After r
-  step_done {X} {x} {After} moves all r done failed =
-      subst (λ (h : Held S). Turns g old h After r) same (commits g (clean_at g laws) old mid last Before After start x (subst (λ (h : Held S). Moves {X = X} g h mid Before After (Ok x)) begins moves) all r done failed)
-
-  -- ---- which turns one lawful desk into another
-
   module _ (holds : HoldsDesk (state g old)) {after : Desk} (lawful : IsOpen g old → IsLawful (desk g old) → IsLawful after) where
     pub put_failed : {U Y V Z : Type 0} {q : Result U Y} → Moves g begin mid Before (IsOf after) q → (IsClean g last → IsRolledBack (state g mid) (state g last)) → Survives (state g mid) (state g last) (λ _. ⊥) → (r : Result V Z) → IsErr r → LeavesDesk g old end after r
-    put_failed moves undone ended r failed = changes g laws old end holds lawful r (step_failed moves undone ended r failed)
+    put_failed moves undone ended r failed = changes g laws old end holds lawful r (step_failed g laws old begin begins start last end same moves undone ended r failed)
 
     pub put_done : {V X : Type 0} {x : V} → Moves {X = X} g begin mid Before (IsOf after) (Ok x) → Survives (state g mid) (state g last) (λ trees. trees ≡ (state g mid).now.trees) → (r : Result (Unit {0}) Error)
         → (IsClean g last → OnOk r (IsTrue mid.in_transaction × Shows (state g mid) (state g last) (state g mid).now (state g mid).now false × KeepsCounts (state g mid) (state g last) × ((state g last).marks ≡ [])))
         → (IsClean g last → IfErr r (FailsToCommit (state g mid) (state g last))) → LeavesDesk g old end after r
-    put_done moves all r done failed = changes g laws old end holds lawful r (step_done moves all r done failed)
+    put_done moves all r done failed = changes g laws old end holds lawful r (step_done g laws old begin begins start last end same moves all r done failed)

@@ -1,11 +1,10 @@
 -- A new desk, and what becomes of the database in which it is made.
-use Rattle.std.specs.Prelude.{◌≡◌, ◌⊎◌, ℕ, false, List, [], Result, OnOk, OnErr, MatchBool}
+use Rattle.std.specs.Prelude.{◌≡◌, ◌⊎◌, ℕ, List, [], MatchBool}
 use Rattle.std.specs.List.{AllByRecursion}
 use Rattle.std.specs.FinMap.{from_entries}
 use Rattle.sqlite.specs.Tree.{Trees}
 use Rattle.sqlite.specs.Store.{Ghosts}
 use Rattle.sqlite.specs.Effect.{Database, IsDatabase}
-use Rattle.sqlite.specs.State.{State}
 use Rattle.sqlite.specs.Held.{Held, state}
 use Rattle.rd_policy.specs.declared.audience.Audience.TheVariants.{Staff}
 use Rattle.rd_tables.specs.Schemas.{IsBlank, has_desk}
@@ -13,7 +12,7 @@ use Rattle.rd_tables.specs.Statements.{schema_after}
 use Rattle.rd_store.specs.declared.faults.CreateFault.{CreateFault}
 use Rattle.rd_store.specs.declared.faults.CreateFault.TheVariants.{Exists, Sql}
 use Rattle.rd_holdings.specs.State.{Desk, with_key}
-use Rattle.rd_store.specs.Held.{IsOpen, IsClean, IsLeft, Lasts, LeavesOld, LeavesOnly, LeavesOpen, desk as desk_at}
+use Rattle.rd_store.specs.Held.{IsOpen, IsClean, IsLeft, IsUntouched, Lasts, LeavesOld, LeavesOnly, desk as desk_at}
 
 -- nothing at all
 abbrev pub empty_desk : Desk
@@ -22,13 +21,6 @@ empty_desk = record { deeds = from_entries []; images = from_entries []; rules =
 -- the one staff key
 abbrev pub new_desk : List ℕ → Desk
 new_desk staff = with_key staff Staff empty_desk
-
--- The connection was open, and shows the database that it showed.
-pub record IsUntouched {S : Type 0} (g : Ghosts S) (old new : Held S) : Type 0 where
-  pub was_open : IsOpen g old
-  pub now : (state g new).now ≡ (state g old).now
-  pub committed : (state g new).committed ≡ (state g old).committed
-  pub autocommit : (state g new).in_transaction ≡ (state g old).in_transaction
 
 -- a crash leaves what it left before, or this desk
 abbrev pub LeavesOldOrNew : {S : Type 0} → Ghosts S → Held S → Held S → Desk → Type 0
@@ -62,18 +54,3 @@ pub record HasFirstTables (count : ℕ) (db : Database) : Type 0 where
   pub schema : db.schema ≡ schema_after count
   pub empty : AllByRecursion (λ table. db.trees table.tree ≡ []) (schema_after count).tables
   pub sound : IsDatabase db
-
--- Outside a transaction, with nothing to commit.
-pub record RestsIn (P : Database → Type 0) (s : State) : Type 0 where
-  pub settled : s.committed ≡ s.now
-  pub autocommit : s.in_transaction ≡ false
-  pub holds : P s.now
-
--- A transaction: after Ok a database of which After holds is there and committed, and after an error the
--- old one.
-pub record Turns {S T X : Type 0} (g : Ghosts S) (old new : Held S) (After : Database → Type 0) (result : Result T X) : Type 0 where
-  pub lasts : Lasts g old new
-  pub ok : IsOpen g new → OnOk result (RestsIn After (state g new))
-  pub err : IsOpen g new → OnErr result (RestsIn (λ db. db ≡ (state g old).now) (state g new))
-  pub ends_open : LeavesOpen g new result
-  pub crash : IsOpen g old → IsClean g new → (left : Trees) → g.recovers new.store left → g.recovers old.store left ⊎ ((db : Database) × After db × (left ≡ db.trees))

@@ -1,17 +1,15 @@
 -- What a store holds, what a call makes of it, and what a crash leaves.
-use Rattle.std.specs.Prelude.{◌≡◌, ◌⊎◌, ◌≤◌, ℕ, List, None, false, IsTrue, Result, Ok, Err, OnOk, OnErr, IfOk, IfErr, ⊤}
+use Rattle.std.specs.Prelude.{◌≡◌, ◌⊎◌, ℕ, List, None, IsTrue, Result, Ok, Err, OnOk, OnErr, IfOk, ⊤}
 use Rattle.std.specs.FinMap.{FinMap, get}
-use Rattle.sqlite_disk.specs.Disk.{MoreFaults}
 use Rattle.sqlite.specs.Tree.{Trees}
 use Rattle.sqlite.specs.Store.{Ghosts}
-use Rattle.sqlite.specs.Schema.{Schema}
 use Rattle.sqlite.specs.Table.{Table}
-use Rattle.sqlite.specs.Given.{IsPlain}
-use Rattle.sqlite.specs.Listing.{understood}
 use Rattle.sqlite.specs.Effect.{Database, IsDatabase}
-use Rattle.sqlite.specs.State.{State, HasCleanDisk, Survives, KeepsCommit}
+use Rattle.sqlite.specs.State.{State}
 use Rattle.sqlite.specs.Held.{Held, state}
 use Rattle.rd_volume.specs.declared.found.Found.{Found}
+pub use Rattle.rd_tables.specs.Connections.{IsClean, IsOpen, IsUntouched, Lasts, LeavesOld, LeavesOpen}
+use Rattle.rd_tables.specs.Connections.{RestsOver}
 use Rattle.rd_tables.specs.Schemas.{desk_schema, desk_with}
 use Rattle.rd_store.specs.declared.faults.StoreFault.{StoreFault}
 use Rattle.rd_store.specs.declared.faults.StoreFault.TheVariants.{Sql, Missing, Conflict}
@@ -46,13 +44,7 @@ pub record Holds (desk : Desk) (db : Database) : Type 0 where
 abbrev pub IsLeft : Desk → Trees → Type 0
 IsLeft desk left = Holds desk (record { schema = desk_schema; trees = left })
 
--- The connection has these tables and is outside a transaction, and the last commit is what is seen.
-pub record RestsOver (over : Schema) (s : State) : Type 0 where
-  pub schema : s.now.schema ≡ over
-  pub settled : s.committed ≡ s.now
-  pub autocommit : s.in_transaction ≡ false
-
--- The same over the tables that each version has, and what may follow them.
+-- The connection rests over the tables that each version has, and what may follow them.
 pub record HasCommonTables (s : State) : Type 0 where
   pub more : List Table
   pub rests : RestsOver (desk_with more) s
@@ -60,12 +52,6 @@ pub record HasCommonTables (s : State) : Type 0 where
 -- while the connection is open, it rests over the tables that each version has
 abbrev pub HoldsCommonTables : State → Type 0
 HoldsCommonTables s = IsTrue s.is_open → HasCommonTables s
-
--- The same over tables of which the text asks something, and changes nothing.
-pub record IsReadable (text : List ℕ) (s : State) : Type 0 where
-  pub over : Schema
-  pub rests : RestsOver over s
-  pub plain : IsPlain (understood over text)
 
 -- between two calls they are the tables of a desk
 abbrev pub HasTables : State → Type 0
@@ -90,35 +76,9 @@ module _ {S : Type 0} (g : Ghosts S) (h : Held S) where
   abbrev pub desk : Desk
   desk = desk_of (state g h).now.trees
 
-  -- the connection is open
-  abbrev pub IsOpen : Type 0
-  IsOpen = IsTrue (state g h).is_open
-
-  -- so far nothing else has written the store's files, and the disk has returned what was written
-  abbrev pub IsClean : Type 0
-  IsClean = HasCleanDisk (state g h)
-
   -- a crash leaves this desk and nothing else
   abbrev pub LeavesOnly : Desk → Type 0
   LeavesOnly d = (left : Trees) → g.recovers h.store left → IsLeft d left
-
--- What every call does to its connection, whatever it answers. Only a connection that was open is open, and
--- only a disk that was clean is clean. No fault of the disk is forgotten, and where the disk is clean only a
--- fault of it shuts the connection. The limit of steps stays.
-pub record Lasts {S : Type 0} (g : Ghosts S) (old new : Held S) : Type 0 where
-  pub was_open : IsOpen g new → IsOpen g old
-  pub clean : IsClean g new → IsClean g old
-  pub faults : (state g old).faults ≤ (state g new).faults
-  pub closes : IsOpen g old → IsClean g new → IsOpen g new ⊎ MoreFaults (state g old).faults (state g new).faults
-  pub limit : (state g new).step_limit ≡ (state g old).step_limit
-
--- After Ok the connection is open, where the disk has returned what was written.
-abbrev pub LeavesOpen : {S T X : Type 0} → Ghosts S → Held S → Result T X → Type 0
-LeavesOpen g new result = IsClean g new → OnOk result (IsOpen g new)
-
--- a crash leaves what it left before
-abbrev pub LeavesOld : {S : Type 0} → Ghosts S → Held S → Held S → Type 0
-LeavesOld g old new = IsOpen g old → IsClean g new → (left : Trees) → g.recovers new.store left → g.recovers old.store left
 
 -- A connection at rest. While it is open, its tables are those of a desk, the desk is a lawful one, the files of
 -- each of its images can be listed, and a crash leaves that desk and nothing else.
@@ -172,27 +132,3 @@ IsAnswered result P = P
 pub record Judges {S T : Type 0} (g : Ghosts S) (new : Held S) (result : Result T StoreFault) (IsThere Conflicts : Type 0) : Type 0 where
   pub why : IsOpen g new → IsJudged IsThere Conflicts result
   pub ends_open : IsClean g new → IsAnswered result (IsOpen g new)
-
--- ---- inside
-
--- A query. Where the connection is open at the end, it shows what it did.
-pub record Stays {S : Type 0} (g : Ghosts S) (old new : Held S) : Type 0 where
-  pub lasts : Lasts g old new
-  pub now : IsOpen g new → (state g new).now ≡ (state g old).now
-  pub committed : IsOpen g new → (state g new).committed ≡ (state g old).committed
-  pub autocommit : IsOpen g new → (state g new).in_transaction ≡ false
-  pub quiet : LeavesOld g old new
-
--- A query, and what it answers, or one error.
-pub record Asks {S T X : Type 0} (g : Ghosts S) (old new : Held S) (result : Result T X) (only : X) (Answers : T → Type 0) : Type 0 where
-  pub stays : Stays g old new
-  pub answer : IsOpen g new → IfOk result Answers
-  pub ends_open : LeavesOpen g new result
-  pub fault : IfErr result (λ fault. fault ≡ only)
-
--- A call inside a transaction, from a database of which Before holds. Nothing is committed, and after Ok
--- the transaction goes on, with a database of which After holds.
-pub record Moves {S T X : Type 0} (g : Ghosts S) (old new : Held S) (Before After : Database → Type 0) (result : Result T X) : Type 0 where
-  pub quiet : Survives (state g old) (state g new) (λ _. ⊥)
-  pub kept : IsClean g new → KeepsCommit (state g old) (state g new)
-  pub ok : IsClean g new → IsOpen g old → IsTrue old.in_transaction → Before (state g old).now → OnOk result (IsOpen g new × IsTrue new.in_transaction × After (state g new).now)

@@ -16,7 +16,7 @@ use Rattle.rd_holdings.specs.Lawful.{IsLawful}
 use Rattle.rd_store.specs.Index.{IsIndexOf}
 use Rattle.rd_store.specs.Spelled.{SpellDesk, HasVersion, HaveOwnRowids, desk_of, index_of, unmarked}
 use Rattle.rd_store.specs.Register.{listed, register_of}
-use Rattle.rd_store.specs.Created.{IsUntouched}
+use Rattle.rd_tables.specs.Connections.{IsUntouched}
 use Rattle.rd_store.specs.Held.{IsOpen, IsClean, IsLeft, Lasts, LeavesOld, LeavesOnly, desk as desk_at}
 use Rattle.rd_store.specs.Opened.{Says, IsConsistent, IsConsistentAs, IsHeld}
 

@@ -38,8 +38,8 @@ use Rattle.rd_store.specs.RowColumns.{is_one_of}
 use Rattle.rd_store.specs.Index.{AreFilesIn, IsFileIn, IsIndexOf}
 use Rattle.rd_store.specs.Marks.{with_marks}
 use Rattle.rd_store.specs.Spelled.{SpellDesk, HasVersion, desk_of, images_of, index_of, deed_spelling, image_spelling, marks_spelling, rule_spelling, key_spelling, check_spelling, file_spelling}
-use Rattle.rd_store.specs.Created.{IsUntouched}
-use Rattle.rd_store.specs.Held.{RestsOver, HoldsTables, HoldsCommonTables, Holds, IsOpen, IsClean, Lasts, LeavesOld, LeavesOnly, LeavesOpen, Stays, desk as desk_at}
+use Rattle.rd_tables.specs.Connections.{IsClean, IsOpen, IsUntouched, Lasts, LeavesOld, LeavesOpen, RestsOver, Stays}
+use Rattle.rd_store.specs.Held.{HoldsTables, HoldsCommonTables, Holds, LeavesOnly, desk as desk_at}
 
 -- The rows spell a desk of this version, it is a lawful one, and the index is that of its images.
 pub record IsConsistentAs (number : ℕ) (trees : Trees) : Type 0 where

@@ -10,7 +10,8 @@ ghost use Rattle.sqlite.specs.Order.{column};
 ghost use Rattle.rd_volume.specs.declared.found.Found.{Found as FoundFile};
 ghost use Rattle.rd_store.specs.declared.images.Heading.{Heading as Entry};
 ghost use Rattle.rd_store.specs.Batched.{IsIndexed, IsIndexedBy, filed_shown, files_at, is_from_to, is_number_below, is_number_up_to};
-ghost use Rattle.rd_store.specs.Held.{Asks, HoldsDesk, desk, Reads};
+ghost use Rattle.rd_tables.specs.Connections.{Asks};
+ghost use Rattle.rd_store.specs.Held.{HoldsDesk, desk, Reads};
 ghost use Rattle.rd_store.specs.Index.{FileAt, file_cmp};
 ghost use Rattle.rd_store.specs.Spelled.{index_of};
 

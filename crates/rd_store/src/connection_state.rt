@@ -1,6 +1,7 @@
 ghost use Rattle.std.specs.Prelude.{◌≡◌, false, IfErr, OnErr, OnOk, true, ⊤};
 ghost use Rattle.sqlite.specs.Held.{state};
-ghost use Rattle.rd_store.specs.Held.{Asks, HoldsDesk, Reads};
+ghost use Rattle.rd_tables.specs.Connections.{Asks};
+ghost use Rattle.rd_store.specs.Held.{HoldsDesk, Reads};
 
 use crate::faults::StoreFault;
 use crate::store::Store;

@@ -13,8 +13,9 @@ ghost use Rattle.rd_holdings.specs.declared.rows.Finding.{Finding as CheckFindin
 ghost use Rattle.rd_holdings.specs.declared.rows.ImageRow.{ImageRow as Image};
 ghost use Rattle.rd_holdings.specs.declared.rows.Outcome.{Outcome};
 ghost use Rattle.rd_store.specs.Copied.{AndClean, AreHoldingsOf, IsCopied, IsNotCopied, IsSameCopy, KeepsOrStays, LeavesCopy, OpensCopy, TakesImage, numbered_check, with_checks, with_deeds, with_images, with_keys, with_rules};
-ghost use Rattle.rd_store.specs.Created.{HasFirstTables, RestsIn, Turns};
-ghost use Rattle.rd_store.specs.Held.{Holds, IsClean, IsOf, IsOpen, Keeps, LacksImage, LeavesOpen, Moves, Reads, desk};
+ghost use Rattle.rd_tables.specs.Connections.{IsClean, IsOpen, LeavesOpen, Moves, RestsIn, Turns};
+ghost use Rattle.rd_store.specs.Created.{HasFirstTables};
+ghost use Rattle.rd_store.specs.Held.{Holds, IsOf, Keeps, LacksImage, Reads, desk};
 ghost use Rattle.rd_store.specs.Index.{with_new_image};
 ghost use Rattle.rd_store.specs.Shown.{image_with};
 

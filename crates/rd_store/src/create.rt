@@ -1,8 +1,9 @@
 ghost use Rattle.std.specs.Prelude.{◌≡◌, ◌<◌, ◌≤◌, ◌+◌, [], false, get_or};
 ghost use Rattle.sqlite.specs.Held.{state};
 ghost use Rattle.rd_tables.specs.Statements.{create_texts};
-ghost use Rattle.rd_store.specs.Created.{RestsIn, HasFirstTables, Turns, empty_desk, new_desk};
-ghost use Rattle.rd_store.specs.Held.{IsOf, IsOpen, Moves};
+ghost use Rattle.rd_tables.specs.Connections.{IsOpen, Moves, RestsIn, Turns};
+ghost use Rattle.rd_store.specs.Created.{HasFirstTables, empty_desk, new_desk};
+ghost use Rattle.rd_store.specs.Held.{IsOf};
 
 use crate::keys::insert_key;
 use rd_policy::Audience;

@@ -1,7 +1,8 @@
 ghost use Rattle.std.specs.Prelude.{◌≡◌, IfOk, IfErr, IsSome, None, is_some, map, false};
 ghost use Rattle.std.specs.FinMap.{get, entries};
 ghost use Rattle.sqlite.specs.Held.{state};
-ghost use Rattle.rd_store.specs.Held.{Changes, HoldsDesk, IsOf, IsOpen, Moves, desk, Reads};
+ghost use Rattle.rd_tables.specs.Connections.{IsOpen, Moves};
+ghost use Rattle.rd_store.specs.Held.{Changes, HoldsDesk, IsOf, desk, Reads};
 ghost use Rattle.rd_holdings.specs.Lawful.{IsDeed};
 ghost use Rattle.rd_store.specs.Shown.{deed_shown};
 ghost use Rattle.rd_store.specs.Spelled.{deed_spelling};

@@ -12,7 +12,8 @@ ghost use Rattle.rd_tables.specs.Asked.{IsPicked};
 ghost use Rattle.rd_tables.specs.Queries.{files_query};
 ghost use Rattle.rd_tables.specs.Spellings.{natural};
 ghost use Rattle.rd_store.specs.Codes.{number_in, units_code, units_in};
-ghost use Rattle.rd_store.specs.Held.{Asks, HoldsCommonTables, HoldsDesk, IsDeskWith, Moves, desk, Reads};
+ghost use Rattle.rd_tables.specs.Connections.{Asks, Moves};
+ghost use Rattle.rd_store.specs.Held.{HoldsCommonTables, HoldsDesk, IsDeskWith, desk, Reads};
 ghost use Rattle.rd_store.specs.Index.{AreFilesIn, IsFileIn, IsFiledTo};
 ghost use Rattle.rd_store.specs.Spelled.{file_in, file_shown, index_of};
 

@@ -5,7 +5,8 @@ ghost use Rattle.std.specs.Prelude.{◌≡◌, ◌++◌, ◌∷◌, [], ⊤, IfO
 ghost use Rattle.std.specs.List.Sorted.{IsNonDecreasing};
 ghost use Rattle.sqlite.specs.Held.{state};
 ghost use Rattle.rd_holdings.specs.declared.rows.ImageRow.{ImageRow};
-ghost use Rattle.rd_store.specs.Held.{Asks, HoldsCommonTables, IsClean, IsOpen};
+ghost use Rattle.rd_tables.specs.Connections.{Asks, IsClean, IsOpen};
+ghost use Rattle.rd_store.specs.Held.{HoldsCommonTables};
 ghost use Rattle.rd_store.specs.Opened.{HoldsMarksIf, HoldsMarksOf, LawfulImages, TestsPart};
 ghost use Rattle.rd_store.specs.Register.{entry_in};
 ghost use Rattle.rd_store.specs.Shown.{as_row};

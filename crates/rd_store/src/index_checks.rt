@@ -5,7 +5,8 @@ ghost use Rattle.std.specs.List.Sorted.{IsNonDecreasing};
 ghost use Rattle.sqlite.specs.Held.{state};
 ghost use Rattle.rd_store.specs.RowColumns.{IsContentsRow, IsFileRow, IsNameRow, ShowFiles};
 ghost use Rattle.rd_store.specs.Codes.{units_code};
-ghost use Rattle.rd_store.specs.Held.{HoldsCommonTables, IsOpen};
+ghost use Rattle.rd_tables.specs.Connections.{IsOpen};
+ghost use Rattle.rd_store.specs.Held.{HoldsCommonTables};
 ghost use Rattle.rd_store.specs.Opened.{AreFiledUnder, AreListed, Tests};
 
 use crate::codes;

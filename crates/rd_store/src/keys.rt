@@ -2,7 +2,8 @@ ghost use Rattle.std.specs.Prelude.{◌≡◌, ◌⊎◌, ◌↔◌, All, false,
 ghost use Rattle.std.specs.List.{Any};
 ghost use Rattle.std.specs.FinMap.{get, entries};
 ghost use Rattle.sqlite.specs.Held.{state};
-ghost use Rattle.rd_store.specs.Held.{Changes, HoldsDesk, IsOf, IsOpen, Moves, desk, Judges, Reads};
+ghost use Rattle.rd_tables.specs.Connections.{IsOpen, Moves};
+ghost use Rattle.rd_store.specs.Held.{Changes, HoldsDesk, IsOf, desk, Judges, Reads};
 ghost use Rattle.rd_holdings.specs.Lawful.{IsKey};
 ghost use Rattle.rd_store.specs.Shown.{ShowsOther, audience_shown};
 ghost use Rattle.rd_store.specs.Spelled.{key_spelling};

@@ -2,8 +2,8 @@
 
 ghost use Rattle.std.specs.Prelude.{◌≡◌, IfOk, IfErr, false};
 ghost use Rattle.sqlite.specs.Held.{state};
-ghost use Rattle.rd_store.specs.Created.{RestsIn, Turns};
-ghost use Rattle.rd_store.specs.Held.{HoldsDesk, IsOf, IsOpen, Moves};
+ghost use Rattle.rd_tables.specs.Connections.{IsOpen, Moves, RestsIn, Turns};
+ghost use Rattle.rd_store.specs.Held.{HoldsDesk, IsOf};
 ghost use Rattle.rd_store.specs.Migrated.{IsFirst, IsHalfway, IsMigrated, IsNotMigrated, first_desk};
 ghost use Rattle.rd_store.specs.Opened.{IsSettledAt, IsSoundAt};
 ghost use Rattle.rd_store.specs.Register.{IsRegisterOf};

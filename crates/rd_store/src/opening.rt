@@ -8,7 +8,8 @@ ghost use Rattle.rd_tables.specs.Spellings.{HaveRowids, map_of, natural};
 ghost use Rattle.rd_store.specs.Register.{listed, number_of, register_of};
 ghost use Rattle.rd_store.specs.RowColumns.{comes_before};
 ghost use Rattle.rd_store.specs.Spelled.{HasVersion, HaveOwnRowids, deed_spelling, desk_of, unmarked};
-ghost use Rattle.rd_store.specs.Held.{Asks, HoldsCommonTables, HoldsTables, IsOpen};
+ghost use Rattle.rd_tables.specs.Connections.{Asks, IsOpen};
+ghost use Rattle.rd_store.specs.Held.{HoldsCommonTables, HoldsTables};
 ghost use Rattle.rd_store.specs.Opened.{AreKeys, AreNumbers, HoldsListed, HoldsMarksOf, IsConsistent, IsConsistentAs, IsSoundAt, LawfulChecks, LawfulCommon, LawfulDeeds, LawfulGiven, LawfulKeys, LawfulOthers, LawfulRules, HaveOtherRowids, Tests, TestsPart, listing_query, listing_text, listing_tree};
 ghost use Rattle.rd_store.specs.Walked.{IsWalk, LawfulCommonWalk, LawfulGivenWalk};
 

@@ -5,7 +5,8 @@ ghost use Rattle.sqlite.specs.Listing.{understood};
 ghost use Rattle.sqlite.specs.State.{Shown};
 ghost use Rattle.sqlite.specs.Values.{bound};
 ghost use Rattle.rd_tables.specs.Schemas.{desk_schema};
-ghost use Rattle.rd_store.specs.Held.{Asks, HoldsTables, IsReadable, HoldsDesk, Reads};
+ghost use Rattle.rd_tables.specs.Connections.{Asks, IsReadable};
+ghost use Rattle.rd_store.specs.Held.{HoldsTables, HoldsDesk, Reads};
 
 use crate::faults::StoreFault;
 use crate::store::Store;

@@ -3,7 +3,8 @@ ghost use Rattle.sqlite.specs.Held.{Held, state};
 ghost use Rattle.sqlite_trees.specs.declared.memory.MemStore.{MemStore};
 ghost use Rattle.rd_store.specs.Created.{IsCreated, IsNotCreated};
 ghost use Rattle.sqlite.specs.Steps.{over_memory};
-ghost use Rattle.rd_store.specs.Held.{HoldsDesk, IsAtRest, IsClean, IsOpen};
+ghost use Rattle.rd_tables.specs.Connections.{IsClean, IsOpen};
+ghost use Rattle.rd_store.specs.Held.{HoldsDesk, IsAtRest};
 ghost use Rattle.rd_store.specs.Migrated.{IsMigrated, IsNotMigrated};
 ghost use Rattle.rd_store.specs.Opened.{IsNotOpened, IsOpened};
 

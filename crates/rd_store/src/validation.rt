@@ -2,7 +2,8 @@ ghost use Rattle.std.specs.Prelude.{◌≡◌, ◌≢◌, true, IfOk, IfErr, Som
 ghost use Rattle.sqlite.specs.Held.{state};
 ghost use Rattle.sqlite.specs.Steps.{over_memory};
 ghost use Rattle.rd_tables.specs.Schemas.{desk_schema, first_schema, has_desk_columns};
-ghost use Rattle.rd_store.specs.Held.{HoldsDesk, IsOpen};
+ghost use Rattle.rd_tables.specs.Connections.{IsOpen};
+ghost use Rattle.rd_store.specs.Held.{HoldsDesk};
 ghost use Rattle.rd_store.specs.Migrated.{IsHeldFirst, IsHeldIn, IsRegisterIn, RefusesEach};
 ghost use Rattle.rd_store.specs.Opened.{IsNamed, IsNoDesk, IsResting, IsSaid, IsSettledAt, IsSoundAt, NamesDesk, Says, TestsDatabase, TestsDesk};
 ghost use Rattle.rd_store.specs.Register.{IsRegisterOf};

@@ -5,7 +5,7 @@ ghost use Rattle.sqlite.specs.declared.types.Value.TheVariants.{Int};
 ghost use Rattle.rd_tables.specs.Asked.{IsPicked};
 ghost use Rattle.rd_tables.specs.Queries.{version_query};
 ghost use Rattle.rd_tables.specs.Schemas.{TellsVersion};
-ghost use Rattle.rd_store.specs.Held.{Asks};
+ghost use Rattle.rd_tables.specs.Connections.{Asks};
 ghost use Rattle.rd_store.specs.Opened.{IsSaid, IsSettledAt, Says};
 
 use crate::columns::has_just;

@@ -22,3 +22,6 @@ pub mod TestedRows
 pub mod RowWalks
 pub mod TestPlaces
 pub mod UniqueKeys
+pub mod ConnectionLaws
+pub mod QueryCalls
+pub mod TransactionSteps

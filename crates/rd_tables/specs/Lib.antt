@@ -3,6 +3,7 @@
 -- ---- what a reader of a public clause believes
 pub mod Spellings
 pub mod Schemas
+pub mod Connections
 -- ---- inside: what only private functions and proofs cite
 pub mod Asked
 pub mod Walks

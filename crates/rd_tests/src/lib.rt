@@ -1,5 +1,5 @@
-//! The tests of the store, of the desk and of the reading room over HTTP, in memory and over streams, on their public calls
-//! alone.
+//! The tests of the store, of the desk, of the reading room over HTTP, and of a chain of lines, in memory and over streams,
+//! on their public calls alone.
 #![tactic(auto)]
 
 #[cfg(test)]

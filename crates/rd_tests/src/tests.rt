@@ -1,3 +1,4 @@
+mod chain;
 mod desk;
 mod desks;
 mod http;

@@ -1,7 +1,7 @@
 use Rattle.rd_chain.proofs.Common.{◌∙◌, Ok, Err, ap, next_end}
 use Rattle.rd_chain.proofs.Appending.{makes_next, told_next}
 use Rattle.rd_chain.proofs.Statements.{ends_schema, params, put_writes}
-use Rattle.rd_chain.proofs.TransactionSteps.{moves, stopped}
+use Rattle.rd_tables.proofs.TransactionSteps.{moves, stopped}
 use Rattle.rd_chain.proofs.write.insert_line.Goals as goal
 
 pub returns-in_err-execute-clause-moves : goal.returns-in_err-execute-clause-moves

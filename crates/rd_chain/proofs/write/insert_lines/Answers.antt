@@ -1,7 +1,7 @@
 use Rattle.rd_chain.proofs.Common.{◌∙◌, ◌++◌, ℕ, List, [], arith, refl}
 use Rattle.std.specs.Borrow.{Bor}
 use Rattle.rd_chain.proofs.Appending.{end_none, first, last_all, last_more, moves_all, moves_more, moves_none, told_next}
-use Rattle.rd_chain.proofs.TransactionSteps.{and_then, stopped}
+use Rattle.rd_tables.proofs.TransactionSteps.{and_then, stopped}
 use Rattle.rd_chain.proofs.write.insert_lines.Goals as goal
 
 -- the bytes of a line

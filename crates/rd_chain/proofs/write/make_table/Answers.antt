@@ -1,6 +1,6 @@
 use Rattle.rd_chain.proofs.Common.{[]}
 use Rattle.rd_chain.proofs.Statements.{create_writes, empty_is, makes_table}
-use Rattle.rd_chain.proofs.TransactionSteps.{moves}
+use Rattle.rd_tables.proofs.TransactionSteps.{moves}
 use Rattle.rd_chain.proofs.write.make_table.Goals as goal
 
 pub returns-clause-moves : goal.returns-clause-moves

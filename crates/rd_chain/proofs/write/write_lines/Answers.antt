@@ -1,7 +1,7 @@
 use Rattle.rd_chain.proofs.Common.{map, rules, lines}
 use Rattle.rd_chain.proofs.Appending.{failed_as, starts, told_as, written, written_end, written_kept}
-use Rattle.rd_chain.proofs.Laws.{Laws}
-use Rattle.rd_chain.proofs.Transactions.{step_done, step_failed}
+use Rattle.rd_tables.proofs.ConnectionLaws.{Laws}
+use Rattle.rd_tables.proofs.TransactionSteps.{step_done, step_failed}
 use Rattle.rd_chain.proofs.write.write_lines.Goals as goal
 
 pub returns-in_err-last-clause-kept : goal.returns-in_err-last-clause-kept

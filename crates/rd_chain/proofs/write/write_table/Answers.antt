@@ -1,5 +1,5 @@
 use Rattle.rd_chain.proofs.Common.{rules}
-use Rattle.rd_chain.proofs.Transactions.{step_done, step_failed}
+use Rattle.rd_tables.proofs.TransactionSteps.{step_done, step_failed}
 use Rattle.rd_chain.proofs.write.write_table.Goals as goal
 
 pub returns-in_err-make_table : goal.returns-in_err-make_table

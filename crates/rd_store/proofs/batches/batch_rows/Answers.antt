@@ -1,6 +1,6 @@
 use Rattle.rd_store.proofs.Common.{[], ◌∷◌, pos, Int, state, batch_asks, shown_was_open, shown_picks}
 use Rattle.rd_store.proofs.Laws.{holds_tables, stays_desk}
-use Rattle.rd_store.proofs.ReadLemmas.{asks_as}
+use Rattle.rd_tables.proofs.ConnectionLaws.{asks_as}
 use Rattle.rd_store.proofs.BatchQueries.{batch_found}
 use Rattle.rd_store.proofs.batches.batch_rows.Goals as goal
 

@@ -1,5 +1,5 @@
 use Rattle.rd_store.proofs.Common.{w32, to_z-of_z, checkup_params, drop_check_writes}
-use Rattle.rd_store.proofs.TransactionSteps.{moves}
+use Rattle.rd_tables.proofs.TransactionSteps.{moves}
 use Rattle.rd_store.proofs.DatabaseSteps.{makes_no_check, of_schema}
 use Rattle.rd_store.proofs.checks.delete_check.Goals as goal
 

@@ -1,5 +1,5 @@
 use Rattle.rd_store.proofs.Common.{w32, to_z-of_z, check_params, put_check_writes, outcome_code}
-use Rattle.rd_store.proofs.TransactionSteps.{moves}
+use Rattle.rd_tables.proofs.TransactionSteps.{moves}
 use Rattle.rd_store.proofs.DatabaseSteps.{makes_check, of_schema}
 use Rattle.rd_store.proofs.checks.insert_check.Goals as goal
 

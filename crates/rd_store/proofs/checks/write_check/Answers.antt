@@ -1,6 +1,6 @@
 use Rattle.rd_store.proofs.Common.{◌≡◌, rules, w32, to_z-of_z, get_removed, insert_removed, desk, Desk, checkup_cmp, with_check, without_check, lawful_check, Checkup, get, Error, FinMap, Ghosts, Held, IsOf, Moves, None, Ok, Outcome, Result, subst, ℕ, ℤ}
 use Rattle.rd_store.proofs.Transactions.{put_done, put_failed, starts}
-use Rattle.rd_store.proofs.TransactionSteps.{and_then, stopped}
+use Rattle.rd_tables.proofs.TransactionSteps.{and_then, stopped}
 use Rattle.rd_store.proofs.Orders.{checkup_order}
 use Rattle.rd_store.proofs.checks.write_check.Goals as goal
 

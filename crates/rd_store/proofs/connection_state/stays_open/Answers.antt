@@ -1,6 +1,7 @@
 use Rattle.rd_store.proofs.Common.{[], Ok, Err, refl, subst, sym, ⊤, desk_schema, marks_asks, Sql, Asks}
-use Rattle.rd_store.proofs.Laws.{Laws, stays_desk}
-use Rattle.rd_store.proofs.QueryEffects.{not_prepared_stays, prepared_stays}
+use Rattle.rd_tables.proofs.ConnectionLaws.{Laws}
+use Rattle.rd_store.proofs.Laws.{stays_desk}
+use Rattle.rd_tables.proofs.QueryCalls.{not_prepared_stays, prepared_stays}
 use Rattle.rd_store.proofs.connection_state.stays_open.Goals as goal
 use Rattle.rd_store.proofs.connection_state.stays_open.Goals.{in-Ok, in-Err}
 

@@ -1,5 +1,5 @@
 use Rattle.rd_store.proofs.Common.{◌∙◌, with_keys, with_rules}
-use Rattle.rd_store.proofs.TransactionSteps.{and_then, stopped}
+use Rattle.rd_tables.proofs.TransactionSteps.{and_then, stopped}
 use Rattle.rd_store.proofs.copying.copy_rest.Goals as goal
 
 pub returns-in_err-copy_rules-clause-moves : goal.returns-in_err-copy_rules-clause-moves

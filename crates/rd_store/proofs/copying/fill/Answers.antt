@@ -1,6 +1,6 @@
 use Rattle.rd_store.proofs.Common.{◌∙◌, inl, inr, refl, with_deeds, with_images, empty_desk, desk}
 use Rattle.rd_store.proofs.CopyLemmas.{and_clean, both_clean}
-use Rattle.rd_store.proofs.TransactionSteps.{and_then, stopped}
+use Rattle.rd_tables.proofs.TransactionSteps.{and_then, stopped}
 use Rattle.rd_store.proofs.copying.fill.Goals as goal
 
 pub returns-in_err-make_empty-clause-keeps : goal.returns-in_err-make_empty-clause-keeps

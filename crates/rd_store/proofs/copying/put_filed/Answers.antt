@@ -1,6 +1,6 @@
 use Rattle.rd_store.proofs.Common.{with_new_image, image_with}
 use Rattle.rd_store.proofs.DatabaseSteps.{filed_whole}
-use Rattle.rd_store.proofs.TransactionSteps.{and_then, moves_to, stopped}
+use Rattle.rd_tables.proofs.TransactionSteps.{and_then, moves_to, stopped}
 use Rattle.rd_store.proofs.copying.put_filed.Goals as goal
 
 pub returns-clause-moves : goal.returns-clause-moves

@@ -1,5 +1,5 @@
 use Rattle.rd_store.proofs.Common.{rules}
-use Rattle.rd_store.proofs.Transactions.{step_done, step_failed}
+use Rattle.rd_tables.proofs.TransactionSteps.{step_done, step_failed}
 use Rattle.rd_store.proofs.CopyLemmas.{of_clean}
 use Rattle.rd_store.proofs.copying.write_holdings.Goals as goal
 

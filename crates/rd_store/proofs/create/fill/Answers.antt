@@ -1,6 +1,6 @@
 use Rattle.rd_store.proofs.Common.{empty_desk}
 use Rattle.rd_store.proofs.CreationLemmas.{no_key}
-use Rattle.rd_store.proofs.TransactionSteps.{and_then, stopped, then_told}
+use Rattle.rd_tables.proofs.TransactionSteps.{and_then, stopped, then_told}
 use Rattle.rd_store.proofs.create.fill.Goals as goal
 
 pub returns-in_err-insert_key-clause-moves : goal.returns-in_err-insert_key-clause-moves

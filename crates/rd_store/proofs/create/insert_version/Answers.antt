@@ -1,6 +1,6 @@
 use Rattle.rd_store.proofs.Common.{[], put_version_writes}
 use Rattle.rd_store.proofs.CreationLemmas.{makes_version, made_schema}
-use Rattle.rd_store.proofs.TransactionSteps.{moves}
+use Rattle.rd_tables.proofs.TransactionSteps.{moves}
 use Rattle.rd_store.proofs.create.insert_version.Goals as goal
 
 pub returns-clause-moves : goal.returns-clause-moves

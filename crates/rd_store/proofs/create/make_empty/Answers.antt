@@ -1,4 +1,4 @@
-use Rattle.rd_store.proofs.TransactionSteps.{and_then, stopped}
+use Rattle.rd_tables.proofs.TransactionSteps.{and_then, stopped}
 use Rattle.rd_store.proofs.create.make_empty.Goals as goal
 
 pub returns-in_err-make_tables-clause-moves : goal.returns-in_err-make_tables-clause-moves

@@ -1,5 +1,5 @@
 use Rattle.rd_store.proofs.Common.{rules}
-use Rattle.rd_store.proofs.Transactions.{step_done, step_failed}
+use Rattle.rd_tables.proofs.TransactionSteps.{step_done, step_failed}
 use Rattle.rd_store.proofs.create.make_first_tables.Goals as goal
 
 pub returns-in_err-make_tables : goal.returns-in_err-make_tables

@@ -1,6 +1,6 @@
 use Rattle.rd_store.proofs.Common.{[], creates_writes}
 use Rattle.rd_store.proofs.CreationLemmas.{makes_table, made_schema}
-use Rattle.rd_store.proofs.TransactionSteps.{moves}
+use Rattle.rd_tables.proofs.TransactionSteps.{moves}
 use Rattle.rd_store.proofs.create.make_table.Goals as goal
 
 pub returns-clause-moves : goal.returns-clause-moves

@@ -1,5 +1,5 @@
 use Rattle.rd_store.proofs.Common.{rules}
-use Rattle.rd_store.proofs.Transactions.{step_done, step_failed}
+use Rattle.rd_tables.proofs.TransactionSteps.{step_done, step_failed}
 use Rattle.rd_store.proofs.create.write_desk.Goals as goal
 
 pub returns-in_err-fill : goal.returns-in_err-fill

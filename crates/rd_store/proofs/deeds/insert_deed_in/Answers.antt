@@ -1,5 +1,5 @@
 use Rattle.rd_store.proofs.Common.{w32, to_z-of_z, deed_params, put_deed_writes}
-use Rattle.rd_store.proofs.TransactionSteps.{moves}
+use Rattle.rd_tables.proofs.TransactionSteps.{moves}
 use Rattle.rd_store.proofs.DatabaseSteps.{makes_new_deed, of_schema}
 use Rattle.rd_store.proofs.deeds.insert_deed_in.Goals as goal
 

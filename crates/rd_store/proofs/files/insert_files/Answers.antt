@@ -1,5 +1,5 @@
 use Rattle.rd_store.proofs.Common.{◌≡◌, ◌∙◌, Ok, length, subst, arith, Error, IsDeskWith, Moves, IsFiledTo}
-use Rattle.rd_store.proofs.TransactionSteps.{and_then, stopped, then_told}
+use Rattle.rd_tables.proofs.TransactionSteps.{and_then, stopped, then_told}
 use Rattle.rd_store.proofs.files.insert_files.Goals as goal
 
 pub returns-in_err-insert_file-clause-moves : goal.returns-in_err-insert_file-clause-moves

@@ -1,6 +1,6 @@
 use Rattle.rd_store.proofs.Common.{◌≡◌, ◌∷◌, Option, None, Some, ℕ, pos, option_map, refl, bound_value, or_null, Int, put_file_writes, IsFiledTo, file_shown}
 use Rattle.sqlite.specs.contracts.types.U32ToSql.TheImpl as u32
-use Rattle.rd_store.proofs.TransactionSteps.{moves}
+use Rattle.rd_tables.proofs.TransactionSteps.{moves}
 use Rattle.rd_store.proofs.DatabaseSteps.{makes_file, with_schema}
 use Rattle.rd_store.proofs.files.insert_row.Goals as goal
 

@@ -1,6 +1,7 @@
 use Rattle.rd_store.proofs.Common.{◌∷◌, [], List, pos, sym, subst, subst₂, MatchBool, Int, Database, state, Row, AreFounds, Found, IsPicked, files_query, ShowFiles, AreFilesIn, image_if, ImageRow}
 use Rattle.rd_store.proofs.IndexTests.{has_files, shows_files}
-use Rattle.rd_store.proofs.Laws.{stays_common, stays_then}
+use Rattle.rd_tables.proofs.ConnectionLaws.{stays_then}
+use Rattle.rd_store.proofs.Laws.{stays_common}
 use Rattle.rd_store.proofs.ImageWalks.{part_refused}
 use Rattle.rd_store.proofs.image_walk.check_files.Goals as goal
 

@@ -1,5 +1,5 @@
 use Rattle.rd_store.proofs.Common.{◌≡◌, ◌∙◌, ℕ, ap, subst, subst₂, sym, state, column, natural, Heading, HoldsMarksIf, HasFilesOnce, IsLawfulAt, StandsOnce}
-use Rattle.rd_store.proofs.Laws.{stays_here}
+use Rattle.rd_tables.proofs.ConnectionLaws.{stays_here}
 use Rattle.rd_store.proofs.ImageWalks.{among_read, lawful_at, lawful_read, part_ok, part_refused, read_once, sql_part}
 use Rattle.rd_store.proofs.image_walk.check_image.Goals as goal
 

@@ -1,5 +1,6 @@
 use Rattle.rd_store.proofs.Common.{◌≡◌, ◌∙◌, List, Option, ℕ, ap, eqb-true, length, rules, subst, sym, vec_len, Database, state, empty_by_length, Heading, AreBatchOf, AreReadNext, IsWalkTo, last_number}
-use Rattle.rd_store.proofs.Laws.{stays_common, stays_here, stays_marks, stays_then}
+use Rattle.rd_tables.proofs.ConnectionLaws.{stays_here, stays_then}
+use Rattle.rd_store.proofs.Laws.{stays_common, stays_marks}
 use Rattle.rd_store.proofs.ImageWalks.{part_refused, sql_part, starts_to, then_part, walked_all, walked_lawful}
 use Rattle.rd_store.proofs.image_walk.walk_images.Goals as goal
 

@@ -1,5 +1,6 @@
 use Rattle.rd_store.proofs.Common.{◌≡◌, ◌∙◌, ◌∷◌, ◌+◌, List, ℕ, ap, arith, drop, subst, sym, drop_more, Database, state, Row, Heading, AreReadNext, IsJudgedImage, IsReadOf, IsWalkTo, last_number}
-use Rattle.rd_store.proofs.Laws.{stays_common, stays_here, stays_marks, stays_then}
+use Rattle.rd_tables.proofs.ConnectionLaws.{stays_here, stays_then}
+use Rattle.rd_store.proofs.Laws.{stays_common, stays_marks}
 use Rattle.rd_store.proofs.ImageWalks.{goes_on, next_entry, part_refused, read_of, rest_next, sql_part, then_part}
 use Rattle.rd_store.proofs.image_walk.walk_rows.Goals as goal
 

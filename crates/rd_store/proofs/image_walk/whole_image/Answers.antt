@@ -1,6 +1,6 @@
 use Rattle.rd_store.proofs.Common.{◌≡◌, ◌≢◌, ◌∙◌, rules, sym, true≢false, state, D64}
 use Rattle.rd_store.proofs.IndexTests.{has_disk, marked_image, no_disk, unmarked_image}
-use Rattle.rd_store.proofs.Laws.{stays_here}
+use Rattle.rd_tables.proofs.ConnectionLaws.{stays_here}
 use Rattle.rd_store.proofs.image_walk.whole_image.Goals as goal
 
 pub marks_at-requires : goal.marks_at-requires

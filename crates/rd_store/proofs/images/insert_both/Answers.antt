@@ -1,5 +1,5 @@
 use Rattle.rd_store.proofs.Common.{◌≡◌, ◌++◌, ◌∙◌, ℕ, Some, ap, sym, subst, insert, Error, D64, get_inserted, kind_code, kind_in, IsDeskWith, LacksImage, Moves, IsFiledTo, with_new_image, with_marks, as_row, image_with, Desk}
-use Rattle.rd_store.proofs.TransactionSteps.{and_then, stopped}
+use Rattle.rd_tables.proofs.TransactionSteps.{and_then, stopped}
 use Rattle.rd_store.proofs.MarkedImages.{image_again}
 use Rattle.rd_store.proofs.Orders.{number_order}
 use Rattle.rd_store.proofs.images.insert_both.Goals as goal

@@ -1,5 +1,5 @@
 use Rattle.rd_store.proofs.Common.{image_params, put_image_writes, kind_code, image_with}
-use Rattle.rd_store.proofs.TransactionSteps.{moves}
+use Rattle.rd_tables.proofs.TransactionSteps.{moves}
 use Rattle.rd_store.proofs.DatabaseSteps.{makes_image, lacks_schema}
 use Rattle.rd_store.proofs.images.insert_row.Goals as goal
 

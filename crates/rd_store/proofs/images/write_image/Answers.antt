@@ -1,6 +1,5 @@
 use Rattle.rd_store.proofs.Common.{rules, desk, with_new_image, image_with}
-use Rattle.rd_store.proofs.TransactionSteps.{and_then, moves_to, stopped}
-use Rattle.rd_store.proofs.Transactions.{step_done, step_failed}
+use Rattle.rd_tables.proofs.TransactionSteps.{and_then, moves_to, step_done, step_failed, stopped}
 use Rattle.rd_store.proofs.DatabaseSteps.{filed_whole}
 use Rattle.rd_store.proofs.DepositLemmas.{lacks, deposited}
 use Rattle.rd_store.proofs.images.write_image.Goals as goal

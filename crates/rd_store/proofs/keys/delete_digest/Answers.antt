@@ -1,5 +1,5 @@
 use Rattle.rd_store.proofs.Common.{digest_params, drop_key_writes}
-use Rattle.rd_store.proofs.TransactionSteps.{moves}
+use Rattle.rd_tables.proofs.TransactionSteps.{moves}
 use Rattle.rd_store.proofs.DatabaseSteps.{makes_no_key, of_schema}
 use Rattle.rd_store.proofs.keys.delete_digest.Goals as goal
 

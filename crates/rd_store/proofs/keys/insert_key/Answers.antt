@@ -1,5 +1,5 @@
 use Rattle.rd_store.proofs.Common.{key_params, put_key_writes, audience_code}
-use Rattle.rd_store.proofs.TransactionSteps.{moves}
+use Rattle.rd_tables.proofs.TransactionSteps.{moves}
 use Rattle.rd_store.proofs.DatabaseSteps.{makes_key, of_schema}
 use Rattle.rd_store.proofs.keys.insert_key.Goals as goal
 

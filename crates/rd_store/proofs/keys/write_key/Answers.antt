@@ -1,6 +1,6 @@
 use Rattle.rd_store.proofs.Common.{◌≡◌, rules, get_removed, insert_removed, desk, Desk, digest_cmp, with_key, without_key, lawful_key, Audience, Error, FinMap, Ghosts, Held, IsOf, List, Moves, None, Ok, Result, get, subst, ℕ}
 use Rattle.rd_store.proofs.Transactions.{put_done, put_failed, starts}
-use Rattle.rd_store.proofs.TransactionSteps.{and_then, stopped}
+use Rattle.rd_tables.proofs.TransactionSteps.{and_then, stopped}
 use Rattle.rd_store.proofs.Orders.{digest_order}
 use Rattle.rd_store.proofs.keys.write_key.Goals as goal
 

@@ -1,5 +1,5 @@
 use Rattle.rd_store.proofs.Common.{marks_params, put_marks_writes, IsFiledTo}
-use Rattle.rd_store.proofs.TransactionSteps.{moves}
+use Rattle.rd_tables.proofs.TransactionSteps.{moves}
 use Rattle.rd_store.proofs.DatabaseSteps.{makes_marks, with_schema}
 use Rattle.rd_store.proofs.marks.insert_marks.Goals as goal
 

@@ -1,5 +1,5 @@
 use Rattle.rd_store.proofs.Common.{[], ◌∷◌, pos, Int, state, marks_asks, shown_was_open, shown_picks}
-use Rattle.rd_store.proofs.ReadLemmas.{asks_as}
+use Rattle.rd_tables.proofs.ConnectionLaws.{asks_as}
 use Rattle.rd_store.proofs.marks.marks_rows.Goals as goal
 
 pub read_all-requires-clause-plain : goal.read_all-requires-clause-plain

@@ -1,6 +1,6 @@
 use Rattle.rd_store.proofs.Common.{[], arith, creates_writes}
 use Rattle.rd_store.proofs.MigrationLemmas.{makes_marks}
-use Rattle.rd_store.proofs.TransactionSteps.{moves}
+use Rattle.rd_tables.proofs.TransactionSteps.{moves}
 use Rattle.rd_store.proofs.migrating.make_marks.Goals as goal
 
 pub returns-clause-moves : goal.returns-clause-moves

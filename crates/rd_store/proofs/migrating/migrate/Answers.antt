@@ -1,7 +1,7 @@
 use Rattle.rd_store.proofs.Common.{◌≡◌, inl, subst, sym, Database, state, IsOpen, IsHeldIn, IsNotMigrated, IsRegisterIn, first_desk, listed, register_of, Version}
 use Rattle.rd_store.proofs.MigrationLemmas.{all_brought, all_migrated, first_at, none_brought, opened_second, rests_by, untouched_by}
 use Rattle.rd_store.proofs.DatabaseTests.{err_told}
-use Rattle.rd_store.proofs.Laws.{Laws}
+use Rattle.rd_tables.proofs.ConnectionLaws.{Laws}
 use Rattle.rd_store.proofs.Registers.{brought_listed, register_stays}
 use Rattle.rd_store.proofs.migrating.migrate.Goals as goal
 

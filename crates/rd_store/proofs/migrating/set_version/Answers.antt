@@ -1,6 +1,6 @@
 use Rattle.rd_store.proofs.Common.{[], set_version_writes}
 use Rattle.rd_store.proofs.MigrationLemmas.{makes_second}
-use Rattle.rd_store.proofs.TransactionSteps.{moves}
+use Rattle.rd_tables.proofs.TransactionSteps.{moves}
 use Rattle.rd_store.proofs.migrating.set_version.Goals as goal
 
 pub returns-clause-moves : goal.returns-clause-moves

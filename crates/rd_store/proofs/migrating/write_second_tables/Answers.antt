@@ -1,4 +1,4 @@
-use Rattle.rd_store.proofs.TransactionSteps.{and_then, stopped}
+use Rattle.rd_tables.proofs.TransactionSteps.{and_then, stopped}
 use Rattle.rd_store.proofs.migrating.write_second_tables.Goals as goal
 
 pub returns-in_err-make_marks-clause-moves : goal.returns-in_err-make_marks-clause-moves

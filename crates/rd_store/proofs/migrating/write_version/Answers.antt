@@ -1,5 +1,5 @@
 use Rattle.rd_store.proofs.Common.{rules, state, first_desk}
-use Rattle.rd_store.proofs.Transactions.{step_done, step_failed}
+use Rattle.rd_tables.proofs.TransactionSteps.{step_done, step_failed}
 use Rattle.rd_store.proofs.migrating.write_version.Goals as goal
 
 pub returns-in_err-write_second_tables : goal.returns-in_err-write_second_tables

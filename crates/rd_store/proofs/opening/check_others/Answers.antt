@@ -1,4 +1,5 @@
-use Rattle.rd_store.proofs.Laws.{stays_common, stays_then}
+use Rattle.rd_tables.proofs.ConnectionLaws.{stays_then}
+use Rattle.rd_store.proofs.Laws.{stays_common}
 use Rattle.rd_store.proofs.opening.check_others.Goals as goal
 
 pub check_keys-requires-clause-tables : goal.check_keys-requires-clause-tables

@@ -1,6 +1,6 @@
 use Rattle.rd_store.proofs.Common.{rules, state, shown_is_open}
-use Rattle.rd_store.proofs.Laws.{Laws, clean_at}
-use Rattle.rd_store.proofs.QueryEffects.{shown_stays, failed_stays}
+use Rattle.rd_tables.proofs.ConnectionLaws.{Laws, clean_at}
+use Rattle.rd_tables.proofs.QueryCalls.{shown_stays, failed_stays}
 use Rattle.rd_store.proofs.read.read_over.Goals as goal
 
 pub returns-in-Ok : goal.returns-in-Ok

@@ -1,5 +1,5 @@
 use Rattle.rd_store.proofs.Common.{place_params, drop_rule_writes, place_of, band_code}
-use Rattle.rd_store.proofs.TransactionSteps.{moves}
+use Rattle.rd_tables.proofs.TransactionSteps.{moves}
 use Rattle.rd_store.proofs.DatabaseSteps.{makes_no_rule, of_schema}
 use Rattle.rd_store.proofs.rules.delete_place.Goals as goal
 

@@ -1,6 +1,6 @@
 use Rattle.rd_store.proofs.Common.{◌≡◌, Option, None, Some, ℤ, refl, bound_value, or_null, Int, put_rule_writes, rule_spelling, place_of, terms_of}
 use Rattle.sqlite.specs.contracts.types.I32ToSql.TheImpl as i32
-use Rattle.rd_store.proofs.TransactionSteps.{moves}
+use Rattle.rd_tables.proofs.TransactionSteps.{moves}
 use Rattle.rd_store.proofs.DatabaseSteps.{makes_rule, of_schema}
 use Rattle.rd_store.proofs.rules.insert_rule.Goals as goal
 

@@ -1,6 +1,6 @@
 use Rattle.rd_store.proofs.Common.{◌≡◌, rules, get_removed, insert_removed, desk, Desk, place_cmp, place_of, terms_of, with_rule, without_rule, lawful_rule, Error, FinMap, Ghosts, Held, IsOf, Moves, None, Ok, Place, Result, Terms, get, subst}
 use Rattle.rd_store.proofs.Transactions.{put_done, put_failed, starts}
-use Rattle.rd_store.proofs.TransactionSteps.{and_then, stopped}
+use Rattle.rd_tables.proofs.TransactionSteps.{and_then, stopped}
 use Rattle.rd_store.proofs.Orders.{place_order}
 use Rattle.rd_store.proofs.rules.write_rule.Goals as goal
 

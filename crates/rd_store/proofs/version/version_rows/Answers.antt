@@ -1,6 +1,6 @@
 use Rattle.rd_store.proofs.Common.{[], refl, rules, state, version_asks, shown_is_open, shown_picks}
-use Rattle.rd_store.proofs.Laws.{Laws, clean_at}
-use Rattle.rd_store.proofs.QueryEffects.{shown_stays, failed_stays}
+use Rattle.rd_tables.proofs.ConnectionLaws.{Laws, clean_at}
+use Rattle.rd_tables.proofs.QueryCalls.{shown_stays, failed_stays}
 use Rattle.rd_store.proofs.version.version_rows.Goals as goal
 
 pub returns-in-Ok : goal.returns-in-Ok

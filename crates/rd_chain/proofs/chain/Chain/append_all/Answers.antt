@@ -1,6 +1,6 @@
 use Rattle.rd_chain.proofs.Common.{◌+◌, ◌≤◌, Ok, Err, length, map, refl, rules, subst, Appends, IsFullFor, MOST_LINES}
 use Rattle.rd_chain.proofs.Appending.{appended_as, appends_nothing, end_still, full_done, full_failed, is_full, not_appended_as, over}
-use Rattle.rd_chain.proofs.Laws.{Laws}
+use Rattle.rd_tables.proofs.ConnectionLaws.{Laws}
 use Rattle.rd_chain.specs.declared.faults.ChainFault.TheVariants.{Full, Sql}
 use Rattle.rd_chain.proofs.chain.Chain.append_all.Goals as goal
 

@@ -1,5 +1,6 @@
 use Rattle.rd_chain.proofs.Common.{subst, IsAtRest}
-use Rattle.rd_chain.proofs.Laws.{Laws, at_rest}
+use Rattle.rd_tables.proofs.ConnectionLaws.{Laws}
+use Rattle.rd_chain.proofs.Laws.{at_rest}
 use Rattle.rd_chain.proofs.chain.Chain.between_calls.Goals as goal
 
 pub returns : goal.returns

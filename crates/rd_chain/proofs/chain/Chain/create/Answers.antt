@@ -1,6 +1,7 @@
 use Rattle.rd_chain.proofs.Common.{[], ◌∙◌, ap, rules, subst, sym, HoldsChain, LeavesOnly, end_of, state}
 use Rattle.std.proofs.Common.{not}
-use Rattle.rd_chain.proofs.Laws.{Laws, leaves_only, same_commit}
+use Rattle.rd_tables.proofs.ConnectionLaws.{Laws, same_commit}
+use Rattle.rd_chain.proofs.Laws.{leaves_only}
 use Rattle.rd_chain.proofs.Transactions.{made_or_old, rests}
 use Rattle.rd_chain.proofs.chain.Chain.create.Goals as goal
 

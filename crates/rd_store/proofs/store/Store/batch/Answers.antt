@@ -1,7 +1,7 @@
 use Rattle.rd_store.proofs.Common.{◌∙◌, ap, drop, rules, subst, take, entries, AllZip, IfOk-weaker, state, Sql, IsIndexed, Asks, Reads, desk, index_of}
 use Rattle.rd_store.proofs.ReadLemmas.{reads_of}
 use Rattle.rd_store.proofs.BatchQueries.{batch_told}
-use Rattle.rd_store.proofs.Laws.{Laws}
+use Rattle.rd_tables.proofs.ConnectionLaws.{Laws}
 use Rattle.rd_store.proofs.store.Store.batch.Goals as goal
 
 pub returns-clause-reads : goal.returns-clause-reads

@@ -1,5 +1,6 @@
 use Rattle.rd_store.proofs.Common.{subst, IsAtRest}
-use Rattle.rd_store.proofs.Laws.{Laws, holds_between_calls}
+use Rattle.rd_tables.proofs.ConnectionLaws.{Laws}
+use Rattle.rd_store.proofs.Laws.{holds_between_calls}
 use Rattle.rd_store.proofs.store.Store.between_calls.Goals as goal
 
 pub returns : goal.returns

@@ -1,5 +1,5 @@
 use Rattle.rd_store.proofs.Common.{◌≡◌, ◌∙◌, ap, length, refl, rules, sym, IsBlank, HoldsDesk, state, register_of, Desk}
-use Rattle.rd_store.proofs.Laws.{Laws, same_commit}
+use Rattle.rd_tables.proofs.ConnectionLaws.{Laws, same_commit}
 use Rattle.rd_store.proofs.Registers.{register_empty}
 use Rattle.rd_store.proofs.CreationLemmas.{rests_new, made_or_old, only_new}
 use Rattle.rd_store.proofs.store.Store.create.Goals as goal

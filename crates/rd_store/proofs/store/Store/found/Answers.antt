@@ -1,7 +1,7 @@
 use Rattle.rd_store.proofs.Common.{rules, ◌∙◌, ap, map, subst, sym, get, IfOk-weaker, Sql, Asks, Reads, desk, AreFilesIn, file_in}
 use Rattle.rd_store.proofs.ReadLemmas.{reads_of}
 use Rattle.rd_store.proofs.IndexQueries.{files_found}
-use Rattle.rd_store.proofs.Laws.{Laws}
+use Rattle.rd_tables.proofs.ConnectionLaws.{Laws}
 use Rattle.rd_store.proofs.Orders.{files_back}
 use Rattle.rd_store.proofs.store.Store.found.Goals as goal
 

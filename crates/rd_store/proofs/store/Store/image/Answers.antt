@@ -1,7 +1,7 @@
 use Rattle.rd_store.proofs.Common.{◌≡◌, Option, Some, None, Ok, ◌∙◌, rules, subst, sym, get, Database, state, map_of, ImageRow, Sql, Asks, Reads, desk, desk_of, image_spelling, marks_spelling}
 use Rattle.rd_store.proofs.ReadLemmas.{reads_of}
 use Rattle.rd_store.proofs.MarkedImages.{joined_nowhere}
-use Rattle.rd_store.proofs.Laws.{Laws, stays_then}
+use Rattle.rd_tables.proofs.ConnectionLaws.{Laws, stays_then}
 use Rattle.rd_store.proofs.store.Store.image.Goals as goal
 
 pub returns-in_default-clause-reads : goal.returns-in_default-clause-reads

@@ -1,5 +1,6 @@
 use Rattle.rd_store.proofs.Common.{ap, subst, rules, Database, LeavesOnly, desk_of}
-use Rattle.rd_store.proofs.Laws.{Laws, leaves_only}
+use Rattle.rd_tables.proofs.ConnectionLaws.{Laws}
+use Rattle.rd_store.proofs.Laws.{leaves_only}
 use Rattle.rd_store.proofs.store.Store.open.Goals as goal
 
 pub invariant_of-result : goal.invariant_of-result

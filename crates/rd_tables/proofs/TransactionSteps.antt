@@ -1,8 +1,17 @@
 -- A statement inside a transaction, one after another, and the whole transaction.
-use Rattle.rd_store.proofs.Common.{◌≡◌, inl, inr, ℕ, List, [], true, false, Result, Ok, Err, IsErr, IfErr, OnOk, OnErr, refl, sym, subst, ◌∙◌, IsTrue, true≢false, arith, cases_Bool, Row, Ghosts, Schema, Command, Database, Error, ExecutesInside, Survives, KeepsCommit, KeepsCounts, Shows, IsRolledBack, Held, state, survives_begin, survives_then, IsWrite, Makes, inside_keeps, ran, Moves, IsOpen, IsClean, RestsIn, Turns, FailsToCommit}
+use Rattle.rd_tables.proofs.Common.{◌≡◌, inl, inr, ℕ, List, [], true, false, Result, Ok, Err, refl, sym, subst, ◌∙◌, IsTrue, true≢false, arith, cases_Bool, Row, Schema, Command, Database, Error, ExecutesInside, Survives, KeepsCommit, IsRolledBack}
+use Rattle.std.proofs.Common.{IfErr, IsErr, OnErr, OnOk}
+use Rattle.sqlite.specs.Held.{Held, state}
+use Rattle.sqlite.specs.Store.{Ghosts}
+use Rattle.sqlite.specs.State.{KeepsCounts, Shows}
+use Rattle.sqlite.specs.Steps.{FailsToCommit}
 use Rattle.sqlite.specs.declared.error.Error.TheVariants.{SqliteFailure}
 use Rattle.sqlite.specs.declared.error.ErrorCode.TheVariants.{TransactionState}
-use Rattle.rd_store.proofs.Laws.{lasts_of}
+use Rattle.sqlite.proofs.Callers.{survives_begin}
+use Rattle.sqlite.proofs.StateLemmas.{survives_then}
+use Rattle.rd_tables.specs.Connections.{IsClean, IsOpen, Moves, RestsIn, Turns}
+use Rattle.rd_tables.proofs.ConnectionLaws.{Laws, clean_at, lasts_of}
+use Rattle.rd_tables.proofs.StatementRuns.{IsWrite, Makes, inside_keeps, ran}
 
 -- ---- one statement
 
@@ -168,3 +177,18 @@ module _ {S : Type 0} (g : Ghosts S) (clean_at : (h : Held S) → IsOpen g h →
         opens : (q : Result (Unit {0}) Error) → Done q → OnOk q (IsOpen g last)
         opens (Ok u) h = h.1.is_open
         opens (Err e) h = tt
+
+-- ---- from where a transaction begins to where the connection is handed back
+
+module _ {S : Type 0} (g : Ghosts S) (laws : Laws g) (old begin : Held S) (begins : begin ≡ begun old) {Before : Database → Type 0} (start : IsOpen g old → RestsIn Before (state g old)) {mid : Held S} (last end : Held S) (same : last ≡ end) where
+  -- it failed, and all is undone
+  pub step_failed : {U Y V Z : Type 0} {q : Result U Y} {After : Database → Type 0} → Moves g begin mid Before After q → (IsClean g last → IsRolledBack (state g mid) (state g last)) → Survives (state g mid) (state g last) (λ _. ⊥) → (r : Result V Z) → IsErr r → Turns g old end After r
+  step_failed {q} {After} moves undone ended r failed =
+      subst (λ (h : Held S). Turns g old h After r) same (undoes g (clean_at g laws) old mid last Before After start (subst (λ (h : Held S). Moves g h mid Before After q) begins moves) undone ended r failed)
+
+  -- it was done, and is committed
+  pub step_done : {V X : Type 0} {x : V} {After : Database → Type 0} → Moves {X = X} g begin mid Before After (Ok x) → Survives (state g mid) (state g last) (λ trees. trees ≡ (state g mid).now.trees) → (r : Result (Unit {0}) Error)
+      → (IsClean g last → OnOk r (IsTrue mid.in_transaction × Shows (state g mid) (state g last) (state g mid).now (state g mid).now false × KeepsCounts (state g mid) (state g last) × ((state g last).marks ≡ [])))
+      → (IsClean g last → IfErr r (FailsToCommit (state g mid) (state g last))) → Turns g old end After r
+  step_done {X} {x} {After} moves all r done failed =
+      subst (λ (h : Held S). Turns g old h After r) same (commits g (clean_at g laws) old mid last Before After start x (subst (λ (h : Held S). Moves {X = X} g h mid Before After (Ok x)) begins moves) all r done failed)

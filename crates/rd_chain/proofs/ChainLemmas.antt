@@ -4,8 +4,7 @@ use Rattle.std.proofs.Math.Seq.{drop-append_seam, take-append_seam}
 use Rattle.std.proofs.lemmas.Slice.Eq.{bytes_eq-Decides}
 use Rattle.sha2.specs.Sha256.{sha256}
 use Rattle.sha2.proofs.Facts256.{length-sha256}
-use Rattle.rd_history.specs.Chains.{Collides, FIRST_SUM, all_summed, last_sum, next_sum, summed}
-use Rattle.rd_history.specs.Laws.{OneChain}
+use Rattle.rd_chain.specs.Chains.{Collides, FIRST_SUM, OneChain, all_summed, last_sum, next_sum, summed}
 
 -- two different texts with one SHA-256, one of each list of texts
 record Clash (texts others : List (List ℕ)) : Type 0 where

@@ -1,7 +1,12 @@
 -- What a query leaves of a connection.
-use Rattle.rd_store.proofs.Common.{◌≡◌, inl, inr, ℕ, List, [], IsTrue, sym, ◌∙◌, Row, Ghosts, Schema, Error, State, IsUnchanged, IsRolledBack, IsNotRun, Shown, Survives, CommitsShowing, Held, state, survives_weaker, query_fails, shown_was_open, shown_unchanged, read_survives, RestsOver, IsReadable, Stays, IsOpen, IsClean}
-use Rattle.sqlite.specs.State.{FailsToQuery}
-use Rattle.rd_store.proofs.Laws.{Laws, clean_at, lasts_of}
+use Rattle.rd_tables.proofs.Common.{◌≡◌, inl, inr, ℕ, List, [], IsTrue, sym, ◌∙◌, Row, Schema, Error, State, IsUnchanged, IsRolledBack, Survives, CommitsShowing}
+use Rattle.sqlite.specs.Held.{Held, state}
+use Rattle.sqlite.specs.Store.{Ghosts}
+use Rattle.sqlite.specs.State.{FailsToQuery, IsNotRun, Shown}
+use Rattle.sqlite.proofs.StateLemmas.{survives_weaker}
+use Rattle.rd_tables.specs.Connections.{IsClean, IsOpen, IsReadable, RestsOver, Stays}
+use Rattle.rd_tables.proofs.ConnectionLaws.{Laws, clean_at, lasts_of}
+use Rattle.rd_tables.proofs.QueryEffects.{query_fails, read_survives, shown_unchanged, shown_was_open}
 
 -- the connection was open, and shows what it did
 pub record Same (old new : State) : Type 0 where
