@@ -1,7 +1,7 @@
 // Long lists: a table whose rows are drawn as far as they are seen. Its rows stand in blocks; a block that is far from
 // the screen is one empty row of the same height.
 import { shownName } from "./names.js";
-import { box, cell, element, table } from "./shared.js";
+import { box, cell, element, grouped, table } from "./shared.js";
 
 const BLOCK = 100;
 const NEAR = "1200px 0px";
@@ -77,7 +77,7 @@ export function listTable(caption, columns, items, rowOf) {
   const draw = () => {
     const found = chosen.words ? items.filter(isFound) : items;
     const shown = chosen.column ? found.toSorted(order) : found;
-    count.textContent = `${shown.length.toLocaleString("en")} of ${items.length.toLocaleString("en")} shown`;
+    count.textContent = `${grouped(shown.length)} of ${grouped(items.length)} shown`;
     made.lastChild.replaceWith(longTable(caption, names, shown, rowOf));
     made.querySelectorAll("th").forEach(addSort);
   };

@@ -134,7 +134,9 @@ export function table(caption, columns, rows) {
 export const row = (cells) => box("tr", "", ...cells);
 
 export const textOf = (value) => (typeof value === "string" ? value : "");
-export const counted = (count, word) => `${count.toLocaleString("en")} ${word}${count === 1 ? "" : "s"}`;
+// A whole number with its thousands apart. (What a browser has for this loads its tables of languages first: 40 ms.)
+export const grouped = (count) => String(count).replace(/\B(?=(?:[0-9]{3})+$)/g, ",");
+export const counted = (count, word) => `${grouped(count)} ${word}${count === 1 ? "" : "s"}`;
 export const listOf = (value) => (Array.isArray(value) ? value : []);
 export const own = (words, word) => (Object.hasOwn(words, word) ? words[word] : "");
 export const kindWords = (kind) => own(KINDS, textOf(kind)).words || textOf(kind);

@@ -1,6 +1,6 @@
 // Survey and check of disks, and the latest check of each.
 import { listTable } from "./lists.js";
-import { box, cell, counted, element, kindWords, own, part, row } from "./shared.js";
+import { box, cell, counted, element, grouped, kindWords, own, part, row } from "./shared.js";
 import { buttonsCell, change, changed, dated, diskCell, formOf, held, readHeld } from "./staff.desk.js";
 import { shownAnew, showsAnew } from "./staff.desk.js";
 import { isDone, sendMany } from "./staff.many.js";
@@ -63,8 +63,8 @@ async function checkAll(before, tools) {
 // How many are sound, and which are changed.
 function foundWords(found) {
   const changed = found.filter(({ outcome }) => outcome === "changed").map(({ accession }) => accession);
-  const sound = found.filter(({ outcome }) => outcome === "sound").length.toLocaleString("en");
-  const bad = changed.length ? `, ${changed.length.toLocaleString("en")} CHANGED: ${changed.join(", ")}` : "";
+  const sound = grouped(found.filter(({ outcome }) => outcome === "sound").length);
+  const bad = changed.length ? `, ${grouped(changed.length)} CHANGED: ${changed.join(", ")}` : "";
   return { words: `${sound} sound${bad}`, isBad: changed.length > 0 };
 }
 
@@ -93,7 +93,7 @@ export function checkWords(disk) {
 // What stands of all disks: the warning stays there as long as a disk is changed.
 function summary(checks) {
   const { words, isBad } = foundWords(checks);
-  const never = checks.filter((one) => one.day === null).length.toLocaleString("en");
+  const never = grouped(checks.filter((one) => one.day === null).length);
   return finding(`${counted(checks.length, "disk")}: ${words}; ${never} never checked.`, isBad);
 }
 

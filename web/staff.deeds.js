@@ -1,6 +1,6 @@
 // Deeds: who gave disks, and when they signed; each with its rules.
 import { listTable } from "./lists.js";
-import { box, cell, counted, element, part, row } from "./shared.js";
+import { box, cell, counted, element, grouped, part, row } from "./shared.js";
 import { buttonsCell, change, dated, formOf, held, readHeld, send } from "./staff.desk.js";
 import { showChange, shownAnew, showsAnew, sure } from "./staff.desk.js";
 import { limitFields } from "./staff.ruleform.js";
@@ -45,7 +45,7 @@ function deedRow(one) {
     cell("Deed", String(one.deed), "number"),
     cell("Donor", one.donor, "words"),
     cell("Signed on", one.signed, "day"),
-    cell("Disks", one.accessions.toLocaleString("en"), "number"),
+    cell("Disks", grouped(one.accessions), "number"),
     rulesCell(one),
     buttonsCell(`deed ${one.deed}`, { Change: () => changeDeed(one) }),
   ]);

@@ -1,5 +1,5 @@
 // The staff's side of the desk: what stands there, changes to it, and the work of a section of the page.
-import { Refused, askObject, box, cell, element, fields, listOf, part, refusal } from "./shared.js";
+import { Refused, askObject, box, cell, element, fields, grouped, listOf, part, refusal } from "./shared.js";
 import { withTitle } from "./titles.js";
 
 // After these nobody here knows whether the desk has done what was sent. A command that is sent twice is done once.
@@ -246,7 +246,7 @@ function progressOf(name, stop) {
   const bar = element("progress", null, { ariaLabel: "Progress" });
   const shown = box("p", "choices", words, bar, button("Stop", () => stop.abort()));
   return (doing, count, all) => {
-    words.textContent = `${doing}: ${count.toLocaleString("en")}${all ? ` of ${all.toLocaleString("en")}` : ""}.`;
+    words.textContent = `${doing}: ${grouped(count)}${all ? ` of ${grouped(all)}` : ""}.`;
     if (all) Object.assign(bar, { max: all, value: count });
     if (!shown.isConnected) show(name, shown);
   };

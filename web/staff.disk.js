@@ -1,6 +1,6 @@
 // One disk on one page: what it is, who gets what of it by which rules, its journal, and takedowns of ticked files.
 import { nameCell } from "./lists.js";
-import { askObject, box, cell, counted, element, part, row, table } from "./shared.js";
+import { askObject, box, cell, counted, element, grouped, part, row, table } from "./shared.js";
 import { checkWords, checked, surveyed } from "./staff.checks.js";
 import { button, change, dated, formOf, readHeld, rulesOf, showsAnew } from "./staff.desk.js";
 import { COLUMNS as CHANGES, changeRow } from "./staff.journal.js";
@@ -84,7 +84,7 @@ function fileRow(record) {
     const [may, since] = [mayWords(record, audience, shown.asked), element("span", "", { className: "title since" })];
     return cell(words, box("span", "", `${may} `, ruleShown(record, audience), since));
   });
-  return row([...cells, cell("Bytes", size && Number(size).toLocaleString("en"), "number"), ...verdicts]);
+  return row([...cells, cell("Bytes", grouped(size), "number"), ...verdicts]);
 }
 
 function rulesTable(rules) {

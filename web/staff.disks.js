@@ -1,7 +1,7 @@
 // Dumps of disks: chosen, described by their lengths and SHA-256, numbered by hand or by a sheet, and put.
 import { readDump } from "./dump.js";
 import { KINDS, Refused, box, cell, counted, digestOf, element, explainRefusal, kindWords } from "./shared.js";
-import { part, row, table } from "./shared.js";
+import { grouped, part, row, table } from "./shared.js";
 import { button, change, dated, formOf, readHeld, rulesOf, send, sure, work } from "./staff.desk.js";
 import { forecast, forecastWords } from "./staff.forecast.js";
 import { isDone, sendMany } from "./staff.many.js";
@@ -48,7 +48,7 @@ function dumpRow(dump) {
   says.textContent = dump.problem || dump.outcome;
   return row([
     cell("File", kind === undefined ? file.name : mapButton(dump), "name"),
-    cell("Bytes", file.size.toLocaleString("en"), "number"),
+    cell("Bytes", grouped(file.size), "number"),
     cell("Kind", kind === undefined ? "" : kindWords(kind)),
     cell("SHA-256", digest, "digest"),
     cell("Accession", fields[0]),

@@ -1,7 +1,7 @@
 // A look through others' eyes: what the public, the reading room or the staff may do with each file on a day.
 import { longTable, nameCell } from "./lists.js";
 import { searchText } from "./names.js";
-import { box, cell, counted, element, kindWords, part, row } from "./shared.js";
+import { box, cell, counted, element, grouped, kindWords, part, row } from "./shared.js";
 import { changeCount, dated, diskCell, formOf, work } from "./staff.desk.js";
 import { limitFields, options } from "./staff.ruleform.js";
 import { countWords } from "./staff.forecast.js";
@@ -63,11 +63,11 @@ async function lookThrough({ audience, words, showsClosed }, all) {
   };
   await inParts(all, (some) => some.forEach(take));
   const by = words && `, found by \u201c${words}\u201d`;
-  const more = left ? `; ${left.toLocaleString("en")} more, closed to them, left out` : "";
+  const more = left ? `; ${grouped(left)} more, closed to them, left out` : "";
   const [disk, ...others] = new Set(files.map((file) => file[COLUMNS.accession]));
   const of = disk && others.length === 0 ? ` of disk ${disk}` : "";
   const only = of && `, only${of}, which has ${all.filter((file) => file[COLUMNS.accession] === disk).length}`;
-  const which = `${files.length.toLocaleString("en")} of ${counted(all.length, "file")}${by}${only}${more}.`;
+  const which = `${grouped(files.length)} of ${counted(all.length, "file")}${by}${only}${more}.`;
   return { files, counts, of, which };
 }
 

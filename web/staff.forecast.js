@@ -1,4 +1,5 @@
 // What each audience will get of a disk that is not sent yet: reckoned on this page from its dump and the rules.
+import { grouped } from "./shared.js";
 import { given } from "./staff.verdicts.js";
 import { AUDIENCES, EFFECTS, selection } from "./staff.words.js";
 
@@ -24,7 +25,7 @@ export function forecast(files, rules, day) {
 // How many files an audience may read, see listed and not see, in a sentence; and the same of each audience.
 export function countWords(audience, countOf) {
   const [words, counts] = [AUDIENCES[audience], Object.keys(EFFECTS).map(countOf)];
-  const [read, list, deny] = counts.map((count) => count.toLocaleString("en"));
+  const [read, list, deny] = counts.map(grouped);
   return `${words[0].toUpperCase()}${words.slice(1)}: ${read} to read, ${list} only in the list, ${deny} closed.`;
 }
 

@@ -1,6 +1,6 @@
 // The journal: who changed what, when and why, and what became of it.
 import { longTable } from "./lists.js";
-import { Refused, askObject, cell, counted, element, part, refusal, row } from "./shared.js";
+import { Refused, askObject, cell, counted, element, grouped, part, refusal, row } from "./shared.js";
 import { AllChanges, UNKNOWN, changeWords, isUnknown, outcomeWords, spaced, timeOf } from "./staff.changes.js";
 import { dated, formOf, show, work } from "./staff.desk.js";
 import { Lines, MONTHS, MOST, PIECE } from "./staff.lines.js";
@@ -14,7 +14,7 @@ export const COLUMNS = ["When", "Who", "What", "Outcome", "Reason"];
 
 const BOUND = [
   `the last ${PIECE >> 20} MB first and as much at each press; then each month of the last ${MONTHS / 12} years`,
-  `until it holds ${MOST.toLocaleString("en")} changes`,
+  `until it holds ${grouped(MOST)} changes`,
 ].join(", ");
 
 // What was read so far, when its newest lines were, and the changes of it from the newest on.
@@ -92,7 +92,7 @@ function summary() {
   const texts = [`${counted(changes.length, "change")} read${first && `, from ${first} to ${last}`}`];
   texts.push(lines.isWhole ? "there are no older lines" : "older lines, if any, were not read");
   const more = [`${texts.join("; ")}.`];
-  if (unknown) more.push(`Of ${unknown.toLocaleString("en")} ${UNKNOWN}, or it has not ended yet.`);
+  if (unknown) more.push(`Of ${grouped(unknown)} ${UNKNOWN}, or it has not ended yet.`);
   if (read.unread) more.push(`${counted(read.unread, "line")} cannot be read.`);
   if (isFull()) more.push("The page reads no more of them.");
   return more.join(" ");
