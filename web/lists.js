@@ -3,7 +3,7 @@
 import { shownName } from "./names.js";
 import { box, cell, element, grouped, table } from "./shared.js";
 
-const BLOCK = 100;
+const BLOCK = 50;
 const NEAR = "1200px 0px";
 // How high a row is before one was measured, in pixels.
 const ROW = 40;
