@@ -36,10 +36,10 @@ export class Changes {
     this.file = null;
   }
 
-  take([accession, slot, name, audience, now, then]) {
+  take([accession, slot, kind, name, audience, now, then]) {
     if (this.file?.accession !== accession || this.file.slot !== slot) {
       this.close();
-      this.file = { accession, slot, name, turns: new Map() };
+      this.file = { accession, slot, kind, name, turns: new Map() };
     }
     const turn = `${now} ${then}`;
     this.file.turns.set(turn, [...(this.file.turns.get(turn) ?? []), audience]);
@@ -113,7 +113,7 @@ async function rehearseOne({ method, path, body }, day, { changes, known, signal
   const take = ([accession, slot, name, audience, effect, , thenEffect]) => {
     const isServed = known.served.has(`${accession}/${slot}`);
     const [now, then] = [given(effect, isServed), given(thenEffect, isServed)];
-    if (now !== then) changes.take([accession, slot, shownName(known.kinds.get(accession), name), audience, now, then]);
+    if (now !== then) changes.take([accession, slot, known.kinds.get(accession), name, audience, now, then]);
   };
   await readTable(`/staff/rehearsals/${day}${path}`, { method, body, take, signal });
   changes.close();
@@ -128,8 +128,8 @@ function groupWords({ opens, count, audiences, now, then }, past) {
 
 function groupParts(group, past) {
   const [words, className] = [groupWords(group, past), group.opens ? "opens" : "closes"];
-  const items = group.first.map(({ name, accession, slot }) =>
-    dated("li", `${name} (disk ${accession}, slot ${slot})`));
+  const items = group.first.map(({ accession, slot, kind, name }) =>
+    dated("li", `${shownName(kind, name)} (disk ${accession}, slot ${slot})`));
   const rest = group.count - group.first.length;
   if (rest > 0) items.push(element("li", `and ${counted(rest, "more file")}`));
   return [dated("p", words, { className }), box("ul", "", ...items)];

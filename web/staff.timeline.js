@@ -1,29 +1,27 @@
 // The timeline: the days of each rule that begins or ends by itself, the next change first; a day to drag, and who gets
 // what on it, as the desk's verdicts say.
 import { listTable } from "./lists.js";
-import { shownName } from "./names.js";
-import { box, cell, element, part, row } from "./shared.js";
+import { box, cell, element, loaded, part, row } from "./shared.js";
 import { dated, formOf, readHeld, standing, work } from "./staff.desk.js";
 import { audienceCounts } from "./staff.forecast.js";
-import { pastOf } from "./staff.origins.js";
 import { Changes, dayParts } from "./staff.rehearsal.js";
 import { limitFields } from "./staff.ruleform.js";
 import { COLUMNS, effectOf, onDay, readVerdicts } from "./staff.verdicts.js";
 import { AUDIENCES, RULES, dayAfter, isOnNoDay, ruleWords, today } from "./staff.words.js";
+import { keeper } from "./stream.js";
 
 // How many days the bars show before today and after the last change, and how far from today that one may be.
 const DAYS = 365;
 const MOST_DAYS = 50 * DAYS;
 
 const numberOf = (day) => Date.parse(`${day}T00:00:00Z`) / 86400000;
-const dayOf = (number) => new Date(number * 86400000).toISOString().slice(0, 10);
-// The rules that begin or end some day, each with these days; and the first and the last day of the bars.
-let lines = [];
-let range = { first: 0, last: 1 };
+// The rules that begin or end some day, each with the next of these days; and the first and the last day of the bars.
+let [lines, range] = [[], { first: 0, last: 1 }];
 
 const field = () => formOf("timeline").elements.day;
 const stands = () => part("timeline").querySelector(".stands");
-const allTurns = () => lines.flatMap(({ turns }) => turns).sort();
+const turnsOf = (rule) => (isOnNoDay(rule) ? [] : [rule.from, rule.until].filter(Boolean));
+const allTurns = () => lines.flatMap(({ rule }) => turnsOf(rule)).sort();
 
 // How far a day is along the bars, in percent.
 function share(day) {
@@ -31,17 +29,13 @@ function share(day) {
   return `${100 * Math.min(1, Math.max(0, far))}%`;
 }
 
-function lineOf(name, scope, rule) {
-  const turns = isOnNoDay(rule) ? [] : [rule.from, rule.until].filter(Boolean);
-  return { name, scope, rule, turns, next: turns.find((day) => day > today()) ?? "none" };
-}
-
 async function readLines() {
   for (const what of ["deeds", "takedowns"]) await readHeld(what);
-  const linesOf = (name) => standing(name).map(({ scope, rule }) => lineOf(name, scope, rule));
-  lines = ["rules", "takedowns"].flatMap(linesOf).filter(({ turns }) => turns.length);
-  lines.sort((one, other) => (one.next < other.next ? -1 : 1));
   const [now, most] = [today(), dayAfter(today(), MOST_DAYS)];
+  const nextOf = (rule) => turnsOf(rule).find((day) => day > now) ?? "none";
+  const turning = (name) => standing(name).filter(({ rule }) => turnsOf(rule).length);
+  const linesOf = (name) => turning(name).map(({ scope, rule }) => ({ name, scope, rule, next: nextOf(rule) }));
+  lines = ["rules", "takedowns"].flatMap(linesOf).sort((one, other) => (one.next < other.next ? -1 : 1));
   const last = [now, ...allTurns().filter((day) => day > now && day < most)].at(-1);
   range = { first: numberOf(dayAfter(now, -DAYS)), last: numberOf(dayAfter(last, DAYS)) };
 }
@@ -65,7 +59,7 @@ function lineRow(line) {
 function draw() {
   const slider = element("input", null, { type: "range", min: range.first, max: range.last, ariaLabel: "The day" });
   slider.addEventListener("input", () => {
-    field().value = dayOf(Number(slider.value));
+    field().value = dayAfter("1970-01-01", Number(slider.value));
     mark();
   });
   slider.addEventListener("change", look);
@@ -76,9 +70,9 @@ function draw() {
 
 // Shows where the day is among the bars.
 function mark() {
-  stands().style.setProperty("--day", share(field().value));
-  const slider = stands().querySelector("[type=range]");
-  Object.assign(slider, { value: numberOf(field().value), ariaValueText: field().value });
+  const { value } = field();
+  stands().style.setProperty("--day", share(value));
+  Object.assign(stands().querySelector("[type=range]"), { value: numberOf(value), ariaValueText: value });
 }
 
 function choose(day) {
@@ -87,42 +81,46 @@ function choose(day) {
   look();
 }
 
-// Reads a day, and gives the effects for each file, how many files are alike, and how they differ from those before.
+// Reads a day: its files in order, the effects for each, how many are alike, and how they differ from those before.
 async function readDay(day, before, tools) {
-  const [effects, changes, alike] = [new Map(), new Changes(), new Map()];
+  const [files, effects, changes, audiences] = [[], [], new Changes(), Object.keys(AUDIENCES)];
+  const alikeOf = keeper((text) => ({ text, now: text.split(" "), count: 0 }));
+  let [at, mine] = [0, { now: [] }];
   const take = (record) => {
-    const now = Object.keys(AUDIENCES).map((audience) => effectOf(record, audience));
-    const [text, accession, slot] = [now.join(), record[COLUMNS.accession], record[COLUMNS.slot]];
-    if (!alike.has(text)) alike.set(text, { now, count: 0 });
-    alike.get(text).count += 1;
-    if (!before && !effects.has(accession)) effects.set(accession, []);
-    if (!before) effects.get(accession)[slot] = alike.get(text).now;
-    const old = before?.get(accession)?.[slot] ?? now;
-    Object.keys(AUDIENCES).forEach((audience, at) => {
-      if (old[at] === now[at]) return;
-      const name = shownName(record[COLUMNS.kind], record[COLUMNS.name]);
-      changes.take([accession, slot, name, audience, old[at], now[at]]);
+    // most files are like the one before, and to see that is cheaper than to make a text
+    const isLike = audiences.every((audience, of) => mine.now[of] === effectOf(record, audience));
+    if (!isLike) mine = alikeOf(audiences.map((audience) => effectOf(record, audience)).join(" "));
+    mine.count += 1;
+    const file = 10000 * record[COLUMNS.accession] + Number(record[COLUMNS.slot]);
+    files.push(file);
+    effects.push(mine);
+    while (before?.files[at] < file) at += 1;
+    const old = before?.files[at] === file ? before.effects[at] : mine;
+    if (old.text === mine.text) return;
+    const parts = ["accession", "slot", "kind", "name"].map((column) => record[COLUMNS[column]]);
+    audiences.forEach((audience, of) => {
+      if (old.now[of] !== mine.now[of]) changes.take([...parts, audience, old.now[of], mine.now[of]]);
     });
   };
   await readVerdicts(day, take, tools);
   changes.close();
-  return { effects, groups: changes.all(), alike: [...alike.values()] };
+  return { files, effects, alike: [...new Set(effects)], groups: changes.all() };
 }
 
 // Who gets what on a day, and what is other than today.
 async function showDay(day, tools) {
   const now = await readDay(today(), null, tools);
-  const then = day === today() ? now : await readDay(day, now.effects, tools);
+  const then = day === today() ? now : await readDay(day, now, tools);
+  const past = day < today() ? `on ${day}, by the rules of ${today()}, they` : "";
+  // what only a day that is over needs is loaded then
+  const since = past ? await loaded(import("./staff.origins.js")).then(({ pastOf }) => pastOf(day, tools)) : {};
   const texts = audienceCounts((audience, effect) => {
     const at = Object.keys(AUDIENCES).indexOf(audience);
     return then.alike.reduce((sum, one) => sum + (one.now[at] === effect ? one.count : 0), 0);
-  });
-  const past = day < today() ? `on ${day}, by the rules of ${today()}, they` : "";
-  const since = past ? await pastOf(day, tools) : {};
+  }).concat(since.words ?? []);
   const words = past ? `What is other on ${day} than today, by the rules of ${today()}` : "What is other than today";
   const none = past && `By the rules of ${today()} nothing is other on that day; ${since.then}`;
   const more = day === today() ? [] : dayParts({ words, past, none, groups: then.groups });
-  if (past) texts.push(since.words);
   const heading = dated("h2", `Who gets what ${onDay(day)}`);
   stands().querySelector(".day").replaceChildren(heading, ...texts.map((text) => dated("p", text)), ...more);
 }
