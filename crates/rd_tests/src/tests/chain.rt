@@ -56,6 +56,9 @@ fn chain_of(alloc: Global, lines: &[&str]) -> Option<Chain<MemStore>> {
 }
 
 fn opened(conn: Connection<MemStore>) -> Result<Chain<MemStore>, OpenFault> {
+    if !conn.is_autocommit() {
+        return Err(OpenFault::Sql);
+    }
     match Chain::open(conn) {
         Ok(chain) => Ok(chain),
         Err(Refused { fault, conn: _conn }) => Err(fault),
@@ -89,10 +92,13 @@ fn what_is_told(rt: HostRuntime) -> Result<(), Fail> {
             return Err(Fail::new("no lines"));
         };
         assert_eq!(rt; found.len(), LINES.len().saturating_sub(after as usize));
-        for (at, line) in (after as usize..LINES.len()).zip(found.as_slice()) {
-            assert_eq!(rt; line.number as usize, at + 1);
-            assert_eq!(rt; line.line.as_slice(), LINES[at].as_bytes());
-            assert_eq!(rt; line.sum.get(..4), Some(SUMS[at].as_slice()));
+        for (line, at) in found.iter().zip(after as usize..) {
+            assert_eq!(rt; Some(line.number as usize), at.checked_add(1));
+            assert_eq!(rt;
+                Some(line.line.as_slice()),
+                LINES.get(at).map(|text| text.as_bytes())
+            );
+            assert_eq!(rt; line.sum.get(..4), SUMS.get(at).map(|sum| sum.as_slice()));
         }
     }
     Ok(())
