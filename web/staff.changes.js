@@ -154,16 +154,16 @@ export class AllChanges {
     else if (status !== "begun") Object.assign(known, { moment, at, status: textOf(status) });
   }
 
-  // From the newest on, each with the bodies of what may have stood at its place before: undefined where no line says
-  // or nobody knows of a drop; and with the word for what is put: it replaces what the journal has there for sure.
+  // From the newest on, each with the bodies of what may have stood at its place before: undefined where no line says,
+  // null where nobody knows of a drop; and with the word for what is put: it replaces what the journal has for sure.
   inOrder() {
     const all = Array.from(this.byId.values()).sort((one, other) => one.at - other.at);
     const stands = new Map();
     for (const change of all) {
       const [one, ...others] = (change.stood = stands.get(change.place) ?? [undefined]);
-      change.put = one === undefined || others.length || one === change.body ? "Put" : "Replace";
+      change.put = typeof one !== "string" || others.length || one === change.body ? "Put" : "Replace";
       const puts = change.method === "PUT" ? [change.body] : [];
-      if (!isRefused(change)) stands.set(change.place, isUnknown(change) ? [...change.stood, puts[0]] : puts);
+      if (!isRefused(change)) stands.set(change.place, isUnknown(change) ? [...change.stood, puts[0] ?? null] : puts);
     }
     return all.reverse();
   }

@@ -85,7 +85,7 @@ const canBeFor = ({ audiences, select }, { slot, audience }) =>
 function concerns({ place, method, body, stood }, file) {
   const before = place.startsWith("/deeds/") ? stood : stood.filter((one) => one !== undefined);
   const bodies = method === "PUT" ? [body, ...before] : stood;
-  return bodies.some((one) => canBeFor(bodyOf({ body: one }), file));
+  return bodies.some((one) => one !== null && canBeFor(bodyOf({ body: one }), file));
 }
 
 // When and by whom something was done, and what, in short.

@@ -74,21 +74,20 @@ def test_file_says_since_when_the_journal_has_no_change_that_can_concern_it_and_
     at, of_deed, ended = "/images/1002/rules/", "/deeds/9/rules/", "2026-06-01 (takedown 1 of disk 1002 ended)"
     ruled, drop5, drop6 = by(0, f"Put {BY_DEED}", "Ada"), ranked("Drop", 5, 30.3), ranked("Drop", 6, 60)
     five, maybe = by(50, "Put rule 5 of deed 9"), by(90, "Put rule 10 of deed 9 (nobody knows whether the desk did it)")
-    cases = [(-60, "200", "PUT", TAKEN_IN, "", None), (20, "200", "PUT", f"{at}5", every, None),
-             (10, "200", "PUT", f"{at}7", one, (*[ranked("Put", 5, 20)] * 2, ruled)),
-             (30, "200", "PUT", f"{at}5", one, (*[ranked("Replace", 5, 30)] * 2, ruled)),
-             (30.3, "200", "DELETE", f"{at}5", "", (ranked("Replace", 5, 30), drop5, ruled)),
-             (50, "200", "PUT", f"{of_deed}5", every.replace('"public",', ""), (five, drop5, five)),
-             (60, "200", "DELETE", f"{at}6", "", None), (70, "200", "PUT", f"{of_deed}30", "", None),
-             (80, "404", "PUT", f"{of_deed}10", "", [drop6] * 3),
-             (90, "502", "PUT", f"{of_deed}10", "", (maybe, drop6, maybe)),
-             (99, "200", "PUT", f"{at}1", "", (ended, ended, ranked("Put", 1, 99))),
-             (120, "200", "DELETE", f"{of_deed}20", "", None)]
+    cases = [(-60, "200", TAKEN_IN, "{}", None), (20, "200", f"{at}5", every, None),
+             (10, "200", f"{at}7", one, (*[ranked("Put", 5, 20)] * 2, ruled)),
+             (30, "200", f"{at}5", one, (*[ranked("Replace", 5, 30)] * 2, ruled)), (30.2, "502", f"{at}5", "", None),
+             (30.3, "200", f"{at}5", "", (ranked("Replace", 5, 30), drop5, ruled)),
+             (50, "200", f"{of_deed}5", every.replace('"public",', ""), (five, drop5, five)),
+             (60, "200", f"{at}6", "", None), (70, "200", f"{of_deed}30", "{}", None),
+             (80, "404", f"{of_deed}10", "{}", [drop6] * 3), (90, "502", f"{of_deed}10", "{}", (maybe, drop6, maybe)),
+             (99, "200", f"{at}1", "{}", (ended, ended, ranked("Put", 1, 99))), (120, "200", f"{of_deed}20", "", None)]
     museum.rules["T1002"] = takedown(7, 2)
-    for number, (far, status, method, path, body, due) in enumerate(cases, 2):
+    for number, (far, status, path, body, due) in enumerate(cases, 2):
         if path == f"{at}1":
             museum.rules["T1002"][1] = museums.rule(1, "deny", ["public"], until=ended[:10])
-        disk.door.journals["/journal"] += journal_lines(number, START + far, status, method, path, body=body)
+        came = status, "PUT" if body else "DELETE", path
+        disk.door.journals["/journal"] += journal_lines(number, START + far, *came, body=body)
         rows = disk.go("disk/1002")["rows"] if due else []
         cells = [rows[row][cell].partition("in the journal since ")[2] for row, cell in ((0, 5), (2, 5), (2, 7)) if due]
         assert cells == [*(due or [])], path
