@@ -178,7 +178,7 @@ async function takeDown(records, tools) {
   const words = `Take down ${counted(commands.length, "file")} of disk ${accession} for ${whom}?`;
   const notes = commands.map(({ name, rank, rule }) => `${name}, at rank ${rank}: ${ruleWords(rule)}.`);
   const asked = { words, notes, commands, days: rehearsalDays(commands[0].rule), isTakedown: true, go: "Take down" };
-  asked.first = saveFirst(accession, words, tools);
+  asked.first = saveFirst(accession, words);
   if ((await rehearsed(asked, tools)).length === 0) return "Nothing is taken down.";
   const isOf = (one, { rank, select }) => rank === one.rank && select.slot === one.slot;
   const stands = (one) => rulesOf("takedowns", accession).some((rule) => isOf(one, rule));

@@ -146,14 +146,15 @@ export function dayParts({ words, groups, past, none }, before) {
 
 // A button that saves who gets what of a disk, as the desk says now, before a question is answered, and what says so:
 // afterwards nobody can have it. While it saves, the answer cannot be yes; where the question is left, it stops.
-export function saveFirst(accession, question, tools) {
+export function saveFirst(accession, question) {
   const [said, go] = [element("div", "", { role: "status" }), part("sure").querySelector("[value=go]")];
   const words = ` It is what stood before an answer to: \u201c${question}\u201d`;
   const press = async () => {
+    if (go.disabled) return;
     const stop = new AbortController();
     part("sure").addEventListener("close", () => stop.abort(), { once: true });
     [go.disabled, said.textContent] = [true, "Asking the desk."];
-    const how = { ...tools, signal: stop.signal };
+    const how = { signal: stop.signal, progress: () => {} };
     const saved = loaded(import("./staff.disk.js")).then(({ saveNow }) => saveNow(accession, words, how));
     said.replaceChildren(await saved.then((name) => `Saved: ${name}`).catch(refusedWork));
     if (!stop.signal.aborted) go.disabled = false;

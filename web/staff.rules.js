@@ -36,7 +36,7 @@ async function put(name, scopes, typedRank, rule, tools) {
   const days = rehearsalDays(rule, replaced);
   const isTakedown = name === "takedowns";
   const asked = { words: `${word} ${words}?`, notes, commands, days, isTakedown, go: `${word} it` };
-  if (isTakedown && places.length === 1) asked.first = saveFirst(scopes[0], asked.words, tools);
+  if (isTakedown && places.length === 1) asked.first = saveFirst(scopes[0], asked.words);
   const agreed = await rehearsed(asked, tools);
   if (agreed.length === 0) return `Not ${done.toLowerCase()}: ${words}.`;
   const cells = (one) => [String(one.scope), String(one.rank)];
@@ -79,7 +79,7 @@ async function drop(name, scope, rule, tools) {
   const notes = [`It stands: ${ruleWords(rule)}.`];
   const { rehearsalDays, rehearsed, saveFirst } = await rehearsals();
   const asked = { words: `Drop ${said}?`, notes, commands, days: rehearsalDays(rule), go: "Drop it" };
-  if (name === "takedowns") asked.first = saveFirst(scope, asked.words, tools);
+  if (name === "takedowns") asked.first = saveFirst(scope, asked.words);
   if ((await rehearsed(asked, tools)).length === 0) return `Kept: ${said}.`;
   await send("DELETE", path(scope, rule.rank));
   return shownAnew(name, `Done: there is no ${said} now.`);
