@@ -36,11 +36,11 @@ async function readDisk(accession, tools, show = showDisk) {
   disk.files = await verdictsOf(survey, asked.day, tools);
   disk.names = namesOf(disk.files);
   show(disk);
-  const { told, changes, none } = await originsOf(things, tools);
+  const { told, changes, none, isWhole } = await originsOf(things, tools);
   things.forEach((thing, at) => Object.assign(thing, told[at]));
   const [own, deed] = [survey.accession, survey.deed].map(String);
   disk.changes = changes.filter((one) => (one.accession ? one.accession === own : one.deed === deed));
-  disk.none = none;
+  Object.assign(disk, { none, isWhole });
   show(disk);
   return disk;
 }
@@ -68,9 +68,9 @@ const everyVerdict = ({ files }) =>
   files.flatMap((record) => Object.keys(AUDIENCES).map((audience) => [record, audience]));
 
 // Since when a file is to an audience as it is now.
-function sinceOf({ things, changes, none }, record, audience) {
+function sinceOf({ things, changes, none, isWhole }, record, audience) {
   if (none) return `since when: ${none}`;
-  const file = { label: record[EFFECT_AT[audience] + 1], slot: Number(record[COLUMNS.slot]), audience };
+  const file = { label: record[EFFECT_AT[audience] + 1], slot: Number(record[COLUMNS.slot]), audience, isWhole };
   return changes ? sinceWords(things, file, changes) : UNREAD;
 }
 
@@ -105,7 +105,7 @@ function journalParts({ accession, deed }, changes) {
   const of = { deed: String(deed), names: shown.names };
   const rows = changes.slice(0, MOST_CHANGES).map((one) => changeRow(one, of));
   const why = shown.none ?? "the journal is not read yet";
-  const none = element("p", why ? `Not shown: ${why}.` : "The journal has none.");
+  const none = element("p", why ? `Not shown: ${why}.` : "The journal has none, as far as the page has read it.");
   const made = rows.length ? table("latest changes", CHANGES, rows) : none;
   return [element("h2", "The latest changes of the disk and its deed"), made, box("p", "", link)];
 }

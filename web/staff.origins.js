@@ -63,7 +63,7 @@ export async function originsOf(things, tools) {
   const isEnough = (changes, places = byPlaces(changes)) => things.every((one) => originOf(one, places).put);
   const { changes, places, far, none } = await journalTo(isEnough, tools);
   const toldOf = (one, found) => ({ origin: none || originWords(one, found, far), put: found.put });
-  return { told: things.map((one) => toldOf(one, originOf(one, places))), changes, none };
+  return { told: things.map((one) => toldOf(one, originOf(one, places))), changes, none, isWhole: far.isWhole };
 }
 
 export const SINCE = `In the journal since: from then on it has no change of the disk, of the rule that decides, or of \
@@ -95,9 +95,10 @@ function doneWords(change, what = changeWords({ ...change, body: "", stood: [] }
 
 // Since when a file is to an audience as it is now, as far as the changes of its disk and its deed say: the latest of
 // these, and of the days on which a rule began or ended, that can concern both. `label` is of the rule that decides.
-export function sinceWords([disk, ...rules], { label, ...file }, changes) {
+export function sinceWords([disk, ...rules], { label, isWhole, ...file }, changes) {
   const own = rules.find((one) => one.label === label);
-  if (!disk.put || !(own ? own.put : label === "D0")) return "since when: not in the journal";
+  const far = isWhole ? "" : ", as far as it was read";
+  if (!disk.put || !(own ? own.put : label === "D0")) return `since when: not in the journal${far}`;
   const order = own ? orderOf(own.place) : Infinity;
   const done = changes.filter((one) => counts(one) && orderOf(one.place) < order && concerns(one, file));
   if (own) done.push(own.put);
