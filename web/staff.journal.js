@@ -150,7 +150,7 @@ async function goOn({ currentTarget: button }) {
 }
 
 function readAnew(tools) {
-  [lines, read, readAt, turn] = [new Lines(), new AllChanges(), momentNow(), turn + 1];
+  [lines, read, changes, readAt, turn] = [new Lines(), new AllChanges(), [], momentNow(), turn + 1];
   return readOlder(tools);
 }
 

@@ -1,7 +1,9 @@
 """The journal on the staff's page: who changed what, when and why, how it ended; one that is long or is not there."""
 
+import threading
+
 from staff_helpers import CANNOT_REACH, journal_lines, moment, saved_table
-from support.browser import TODAY
+from support.browser import LIMIT, TODAY
 from support.museums import HARMFUL
 from support.samples import digest, refused
 from support.stand_in import refused_by_nginx
@@ -78,6 +80,14 @@ def test_what_is_looked_for_is_found_and_saved_without_a_formula(staff):
     assert (len(records), records[2][3:]) == (3, ["'=1+1", "100%", "disk 1002", what, "done", "PUT", path, "200", ""])
     due = f"+00:00: 11 changes read, from {time_of(0)}+00:00 to {time_of(10)}+00:00; older lines, if any"
     assert f"The journal, read at {TODAY}T12:{records[0][1][35:40]}{due}" in records[0][1], "saved without its hour"
+
+def test_no_change_of_an_earlier_reading_is_shown_while_the_journal_is_read_anew(staff):
+    is_seen, _ = threading.Event(), read(staff, JOURNAL)
+    staff.door.before = lambda method, path: None if path != "/journal" or is_seen.wait(LIMIT) else b""
+    staff.named("button", "Read it anew").click()
+    staff.fill("journal", words="bob").wait(lambda state: "".join(state["stands"]).startswith("0 changes read; older"))
+    is_seen.set()
+    assert staff.read()["rows"] == rows_of(2, 4, 6, 7)
 
 def test_journal_of_a_disk_has_the_changes_of_its_deed_and_the_names_of_files(staff):
     came = [("/deeds/7/rules/20", RULE), ("/deeds/9/rules/20", RULE), ("/images/1002/rules/1", RULE)]
