@@ -227,5 +227,5 @@ export async function showHome(choices, progress) {
   const parts = disks.length ? [form, day, results] : [element("p", "There is no disk of which you may see a file.")];
   const isFirst = disks.length ? change(choices) : progress("", disks.asked);
   isFirst?.then(() => showDay(disks, day)).catch(() => day.remove());
-  return { heading: welcome(), parts, change, ready: isFirst };
+  return { heading: welcome(), parts, change, ready: isFirst, leave: () => (drawn += 1) };
 }

@@ -139,6 +139,8 @@ async function show(isMoved) {
 }
 
 function useKey(given) {
+  // what the view still asks comes into no list of the new key
+  shown.leave();
   useNow(given);
   part("forget").hidden = given === "";
   part("caller").textContent = keyInUse() === "" ? "I have a key" : "You read with a key";

@@ -1,6 +1,8 @@
 """The page for readers: what the public, the room and the staff see, what is refused and why; no key is left there."""
 
 import re
+import threading
+import time
 
 import pytest
 from staff_helpers import LEFT
@@ -123,6 +125,16 @@ def test_desk_that_has_nothing_or_does_not_answer_is_said(museum, reader):
     assert reader.go("1004/0") and reader.wait(others, "what the desk tells now, not minutes ago")
     museum.images.clear()
     assert reader.go("") and reader.load() and reader.text("#view") == "There is no disk of which you may see a file."
+
+def test_key_that_is_forgotten_leaves_nothing_that_was_asked_with_it_in_what_is_said_of_closed_files(reader):
+    """The list of the public comes two seconds late: till then the search of the staff could ask of its disks."""
+    is_forgotten = threading.Event()
+    after = {"/catalogue": lambda: is_forgotten.set() or time.sleep(2), "/images/1001/files/2": is_forgotten.wait}
+    assert reader.give(STAFF)["disks"] == ALL
+    reader.door.before = lambda method, path: [after.get(path, str)()] and None
+    assert reader.go("?q=disk")["disks"] == ALL and reader.push("Forget it")["disks"] == OPEN
+    closed = ["1 more file is closed to the public, name and all: takedown 1 of disk 1003 (T1003.1)."]
+    reader.wait(lambda state: reader.texts(".closed > a") == closed, "what is closed to the public")
 
 def test_key_has_a_list_of_files_of_its_own_and_is_left_nowhere_and_without_an_unknown_one_a_reader_goes_on(reader):
     assert reader.find("welcome")["disks"] == ["Disk 1001"]
