@@ -43,9 +43,11 @@ export async function checked(accession, section) {
   return shownAnew(section, finding(`Disk ${accession} is ${words} the SHA-256 that came with it.`, isBad));
 }
 
-// Checks all disks whose latest check is before a day, or that were never checked.
-async function checkAll(before, tools) {
-  const due = (await readHeld("checks")).filter(({ day }) => day === null || day < before);
+// Checks all disks whose latest check is before the day in the form, or that were never checked.
+async function checkAll(tools) {
+  await showChecks();
+  const before = formOf("checks").elements.before.value;
+  const due = held.checks.filter(({ day }) => day === null || day < before);
   const run = {
     section: "checks",
     items: due.map(({ accession }) => ({ accession, found: "" })),
@@ -112,8 +114,7 @@ export const open = showChecks;
 
 export function listen() {
   const form = formOf("checks");
-  const { before } = form.elements;
   showsAnew("checks", showChecks);
   limitFields(form);
-  form.addEventListener("submit", () => change("checks", (tools) => checkAll(before.value, tools)));
+  form.addEventListener("submit", () => change("checks", checkAll));
 }

@@ -19,9 +19,8 @@ let seen = { day: "", files: null };
 const SEARCHED = 15;
 
 async function read(day, tools) {
-  const asked = { day, words: onDay(day), rules: byWhichRules(day), moment: momentNow(), changeCount };
-  asked.isToday = day === today();
-  asked.name = asked.isToday ? day : `${day}-by-the-rules-of-${today()}`;
+  const asked = { day, words: onDay(day), rules: byWhichRules(day), moment: momentNow(), changeCount, on: today() };
+  asked.name = day === asked.on ? day : `${day}-by-the-rules-of-${asked.on}`;
   const [files, once] = [[], keeper()];
   const searchOf = keeper((kind) => keeper((name) => searchText(kind, name)));
   const searched = (record) => searchOf(record[COLUMNS.kind])(record[COLUMNS.name]);
@@ -119,13 +118,16 @@ async function look(tools) {
   return `Read: what everybody gets ${seen.words}.`;
 }
 
-// Opens the view with the day that is shown. What stood before a change goes, and so does a today that is over: the
-// desk is asked anew.
+// Opens the view with the day that is shown, unless that was a today that is over. What was asked before a change or on
+// another day goes: the desk is asked anew.
 export function open(_, tools) {
-  const [{ day }, isOver] = [formOf("eyes").elements, seen.isToday && seen.day !== today()];
+  const [{ day }, isOver] = [formOf("eyes").elements, seen.on !== today()];
   day.defaultValue = today();
   if (!seen.day) return null;
-  if (!isOver && day.value !== seen.day) day.value = seen.day;
+  const typed = day.validity.valid ? day.value : today();
+  const shown = isOver && seen.day === seen.on ? typed : seen.day;
+  if (day.value !== shown) day.value = shown;
+  day.setCustomValidity("");
   if (!isOver && seen.changeCount === changeCount) return null;
   seen = { ...seen, files: null };
   part("eyes").querySelector(".stands").replaceChildren();

@@ -78,7 +78,7 @@ def test_table_has_the_day_of_its_field_and_is_asked_anew_once_something_was_cha
         assert staff.one("#eyes [name=day]").get_property("value") == DAYS[1], "a table under the day of another"
         assert staff.one("#eyes .found").is_displayed() != is_lost, "what is not shown can be saved"
 
-def test_day_that_nobody_typed_is_today_also_where_a_page_stays_open_overnight(staff):
+def test_day_that_nobody_typed_is_today_also_where_a_page_stays_open_overnight(museum, staff):
     for first, view, button, words in (15, "eyes", "Look", "what everybody gets on "), (17, "timeline", "Look at", ""):
         staff.go(view)
         for day in (first, first + 1):
@@ -87,7 +87,12 @@ def test_day_that_nobody_typed_is_today_also_where_a_page_stays_open_overnight(s
     assert staff.go("eyes") and staff.texts("#eyes h2") == ["What the public gets on 2026-06-19"], "what stood days ago"
     assert look(staff, "2026-06-19") and staff.script(CLOCK % 86_400_000) is None
     assert staff.go("eyes") and "on 2026-06-19, by" in staff.push("Look")["result"][0], "not the day that was typed"
-    assert staff.go("checks") and staff.one("[name=before]").get_property("value") == "2025-06-20"
+    for day, due in (("2030-01-01", "2030-01-01, by the rules of 2026-06-21"), ("2026-06-21", "2026-06-22")):
+        assert look(staff, day) and staff.fill("eyes", day="2026-02-30").script(CLOCK % 86_400_000) is None
+        assert staff.go("eyes") and f"gets on {due}" in staff.text("#eyes h2"), "of an older day, or of none"
+    museum.latest |= dict.fromkeys(museum.images, ("2025-06-22", "sound"))
+    assert staff.go("checks") and staff.one("[name=before]").get_property("value") == "2025-06-22"
+    assert staff.script(CLOCK % 86_400_000) is None and "6 sound" in staff.push("Check all of these")["result"][0]
 
 def test_day_that_is_over_is_said_to_be_by_rules_of_today_and_a_saved_table_says_what_it_has(staff, tmp_path):
     (tmp_path / "about.csv").write_text("name,value\nmuseum,Museum of the River\n")
