@@ -69,7 +69,7 @@ export const askedWords = (at) =>
 
 // What is to be said of an address at which only this computer finds the page: the staff's own way, or a trial.
 const IS_OWN = ["127.0.0.1", "localhost", "[::1]"].includes(location.hostname);
-const ALONE = IS_OWN ? ", which leads there from the reader's own computer alone" : "";
+const ALONE = IS_OWN ? ", an address that works only on the computer where it was copied" : "";
 
 // How to cite a disk or a file of it: the museum, the title, where it is there, its digest, the address, and the day.
 export function citation(accession, kind, file = "", digest = "") {

@@ -94,7 +94,8 @@ def test_file_says_since_when_the_journal_has_no_change_that_can_concern_it_and_
     assert disk.go("disk/1002")["rows"][0][5] == READS + UNKNOWN
     museum.rules["R9"], gone = {}, by(120, f"Drop {BY_DEED}")
     assert disk.go("disk/1002")["rows"][0][7].endswith(f" no rule matches in the journal since {gone}")
-    assert all(one in disk.text("#disk .stands") for one in ("In the journal since: from then on it", "at midnight by"))
+    said = disk.text("#disk .stands")
+    assert "from then on it has no change of the disk" in said and "A day of a rule begins at midnight by" in said
 
 def test_files_ticked_by_their_shown_names_are_taken_down_and_what_stands_after_a_failure_is_said(museum, disk):
     museums.put_files(museum, 1002, "d64", 9, [("%CCETTER", "SEQ", b"A"), ("-", "DEL", None), ("GUIDE", "SEQ", b"A")])

@@ -205,7 +205,8 @@ def test_file_says_what_is_known_of_it_and_how_to_cite_it(reader):
     disk = "“Disk 2001”, floppy disk (Commodore 1541), accession number 2001"
     file = f"“HELLO”, PRG file, {len(BASIC)} bytes, slot 0, on {disk}. SHA-256 {digest(BASIC)}"
     cite, link = "%s. {} (accessed 15 June 2026).", ("2001/0", "Copy link", "{}")
-    for at, more in ("localhost", ", which leads there from the reader's own computer alone"), ("desk.localhost", ""):
+    alone = ", an address that works only on the computer where it was copied"
+    for at, more in ("localhost", alone), ("desk.localhost", ""):
         reader.driver.get(address := reader.door.address.replace("127.0.0.1", at))
         for place, name, words in (("2001", "Cite", cite % disk), link, ("2001/0", "Cite", cite % file)):
             assert reader.go(place) and reader.push(name)
@@ -263,7 +264,7 @@ def test_zip_has_all_files_that_may_be_read_by_harmless_names_and_says_what_it_i
     assert [row[2] for row in rows[1:-2]] == [name if name[0] != "=" else f"'{name}" for name, _ in GIVEN]
     assert all(row[8] and row[8] in about.replace("\n", " ") for row in rows[-2:]), "what it lacks is not in the table"
     zip_says(reader, "Saved: 8 files.")
-    for words in (f"number 2001. {reader.door.address}#/2001, wh", "desk on 15 June 2026 at [0-9:]+ .* without a key.",
+    for words in (f"number 2001. {reader.door.address}#/2001, an ", "desk on 15 June 2026 at [0-9:]+ .* without a key.",
                   "had come by 15 June .*[.]\n", "zip: 8 files, .*\nfiles/HELLO.prg: HELLO, slot 0, rule 20 of deed 9 ",
                   "zip: 0 files[.]\n\n1 more file is closed to the public, .*: takedown 1 of disk 2001 .T2001.1.[.]"):
         assert re.search(words, about), (words, about)
@@ -285,7 +286,8 @@ def test_zip_asks_in_a_pace_again_after_429_and_leaves_out_what_was_closed_meanw
     words = "You may not read this file. Ask the staff, who know why. Rule: T2001.1, takedown 1 of disk 2001."
     assert rows[4] == ["3", "", HARMFUL[0], HARMFUL[0], "USR", "", "", "", words]
     left = f"TOUR, slot 2: a file of records, which the desk cannot give out\n{HARMFUL[0]}, slot 3: {words}\n"
-    assert f"2 files.\n{left}\nThe desk tells of no other file that is closed.\n" in about
+    end = "This text does not say what was open or closed at any other time.\n"
+    assert f"2 files.\n{left}\nThe desk tells of no other file that is closed.\n{end}" in about
     assert made.namelist()[:3] == ["files/HELLO.prg", "files/LETTER.seq", "files/_CON.usr"]
 
 @pytest.mark.parametrize("at, then, words", ids=["lost", "stopped", "another key", "late"], argvalues=[

@@ -48,7 +48,7 @@ def test_rank_in_use_is_said_to_be_replaced_and_another_comes_after_it_where_non
     shown = takedowns.take_down("1005", "1", "2", *BOTH)
     words = f"In use: takedown 1 of disk 1005 stands, {HIDDEN.format(0)} What you put replaces it."
     assert (shown["hint"], shown["sure"][2:]) == (words, [words, NOW, *TURNS])
-    takedowns.answer(False)
+    assert shown["sure"][0] == "Replace takedown 1 of disk 1005?" and takedowns.answer(False)
     shown = takedowns.take_down("1005", "", "2", *BOTH)
     words = "No rank is free before all others. Rank 2: after takedown 1 of disk 1005."
     assert (shown["hint"], shown["sure"][2:]) == (words, [words, NOW, *TURNS[2:]])
