@@ -13,8 +13,8 @@ const DIRECTORIES = { end: "it ends well", loop: "it leads back into itself", of
 
 // What a check has found: a warning where a disk is changed.
 function finding(text, isBad) {
-  if (!isBad) return dated("p", text, { className: "callout" });
-  return dated("p", `${text} Restore a backup of what is changed.`, { className: "refused" });
+  const more = isBad ? " Restore a backup of what is changed." : "";
+  return dated("p", `${text}${more}`, { className: isBad ? "refused" : "callout" });
 }
 
 export function surveyed(survey, more = {}) {

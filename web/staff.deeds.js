@@ -27,8 +27,7 @@ function changeDeed({ deed, donor, signed }) {
   const form = formOf("deeds").cloneNode(true);
   limitFields(form);
   Object.assign(form.elements.deed, { value: deed, readOnly: true });
-  form.elements.donor.value = donor;
-  form.elements.signed.value = signed;
+  [form.elements.donor.value, form.elements.signed.value] = [donor, signed];
   showChange(`Change deed ${deed}`, form, () => change("deeds", () => put(String(deed), bodyOf(form.elements))));
 }
 
@@ -55,11 +54,9 @@ function deedRow(one) {
 export async function showDeeds() {
   await readHeld("deeds");
   const count = element("p", held.deeds.length ? `${counted(held.deeds.length, "deed")}.` : "There is no deed.");
-  const columns = {
-    ...{ Deed: ({ deed }) => deed, Donor: ({ donor }) => donor, "Signed on": ({ signed }) => signed },
-    Disks: ({ accessions }) => accessions,
-    ...{ Rules: ({ rules }) => rules.map((rule) => ruleWords(rule)).join("; "), "": null },
-  };
+  const columns = { Deed: ({ deed }) => deed, Donor: ({ donor }) => donor, "Signed on": ({ signed }) => signed };
+  const rulesOf = ({ rules }) => rules.map((rule) => ruleWords(rule)).join("; ");
+  Object.assign(columns, { Disks: ({ accessions }) => accessions, Rules: rulesOf, "": null });
   const made = held.deeds.length ? [listTable("deeds that stand", columns, held.deeds, deedRow)] : [];
   part("deeds").querySelector(".stands").replaceChildren(count, ...made);
 }

@@ -135,9 +135,7 @@ export const diskCell = (accession, column = "Disk") =>
 const shows = {};
 const progresses = {};
 
-export function showsAnew(name, show_) {
-  shows[name] = show_;
-}
+export const showsAnew = (name, show_) => (shows[name] = show_);
 
 const again = async (name) => shows[name]?.({ progress: progresses[name] });
 

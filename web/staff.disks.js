@@ -98,11 +98,7 @@ async function chooseFiles({ files }, tools) {
   return fault || [`${counted(made.length, "file")} chosen.`, ...sheetWords()].join(" ");
 }
 
-function bytesOf(file) {
-  return file.arrayBuffer().catch(() => {
-    throw new Refused("file", {});
-  });
-}
+const bytesOf = (file) => file.arrayBuffer().catch(() => Promise.reject(new Refused("file", {})));
 
 async function readFile(dump) {
   try {

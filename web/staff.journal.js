@@ -12,10 +12,8 @@ import { withTitle } from "./titles.js";
 
 export const COLUMNS = ["When", "Who", "What", "Outcome", "Reason"];
 
-const BOUND = [
-  `the last ${PIECE >> 20} MB first and as much at each press; then each month of the last ${MONTHS / 12} years`,
-  `until it holds ${grouped(MOST)} changes`,
-].join(", ");
+const BOUND = `the last ${PIECE >> 20} MB first and as much at each press; then each month of the last ${MONTHS / 12} \
+years, until it holds ${grouped(MOST)} changes`;
 
 // What was read so far, when its newest lines were, and the changes of it from the newest on.
 let lines = new Lines();

@@ -59,9 +59,7 @@ export function fillRule(form, rule) {
   how.value = way;
   chooseWay(form.elements);
   if (SELECTORS[way].field !== undefined) what.value = String(value);
-  effect.value = rule.effect;
-  from.value = rule.from ?? "";
-  until.value = rule.until ?? "";
+  [effect.value, from.value, until.value] = [rule.effect, rule.from ?? "", rule.until ?? ""];
   needAudience(form);
 }
 

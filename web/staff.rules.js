@@ -89,8 +89,7 @@ async function drop(name, scope, rule, tools) {
 function changeRule(name, scope, rule) {
   const form = element("form", null, { autocomplete: "off", method: "dialog" });
   makeRuleForm(name, form);
-  form.elements.rank.value = rule.rank;
-  form.elements.rank.readOnly = true;
+  Object.assign(form.elements.rank, { value: rule.rank, readOnly: true });
   fillRule(form, rule);
   const use = () => change(name, (tools) => put(name, [scope], String(rule.rank), ruleIn(form), tools));
   showChange(`Change ${RULES[name].words(scope, rule.rank)}`, form, use);
@@ -120,10 +119,8 @@ function draw(name) {
   const where = typed === "" ? "" : ` of ${things}${scopes.size > 1 ? "s" : ""} ${typed}`;
   const count = element("p", shown.length ? `${counted(shown.length, word)}${where}.` : `There is no ${word}${where}.`);
   const textOf = (column) => [column, (one) => ruleTexts(one.rule)[column]];
-  const columns = {
-    ...{ [of]: ({ scope: number }) => number, Rank: ({ rule }) => rule.rank },
-    ...{ ...Object.fromEntries(["For whom", "Which files", "They may", "Days"].map(textOf)), "": null },
-  };
+  const columns = { [of]: ({ scope: number }) => number, Rank: ({ rule }) => rule.rank };
+  Object.assign(columns, Object.fromEntries(["For whom", "Which files", "They may", "Days"].map(textOf)), { "": null });
   const made = shown.length ? [listTable(`${word}s that stand`, columns, shown, (one) => ruleRow(name, one))] : [];
   part(name).querySelector(".stands").replaceChildren(count, ...made);
 }
