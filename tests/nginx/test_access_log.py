@@ -161,8 +161,7 @@ LIKE_KEYS = [before + number for before in BEFORE for number in (NUMBER, CODED, 
 # Requests for these, and lines that are no request, or one of a method that nobody has.
 LINES = {"of keys": [f"{method} {target} HTTP/1.1" for target in OF_KEYS for method in ("GET", "DELETE")],
     "like keys": [f"GET {target} HTTP/1.1" for target in LIKE_KEYS],
-    "no requests": [
-        NUMBER, KEY_PATH, f" {KEY_PATH} HTTP/1.1", f"get {KEY_PATH} HTTP/1.1", f"PUT\t{KEY_PATH} HTTP/1.1",
+    "no requests": [NUMBER, KEY_PATH, f" {KEY_PATH} HTTP/1.1", f"get {KEY_PATH} HTTP/1.1", f"PUT\t{KEY_PATH} HTTP/1.1",
         f"P-UT {KEY_PATH} HTTP/1.1", f"GET  {KEY_PATH} HTTP/1.1", f"GET {KEY_PATH}", f"GET {KEY_PATH} HTTP/9.9",
         f"GET {KEY_PATH}{'/' * 9000} HTTP/1.1", f"{'A' * 3000} {KEY_PATH} HTTP/1.1", f"\x16\x03 {KEY_PATH}"]}
 # Each half of the number, in small and capital letters and in codes.

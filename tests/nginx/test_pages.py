@@ -35,8 +35,7 @@ def effects(room, number):
 
 @pytest.mark.parametrize("key, disks", [(PUBLIC, OPEN), (STAFF, OPEN | {"Disk 12"})])
 def test_reader_sees_the_disks_of_their_audience(reader, key, disks):
-    reader.give(key)
-    assert {*reader.go("")["disks"]} - {"Disk 39"} == disks
+    assert reader.give(key) and {*reader.go("")["disks"]} - {"Disk 39"} == disks
 
 def test_reader_finds_reads_and_downloads_a_file(reader):
     assert reader.find("hello")["matches"] and reader.go("15/0")["heading"] == "HELLO.TXT"
@@ -63,11 +62,9 @@ def test_desk_that_is_down_is_said(room, reader):
     assert reader.load()["disks"]
 
 def test_staff_puts_a_deed_a_rule_and_a_disk(room, staffs, tmp_path):
-    staffs.go("deeds")
-    staffs.fill("deeds", deed="39", donor="K. Keeper", signed="2001-02-03")
+    assert staffs.go("deeds") and staffs.fill("deeds", deed="39", donor="K. Keeper", signed="2001-02-03")
     assert staffs.submit("deeds")["result"] == ["Put: deed 39."]
-    staffs.go("rules/39")
-    staffs.put_rule("rules", "39", "20", "all", None, "public", effect="read")
+    assert staffs.go("rules/39") and staffs.put_rule("rules", "39", "20", "all", None, "public", effect="read")
     assert staffs.answer(True)["result"] == ["Put: rule 20 of deed 39."]
     (tmp_path / "new.img").write_bytes(bytes_of("images", "damaged.img"))
     staffs.go("disks")
@@ -75,23 +72,18 @@ def test_staff_puts_a_deed_a_rule_and_a_disk(room, staffs, tmp_path):
     staffs.read(lambda state: state["list"])
     for label in ("Accession of new.img", "Deed of new.img"):
         staffs.set(f"[aria-label='{label}']", "39")
-    staffs.submit("disks")
-    staffs.answer(True)
-    assert effects(room, 39) == ["read"] * 4
+    assert staffs.submit("disks") and staffs.answer(True) and effects(room, 39) == ["read"] * 4
 
 def test_staff_rehearses_puts_and_ends_a_takedown(room, staffs):
     staffs.go("takedowns")
     assert "GUIDE (disk 16, slot 2)" in staffs.take_down("16", "", "2", "public", "room")["sure"]
-    staffs.answer(True)
-    assert effects(room, 16) == ["read"] * 2
+    assert staffs.answer(True) and effects(room, 16) == ["read"] * 2
     staffs.of_row("takedown 1000 of disk 16", "Drop")
     assert staffs.answer(True)["result"] == ["Done: there is no takedown 1000 of disk 16 now."]
     assert effects(room, 16) == ["read"] * 3
 
 def test_journal_shows_who_changed_what_and_why(room, staffs):
     room.ask_desk(put_rule("/images/17/rules/7", "list", EVERY, "public"))
-    staffs.go("takedowns")
-    staffs.of_row("takedown 7 of disk 17", "Drop")
-    staffs.answer(True)
+    assert staffs.go("takedowns") and staffs.of_row("takedown 7 of disk 17", "Drop") and staffs.answer(True)
     row = staffs.go("journal")["rows"][0]
     assert row[1:5] == ["Ada Archivist", "Drop takedown 7 of disk 17", "done", "a letter of today"]

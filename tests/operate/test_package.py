@@ -57,8 +57,7 @@ def test_package_has_each_file_starts_each_timer_and_reports_its_failure(package
         assert "\nOnFailure=desk-alarm@%n.service\n" in unit.with_suffix(".service").read_text(), unit.name
 
 # Commands in a folder of their own, and what they write.
-PARTS = {
-    "a line of the journal is on the disk before the command is done, for its folder has the attribute S": (
+PARTS = {"a line of the journal is on the disk before the command is done, for its folder has the attribute S": (
         "mkdir -p etc run var/lib var/log var/backups; printf '%s:x:%s::/:/bin/sh\n' root 0: www-data 33: desk 990: "
         ">etc/passwd; sed 's/:[^:]*:[^:]*$/:/' etc/passwd >etc/group; systemd-tmpfiles --root=$PWD --create "
         "$package/tmpfiles.conf; lsattr -d var/log/desk | grep -c '^[^ ]*S'", "1\n"),

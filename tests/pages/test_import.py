@@ -96,8 +96,7 @@ def test_dumps_are_described_and_numbered_by_hand(staff, choose):
     shown = choose({"one.d64": HELLO, "two <b>.d64": MARKED, "short.d64": bytes(100)})
     staff.type("Accession of one.d64", "3001")
     staff.type("Deed of one.d64", "9")
-    staff.push("Number the others from the first")
-    asked = staff.push("Put the disks")["sure"]
+    asked = staff.push("Number the others from the first") and staff.push("Put the disks")["sure"]
     assert asked, "a disk goes out without a question"
     assert shown["list"] == [["one.d64 Map", "174,848", "Commodore 1541", digest(HELLO), "", "", ""],
         ["two <b>.d64 Map", "175,531", "Commodore 1541 with error bytes", digest(MARKED), "", "", ""],
@@ -119,13 +118,11 @@ def test_dumps_are_described_and_numbered_by_hand(staff, choose):
 def test_map_shows_each_sector_the_chosen_file_and_faults(staff, choose):
     choose({"damaged.d64": samples.bytes_of("images", "damaged.d64"), "plain.img": WELCOME})
     for name, count in (("plain.img", 77 * 26), ("damaged.d64", 683)):
-        staff.push(f"Map of {name}")
-        assert len(staff.texts("#disks .map path")) == count
+        assert staff.push(f"Map of {name}") and len(staff.texts("#disks .map path")) == count
     assert (staff.text("figcaption"), len(staff.texts(".map .fault"))) == ("2 files, 1 of them damaged.", 2)
     fault = "LOGBOOK: 4 blocks. read-error (the drive could not read a block of it)."
     for button, words, count in (("INDEX SEQ", "INDEX: 1 block. No fault.", 1), ("LOGBOOK SEQ, damaged", fault, 4)):
-        staff.push(button)
-        assert (staff.text("figcaption"), len(staff.texts(".map .chosen"))) == (words, count)
+        assert staff.push(button) and (staff.text("figcaption"), len(staff.texts(".map .chosen"))) == (words, count)
 
 # A script: what the page reads on the dump beside it, and what it foretells of its files.
 FORETOLD = """const [kind, rules, day, done] = arguments;

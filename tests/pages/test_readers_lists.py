@@ -16,8 +16,7 @@ IN_SIGHT = """return Array.from(document.querySelectorAll(`#view ${arguments[0]}
   .find((one) => one.getBoundingClientRect().top > 100) ?? null"""
 KINDS = {"d64": "Commodore 1541", "cpm8": "CP/M, 8 inches"}
 # A script: whether what shows the list of disks keeps it once and no more of a disk than it needs.
-LEAN = """return import("/room.lists.js").then(async ({ allDisks, found, known }) => {
-  const disks = await allDisks();
+LEAN = """return import("/room.lists.js").then(async ({ allDisks, found, known }) => { const disks = await allDisks();
   return [known(disks) === disks && (await found(disks, null, {})).hits === disks, Object.keys(disks[0])];
 });"""
 
@@ -71,8 +70,7 @@ def test_back_leads_to_the_same_place(reader, place, links):
     link = wait_for("a link in sight", lambda: reader.script(IN_SIGHT, links))
     name, before = link.text, reader.script("return window.scrollY")
     link.click()
-    reader.read(lambda state: state["heading"] == name)
-    assert reader.script("return window.scrollY") == 0
+    assert reader.read(lambda state: state["heading"] == name) and reader.script("return window.scrollY") == 0
     reader.driver.back()
     reader.read(lambda state: state["heading"] == heading and state["disks"])
     wait_for("the link by which the reader left with the focus", lambda: reader.focused() == name)

@@ -175,8 +175,7 @@ def test_screen_has_the_colours_and_places_of_its_text(reader):
 
 # A script: whether a directory stands on its screen as a text does on that of a C64. Dots of a terminal are two high.
 ALIKE = """const [disk, text] = arguments;
-const dots = (canvas) => {
-  const [margin, tall] = canvas.width === 352 ? [16, 1] : [12, 2];
+const dots = (canvas) => { const [margin, tall] = canvas.width === 352 ? [16, 1] : [12, 2];
   const { data } = canvas.getContext("2d").getImageData(margin, margin, 320, 128 * tall);
   const dots = new Uint32Array(data.buffer).filter((_, at) => Math.floor(at / 320) % tall === 0);
   return dots.map((dot) => dots.indexOf(dot)).join();
@@ -197,8 +196,7 @@ def test_directory_stands_on_the_screen_of_its_machine(reader, kind, files, text
     assert reader.script(ALIKE, {"kind": kind, "accession": 7, "files": files}, list(text))
 
 def test_file_says_what_is_known_of_it_and_how_to_cite_it(reader):
-    reader.go("2001/0")
-    assert dict(zip(reader.texts("dt"), reader.texts("dd"))) == {
+    assert reader.go("2001/0") and dict(zip(reader.texts("dt"), reader.texts("dd"))) == {
         "Disk": "Disk 2001", "Place": "file 1 of 9 on its list, at slot 0 of the directory",
         "Type": "PRG, a BASIC program, of Commodore 1541", "Size": f"{len(BASIC)} bytes, 1 block",
         "Load address": "2049 ($0801)", "SHA-256": digest(BASIC), "Open by": "rule 20 of deed 9 (R9.20)"}
@@ -245,8 +243,7 @@ def zip_says(reader, words):
 
 def zipped(reader):
     """The zip of disk 2001, the rows of its list, and what it says of itself."""
-    reader.go("2001")
-    reader.named("button", "as a zip").click()
+    assert reader.go("2001") and reader.named("button", "as a zip").click() is None
     made = zipfile.ZipFile(io.BytesIO(reader.saved("disk-2001-asked-2026-06-15T12*Z.zip")))
     assert made.testzip() is None
     return made, list(csv.reader(made.read("list.csv").decode().splitlines())), made.read("about.txt").decode()

@@ -74,8 +74,7 @@ def test_days_to_come_of_an_embargo(staff):
     shown = staff.put_rule("rules", "9", "10", "type", "TXT", "public", **days)
     last = "On 2100-02-28, its last day", "The same as on the day above.", "On 2100-03-01, the first day without it"
     assert shown["sure"][2:] == [NOW, NOTHING, "On 2090-03-01, its first day", *closes, *last, NOTHING]
-    staff.answer(True)
-    staff.of_row("rule 10 of deed 9", "Change")
+    assert staff.answer(True) and staff.of_row("rule 10 of deed 9", "Change")
     shown = staff.fill("change", until="").push("Put it")
     assert shown["sure"][2].endswith("from 2090-03-01, until 2100-03-01. What you put replaces it.")
     first = ["On 2090-03-01, its first day", NOTHING, "On 2100-02-28", NOTHING]

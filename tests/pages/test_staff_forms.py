@@ -36,8 +36,7 @@ def test_key_is_left_nowhere_and_is_gone_with_what_was_put(museum, staff, leave)
     assert (shown["rows"], "Giver" in staff.script(LEFT), staff.script(ASK)) == ([], False, 403)
 
 def test_key_that_is_put_stands_in_no_field_and_no_text(staff):
-    staff.go("keys")
-    staff.fill("keys", key=" a secret\t", audience="room", seen=True).submit("keys")
+    assert staff.go("keys") and staff.fill("keys", key=" a secret\t", audience="room", seen=True).submit("keys")
     assert ("a secret" in staff.script(LEFT), staff.one("#keys [name=key]").get_property("type")) == (False, "password")
     assert [path for _, path, _, _ in staff.door.sent()] == [f"/badges/{digest(b'a secret')}"]
 
@@ -55,8 +54,7 @@ def test_fields_take_what_the_desk_takes(staff):
             staff.fill("rules", how=section)
             section = "rules"
         assert staff.script(TAKES, staff.one(f"#{section} [name={name}]"), [*right, *wrong]) == right, (section, name)
-    staff.fill("rules", how="all")
-    assert not staff.one("#rules .what").is_displayed()
+    assert staff.fill("rules", how="all") and not staff.one("#rules .what").is_displayed()
     assert not staff.script("return document.querySelector('#rules [name=audiences]').validity.valid")
     options = "return Array.from(document.querySelectorAll('#takedowns [name=effect] option'), (one) => one.value)"
     assert staff.go("takedowns") and staff.script(options) == ["", "list", "deny"]

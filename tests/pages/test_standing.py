@@ -45,12 +45,10 @@ def test_rule_is_put_changed_and_dropped(staff):
     assert (shown["result"], shown["rows"]) == (["Put: rule 20 of deed 8."], [["8", *RULE_20]])
     assert shown["hint"].startswith("In use: rule 20 of deed 8 stands, all files readable for")
     staff.of_row("rule 20 of deed 8", "Change")
-    staff.fill("change", effect="list", until="2099-01-01").push("Put it")
-    shown = staff.answer(True)
+    shown = staff.fill("change", effect="list", until="2099-01-01").push("Put it") and staff.answer(True)
     changed = ["8", "20", EVERYBODY, "all files", "see their names, not read them", "until 2099-01-01", "ChangeDrop"]
     assert (shown["result"], *shown["rows"], shown["focus"]) == (["Replaced: rule 20 of deed 8."], changed, "result")
-    staff.of_row("rule 20 of deed 8", "Drop")
-    shown = staff.answer(True)
+    shown = staff.of_row("rule 20 of deed 8", "Drop") and staff.answer(True)
     assert shown["result"] == ["Done: there is no rule 20 of deed 8 now."]
     assert (shown["stands"], shown["rows"]) == (["There is no rule of deed 8."], [])
 
@@ -66,8 +64,7 @@ def test_rules_that_are_put_again_stay_as_they_were(museum, staff):
     for rank, (select, _) in enumerate(ways, 1):
         staff.of_row(f"rule {rank} of deed 9", "Change")
         assert [staff.one("#change [name=what]").get_property("value")] == [str(what) for what in select.values()]
-        staff.push("Put it")
-        staff.answer(True)
+        assert staff.push("Put it") and staff.answer(True)
     assert [path for _, path, _, _ in staff.door.sent()] == [f"/deeds/9/rules/{rank}" for rank in range(1, 6)]
     assert museum.shown_rules("R9") == before
 

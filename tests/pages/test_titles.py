@@ -41,8 +41,7 @@ def test_titles_for_the_staff_go_before_those_for_all(staff):
     assert [row[0] for row in staff.go("checks")["rows"]] == wanted
     hint = "“Letters (the ferry company asks for care)”. Rank 1000: it is the first takedown of disk 1001."
     assert staff.go("takedowns/1001")["hint"] == hint
-    staff.go("eyes")
-    staff.push("Look")
+    assert staff.go("eyes") and staff.push("Look")
     for words, disks in (("company", [mine] * 2), ("ferryman", [])):
         assert [row[0] for row in staff.fill("eyes", words=words, closed=True).read()["rows"]] == disks
 

@@ -27,8 +27,7 @@ NO_JOURNAL = "what stood then is not known: there is no journal"
 SINCE = "What has changed since then is not known: there is no journal."
 
 def look(staff, day, audience="public", closed=False, words=""):
-    staff.go("eyes")
-    staff.fill("eyes", day=day, audience=audience).push("Look")
+    assert staff.go("eyes") and staff.fill("eyes", day=day, audience=audience).push("Look")
     return staff.fill("eyes", closed=closed, words=words).read()
 
 @pytest.mark.parametrize("day", ["2026-06-14", "2030-01-01"])
@@ -69,8 +68,7 @@ def test_table_has_the_day_of_its_field_and_is_asked_anew_once_something_was_cha
     for rank, count, is_lost in ((None, 2, False), ("1", 1, False), ("2", 0, True)):
         staff.fill("eyes", day=TODAY).go("takedowns")
         if rank:
-            staff.take_down("1002", rank, "2", "room")
-            staff.answer(True)
+            assert staff.take_down("1002", rank, "2", "room") and staff.answer(True)
         staff.door.visits.clear()
         assert staff.script(LATE * is_lost) is None and staff.fill("eyes", closed=True)
         assert [row[5] for row in staff.go("eyes")["rows"]].count("read it") == count, "it stood before a change"
@@ -96,8 +94,7 @@ def test_day_that_nobody_typed_is_today_also_where_a_page_stays_open_overnight(m
 
 def test_day_that_is_over_is_said_to_be_by_rules_of_today_and_a_saved_table_says_what_it_has(staff, tmp_path):
     (tmp_path / "about.csv").write_text("name,value\nmuseum,Museum of the River\n")
-    staff.load()
-    staff.begin()
+    assert staff.load() and staff.begin()
     for words, count, left in (("1004", 0, 2), ("logbook", 1, 1)):
         shown = look(staff, "1999-01-01", words=words)["stands"][1].removeprefix("Shown: ")
         only = count * ", only of disk 1003, which has 2"
