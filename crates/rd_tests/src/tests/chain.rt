@@ -22,13 +22,13 @@ const CHANGES: [(&str, Option<OpenFault>); 9] = [
         Some(OpenFault::Broken),
     ),
     (
-        "UPDATE history SET sum = zeroblob(32) WHERE seq = 3",
+        "UPDATE history SET sum = X'00' WHERE seq = 3",
         Some(OpenFault::Broken),
     ),
     ("UPDATE history SET seq = seq + 10", Some(OpenFault::Broken)),
     ("DELETE FROM history WHERE seq = 2", Some(OpenFault::Broken)),
     (
-        "INSERT INTO history VALUES (0, 'zeroth', zeroblob(32))",
+        "INSERT INTO history VALUES (0, 'zeroth', X'00')",
         Some(OpenFault::Broken),
     ),
     ("DELETE FROM history WHERE seq = 3", None),
