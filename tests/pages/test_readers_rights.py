@@ -132,9 +132,9 @@ def test_key_that_is_forgotten_leaves_nothing_that_was_asked_with_it_in_what_is_
     after = {"/catalogue": lambda: is_forgotten.set() or time.sleep(2), "/images/1001/files/2": is_forgotten.wait}
     assert reader.give(STAFF)["disks"] == ALL
     reader.door.before = lambda method, path: [after.get(path, str)()] and None
-    assert reader.go("?q=disk")["disks"] == ALL and reader.push("Forget it")["disks"] == OPEN
+    assert reader.find("disk")["disks"] == ALL and reader.click("#caller") and reader.push("Forget it")["disks"] == OPEN
     closed = ["1 more file is closed to the public, name and all: takedown 1 of disk 1003 (T1003.1)."]
-    reader.wait(lambda state: reader.texts(".closed > a") == closed, "what is closed to the public")
+    reader.wait(lambda state: reader.texts("p.closed > a") == closed, "what is closed to the public")
 
 def test_key_has_a_list_of_files_of_its_own_and_is_left_nowhere_and_without_an_unknown_one_a_reader_goes_on(reader):
     assert reader.find("welcome")["disks"] == ["Disk 1001"]
