@@ -1,6 +1,6 @@
 //! The tables of the desk as SQL sees them: how they are declared, what each statement and query
 //! on them means, and what such a change or question comes to where the rows of a table spell a
-//! finite map. Only `rd_store` uses it.
+//! finite map; and what calls do to a connection, whatever its tables are.
 #![tactic(auto)]
 
 mod desk;
