@@ -101,7 +101,7 @@ function rulesTable(rules) {
 
 // The latest changes of the disk and its deed, as far as the journal was read.
 function journalParts({ accession, deed }, changes) {
-  const link = element("a", `All changes of disk ${accession} and its deed`, { href: `#/journal/${accession}` });
+  const link = element("a", `Changes of disk ${accession} and its deed`, { href: `#/journal/${accession}` });
   const of = { deed: String(deed), names: shown.names };
   const rows = changes.slice(0, MOST_CHANGES).map((one) => changeRow(one, of));
   const why = shown.none ?? "the journal is not read yet";
