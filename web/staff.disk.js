@@ -10,7 +10,7 @@ import { freeRank } from "./staff.ranks.js";
 import { rehearsalDays, rehearsed, saveFirst } from "./staff.rehearsal.js";
 import { makeRuleForm, ruleIn } from "./staff.ruleform.js";
 import { putMany } from "./staff.rules.js";
-import { saveTable } from "./staff.saved.js";
+import { ANY_NAME, saveTable } from "./staff.saved.js";
 import { COLUMNS, EFFECT_AT, SAVED_HEADS, UNSAID, askedWords, byWhichRules, effectOf } from "./staff.verdicts.js";
 import { mayWords, nameOf, namesOf, ruleShown, savedVerdict, verdictsOf } from "./staff.verdicts.js";
 import { AUDIENCES, PUT, RULES, UNREAD, listed, momentNow, ruleTexts, ruleWords, today } from "./staff.words.js";
@@ -151,8 +151,8 @@ function saveDisk(disk, more = "") {
   };
   const { accession, deed, donor, signed } = survey;
   const whose = `under deed ${deed} of ${donor}, signed on ${signed}; taken in: ${things[0].origin}`;
-  const all = `It has all ${counted(files.length, "file")}. ${askedWords(asked)}${more} ${SINCE} ${DAYS} ${UNSAID}`;
-  const about = `Who gets what of disk ${accession}, ${whose}. ${all}`;
+  const all = `It has all ${counted(files.length, "file")}. ${askedWords(asked)}${more}`;
+  const about = `Who gets what of disk ${accession}, ${whose}. ${all} ${SINCE} ${DAYS} ${ANY_NAME} ${UNSAID}`;
   const heads = [...SAVED_HEADS, "what the rule says", PUT.toLowerCase(), "since when"];
   return saveTable(`disk-${accession}-${asked.day}-asked`, asked.moment, about, heads, everyVerdict(disk), rowOf);
 }

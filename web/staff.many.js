@@ -2,7 +2,7 @@
 import { longTable } from "./lists.js";
 import { Refused, box, cell, counted, element, explainRefusal, refusalName, row } from "./shared.js";
 import { button, change, diskCell, isUnsure, keepReason, older, whoNow } from "./staff.desk.js";
-import { saveTable } from "./staff.saved.js";
+import { ANY_NAME, saveTable } from "./staff.saved.js";
 import { momentNow } from "./staff.words.js";
 
 const DONE = "done";
@@ -69,9 +69,10 @@ function report(run, isOlder) {
   return box("div", "report", summary(run), table, more, buttons, isOlder ? older(run.section) : null);
 }
 
-function saveReport({ section, of = section, begun, items, heads, cells }) {
+function saveReport({ section, of = section, begun, word, items, heads, cells }) {
   const columns = [...heads.map((head) => head.toLowerCase()), "outcome", "by", "reason", "tried at"];
   const recordOf = (item) => [...cells(item), outcomeOf(item) || "not sent", ...(item.who ?? ["", "", ""])];
-  const about = "What was to be sent, and what became of it. It does not say what stands since.";
+  const [what, each] = word === "takedown" ? ["Takedowns that were to be put", "each"] : ["What was to be sent", "it"];
+  const about = `${what}, and what became of ${each}. It does not say what stands since. ${ANY_NAME}`;
   return saveTable(`${of}-report-of`, begun, about, columns, items, recordOf);
 }

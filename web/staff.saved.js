@@ -4,6 +4,9 @@ import { holder } from "./about.js";
 import { csvText } from "./csv.js";
 import { inParts, save } from "./stream.js";
 
+// What a table says that has names.
+export const ANY_NAME = "Whoever has a key of the staff can write any name.";
+
 export async function saveTable(name, moment, about, heads, items, recordOf) {
   const said = [holder() || "(the museum's name was not found)", about];
   const texts = [csvText([["museum", "this table", ...heads], ...(items.length ? [] : [said])])];

@@ -115,7 +115,7 @@ def test_files_ticked_by_their_shown_names_are_taken_down_and_what_stands_after_
     assert disk.set("#ticked [value=room]", True) or disk.push("Take down what is ticked")
     museum.rules["T1002"] = takedown(7, 2)
     _, *saved = saved_table(disk, f"disk-1002-{TODAY}-asked", "Save what stands now, first")
-    assert str(saved).count("'read it'") == 4, "what is saved stood when the page was opened"
+    assert [str(saved).count(one) for one in ("'read it'", "write any name.")] == [4, 9], "what stood at the opening"
     assert f"It is what stood before an answer to: “{due.format(' and the reading room')}”" in saved[0][1]
     assert disk.text("#sure [role=status]").startswith(f"Saved: disk-1002-{TODAY}-asked-{TODAY}T12")
     del museum.rules["T1002"][7]
@@ -130,7 +130,7 @@ def test_files_ticked_by_their_shown_names_are_taken_down_and_what_stands_after_
     assert "Save the report" not in str(disk.go("disk/1003")["result"]) and disk.go("keys") and disk.go("disk/1002")
     due = [["1002", slot, name, rank, f"the file at slot {slot} {ALWAYS}", "done"] for name, rank, slot in rules]
     _, *rows = saved_table(disk, "disk-1002-report-of", "Save the report")
-    assert [row[2:8] for row in rows] == due, "a report says not what was put"
+    assert [row[2:8] for row in rows] == due and "of each. It does not say what stands since. Whoever" in rows[0][1]
 
 def test_desk_of_an_older_version_tells_of_all_disks_and_no_more_of_them_is_read_than_needed(museum, disk):
     whole, no_route = museum.show_verdicts(None, TODAY).reply, refused(404, "no-route")
