@@ -154,7 +154,8 @@ function saveDisk(disk, more = "") {
   const all = `It has all ${counted(files.length, "file")}. ${askedWords(asked)}${more}`;
   const about = `Who gets what of disk ${accession}, ${whose}. ${all} ${SINCE} ${DAYS} ${ANY_NAME} ${UNSAID}`;
   const heads = [...SAVED_HEADS, "what the rule says", PUT.toLowerCase(), "since when"];
-  return saveTable(`disk-${accession}-${asked.day}-asked`, asked.moment, about, heads, everyVerdict(disk), rowOf);
+  const name = `disk-${accession}${more && "-before-a-change"}-${asked.day}-asked`;
+  return saveTable(name, asked.moment, about, heads, everyVerdict(disk), rowOf);
 }
 
 // Asks the desk for a disk, and saves what it says now, unless that is stopped.
