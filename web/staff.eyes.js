@@ -10,7 +10,7 @@ import { saveTable } from "./staff.saved.js";
 import { COLUMNS, EFFECT_AT, SAVED_HEADS, UNSAID, askedWords, byWhichRules, effectOf } from "./staff.verdicts.js";
 import { mayWords, onDay, readVerdicts, ruleShown, savedVerdict } from "./staff.verdicts.js";
 import { AUDIENCES, momentNow, today } from "./staff.words.js";
-import { inParts, keeper } from "./stream.js";
+import { inParts, keeper, pause } from "./stream.js";
 import { isTitled } from "./titles.js";
 
 // The verdicts of the day that was read last, by which rules and when they were asked, and what is known of a past day;
@@ -81,10 +81,12 @@ function fileRow(file, audience, asked) {
 // How often the files were drawn: what was asked for later goes before what has not come yet.
 let turn = 0;
 
-async function draw() {
+async function draw(wait) {
   const [mine, of, asked] = [++turn, seen, wanted()];
   const stands = part("eyes").querySelector(".stands");
   stands.setAttribute("aria-busy", "true");
+  if (wait) await pause(wait);
+  if (mine !== turn) return;
   const { files, counts, which } = await lookThrough(asked, of.files);
   if (mine !== turn) return;
   stands.setAttribute("aria-busy", "false");
@@ -141,12 +143,9 @@ export function listen() {
   limitFields(form);
   options(audience, AUDIENCES);
   form.addEventListener("submit", () => work("eyes", look));
-  const redraw = () => seen.files && draw();
-  [audience, closed, words].forEach((field) => field.addEventListener("change", redraw));
-  words.addEventListener("keydown", (event) => {
-    if (event.key !== "Enter") return;
-    event.preventDefault();
-    redraw();
-  });
+  // the table follows the typing, once nothing more was typed for 150 ms
+  const redraw = () => seen.files && draw(150);
+  [audience, closed, words].forEach((field) => field.addEventListener("input", redraw));
+  words.addEventListener("keydown", (event) => event.key === "Enter" && event.preventDefault());
   button.addEventListener("click", saveShown);
 }
