@@ -13,6 +13,7 @@ export const refusedWork = (fault) => refusal(fault, isUnsure(fault) ? AGAIN : "
 
 // How many bytes a name or a reason has at most where it is sent.
 const LONGEST_WORDS = 1000;
+export const ANY_NAME = "Whoever has a key of the staff can write any name.";
 
 export const formOf = (name) => part(name).querySelector("form");
 
@@ -103,7 +104,7 @@ export function dated(name, text, fields = {}) {
 
 export function button(words, press, fields = {}) {
   const made = element("button", words, { type: "button", ...fields });
-  made.addEventListener("click", press);
+  if (press) made.addEventListener("click", press);
   return made;
 }
 

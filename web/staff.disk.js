@@ -2,7 +2,7 @@
 import { nameCell } from "./lists.js";
 import { askObject, box, cell, counted, element, grouped, part, row, table } from "./shared.js";
 import { checkWords, checked, surveyed } from "./staff.checks.js";
-import { button, change, dated, formOf, readHeld, rulesOf, showsAnew } from "./staff.desk.js";
+import { ANY_NAME, button, change, dated, formOf, readHeld, rulesOf, showsAnew } from "./staff.desk.js";
 import { COLUMNS as CHANGES, changeRow } from "./staff.journal.js";
 import { audienceCounts } from "./staff.forecast.js";
 import { SINCE, originsOf, sinceWords, standingDisk, standingRule } from "./staff.origins.js";
@@ -10,7 +10,7 @@ import { freeRank } from "./staff.ranks.js";
 import { rehearsalDays, rehearsed, saveFirst } from "./staff.rehearsal.js";
 import { makeRuleForm, ruleIn } from "./staff.ruleform.js";
 import { putMany } from "./staff.rules.js";
-import { ANY_NAME, saveTable } from "./staff.saved.js";
+import { saveTable, saver } from "./staff.saved.js";
 import { COLUMNS, EFFECT_AT, SAVED_HEADS, UNSAID, askedWords, byWhichRules, effectOf } from "./staff.verdicts.js";
 import { mayWords, nameOf, namesOf, ruleShown, savedVerdict, verdictsOf } from "./staff.verdicts.js";
 import { AUDIENCES, PUT, RULES, UNREAD, listed, momentNow, ruleTexts, ruleWords, today } from "./staff.words.js";
@@ -133,7 +133,7 @@ function drawFiles() {
     box("ul", "", ...counts.map((text) => element("li", text))),
     dated("p", `${askedWords(asked)} ${SINCE}`),
     files.length ? table("files", columns, files.map(fileRow)) : element("p", "It has no file."),
-    button("Save who gets what as CSV", () => saveDisk(shown)),
+    box("div", "choices", ...saver(button("Save who gets what as CSV"), () => saveDisk(shown))),
   );
   part("ticked").hidden = files.length === 0;
 }
@@ -145,10 +145,8 @@ function saveDisk(disk, more = "") {
     const found = things.find((one) => one.label === label);
     return found ? [ruleWords(found.rule, names), found.origin] : ["", ""];
   };
-  const rowOf = ([file, who]) => {
-    const said = deciding(file[EFFECT_AT[who] + 1]);
-    return [...savedVerdict(file, who, asked), ...said, sinceOf(disk, file, who)];
-  };
+  const saidOf = (file, who) => [...deciding(file[EFFECT_AT[who] + 1]), sinceOf(disk, file, who)];
+  const rowOf = ([file, who]) => [...savedVerdict(file, who, asked), ...saidOf(file, who)];
   const { accession, deed, donor, signed } = survey;
   const whose = `under deed ${deed} of ${donor}, signed on ${signed}; taken in: ${things[0].origin}`;
   const all = `It has all ${counted(files.length, "file")}. ${askedWords(asked)}${more}`;

@@ -6,7 +6,7 @@ import { changeCount, dated, diskCell, formOf, work } from "./staff.desk.js";
 import { limitFields, options } from "./staff.ruleform.js";
 import { countWords } from "./staff.forecast.js";
 import { pastOf } from "./staff.origins.js";
-import { saveTable } from "./staff.saved.js";
+import { saveTable, saver } from "./staff.saved.js";
 import { COLUMNS, EFFECT_AT, SAVED_HEADS, UNSAID, askedWords, byWhichRules, effectOf } from "./staff.verdicts.js";
 import { mayWords, onDay, readVerdicts, ruleShown, savedVerdict } from "./staff.verdicts.js";
 import { AUDIENCES, momentNow, today } from "./staff.words.js";
@@ -147,5 +147,5 @@ export function listen() {
   const redraw = () => seen.files && draw(150);
   [audience, closed, words].forEach((field) => field.addEventListener("input", redraw));
   words.addEventListener("keydown", (event) => event.key === "Enter" && event.preventDefault());
-  button.addEventListener("click", saveShown);
+  button.parentNode.append(...saver(button, saveShown));
 }

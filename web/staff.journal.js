@@ -5,7 +5,7 @@ import { AllChanges, UNKNOWN, changeWords, isUnknown, outcomeWords, spaced, time
 import { dated, formOf, show, work } from "./staff.desk.js";
 import { Lines, MONTHS, MOST, PIECE } from "./staff.lines.js";
 import { limitFields } from "./staff.ruleform.js";
-import { saveTable } from "./staff.saved.js";
+import { saveTable, saver } from "./staff.saved.js";
 import { namesOf, verdictsOf } from "./staff.verdicts.js";
 import { momentNow, today } from "./staff.words.js";
 import { withTitle } from "./titles.js";
@@ -191,5 +191,5 @@ export function listen() {
   accession.addEventListener("change", () => history.replaceState(null, "", `#/journal/${accession.value}`));
   older.addEventListener("click", goOn);
   anew.addEventListener("click", () => work("journal", readAnew));
-  button.addEventListener("click", saveShown);
+  button.parentNode.append(...saver(button, saveShown));
 }

@@ -1,8 +1,8 @@
 // Many changes, one after the other: with progress, a report that can be saved, and a way to go on where they stopped.
 import { longTable } from "./lists.js";
 import { Refused, box, cell, counted, element, explainRefusal, refusalName, row } from "./shared.js";
-import { button, change, diskCell, isUnsure, keepReason, older, whoNow } from "./staff.desk.js";
-import { ANY_NAME, saveTable } from "./staff.saved.js";
+import { ANY_NAME, button, change, diskCell, isUnsure, keepReason, older, whoNow } from "./staff.desk.js";
+import { saveTable, saver } from "./staff.saved.js";
 import { momentNow } from "./staff.words.js";
 
 const DONE = "done";
@@ -65,7 +65,7 @@ function report(run, isOlder) {
   const table = others.length ? longTable("Not done", columns, others, rowOf) : null;
   const more = run.more && !isWhole && !isOlder ? element("p", run.more()) : null;
   const goOn = isWhole ? null : button("Go on with the rest", () => change(run.section, (how) => sendMany(run, how)));
-  const buttons = box("p", "choices", goOn, button("Save the report", () => saveReport(run)));
+  const buttons = box("p", "choices", goOn, ...saver(button("Save the report"), () => saveReport(run)));
   return box("div", "report", summary(run), table, more, buttons, isOlder ? older(run.section) : null);
 }
 

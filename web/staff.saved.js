@@ -2,10 +2,8 @@
 // name of the file says at which moment the page asked for it.
 import { holder } from "./about.js";
 import { csvText } from "./csv.js";
+import { element } from "./shared.js";
 import { inParts, save } from "./stream.js";
-
-// What a table says that has names.
-export const ANY_NAME = "Whoever has a key of the staff can write any name.";
 
 export async function saveTable(name, moment, about, heads, items, recordOf) {
   const said = [holder() || "(the museum's name was not found)", about];
@@ -14,4 +12,12 @@ export async function saveTable(name, moment, about, heads, items, recordOf) {
   const file = `${name}-${moment.slice(0, 19).replaceAll(":", "")}Z.csv`;
   save(file, texts, "text/csv");
   return file;
+}
+
+// A button that saves a table, and what says beside it under which name, until it is pressed again.
+export function saver(button, saved) {
+  const said = element("span", "", { role: "status" });
+  button.addEventListener("click", () => said.replaceChildren());
+  button.addEventListener("click", async () => said.replaceChildren(`Saved: ${await saved()}`));
+  return [button, said];
 }

@@ -35,8 +35,9 @@ def lost_at(number, stays=False):
 
 def saved_table(page, name, button="Save what is shown as CSV"):
     """The records of a table that a button saves, by its name up to the moment at which the page asked for it."""
-    page.push(button)
-    return list(csv.reader(page.saved(f"{name}-{TODAY}T12*Z.csv").decode().splitlines()))
+    text = page.push(button) and page.saved(f"{name}-{TODAY}T12*Z.csv").decode()
+    assert f"Saved: {name}-{TODAY}T12" in "".join(page.texts("[role=status]")), "nothing says that it is saved"
+    return list(csv.reader(text.splitlines()))
 
 def moment(at):
     return datetime.datetime.fromtimestamp(at, datetime.timezone.utc).strftime("%Y-%m-%dT%H:%M:%S+00:00")

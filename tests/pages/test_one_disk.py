@@ -117,7 +117,6 @@ def test_files_ticked_by_their_shown_names_are_taken_down_and_what_stands_after_
     _, *saved = saved_table(disk, f"disk-1002-before-a-change-{TODAY}-asked", "Save what stands now, first")
     assert [str(saved).count(one) for one in ("'read it'", "write any name.")] == [4, 9], "what stood at the opening"
     assert f"It is what stood before an answer to: “{due.format(' and the reading room')}”" in saved[0][1]
-    assert disk.text("#sure [role=status]").startswith(f"Saved: disk-1002-before-a-change-{TODAY}-asked-{TODAY}T12")
     del museum.rules["T1002"][7]
     disk.door.before = lost_at(2)
     stand = "These stand: Letter (takedown 1000). These do not: GUIDE (takedown 990)."
