@@ -1,6 +1,6 @@
 -- The names that most proofs of this crate cite, passed on from one place. Declares nothing.
 pub use Rattle.rd_chain.specs.Chains.{FIRST_SUM, last_sum, next_sum}
-pub use Rattle.rd_chain.specs.Held.{Appends, HoldsChain, IsAtRest, IsFullFor, IsLeft, LeavesOldOrNew, LeavesOnly, ReadsAfter, lines}
+pub use Rattle.rd_chain.specs.Held.{Appends, HoldsChain, IsAtRest, IsFullFor, IsLeft, Keeps, LeavesOldOrNew, LeavesOnly, ReadsAfter, lines}
 pub use Rattle.rd_chain.specs.Inside.{AreAllRows, AreLaterRows, AreNextRows, AreRowsOfLines, EndsAt, IsEmpty, IsEndOf, end_of, end_with, lines_in, next_end, shown}
 pub use Rattle.rd_chain.specs.Rows.{IsChain, IsChainOf, MOST_LINES, MOST_READ, by_number, columns_after, columns_of, history_schema, history_table, line_columns, lines_of, row_of, seen}
 pub use Rattle.rd_chain.specs.declared.sum.End.{End}

@@ -62,7 +62,8 @@ by_number_sorted these rows same =
     (IsPermutation-sym _ _ same)
     (sorted_from_ascending by_number number_total (columns_of these) (ascending_weaker _ _ (λ row other less. ap is_gt less) (columns_of these) up))
 
-lines_back : (number : ℕ) (sum : List ℕ) (these : List (List ℕ)) → map (λ row. bytes (column row 1)) (columns_after number sum these) ≡ these
+-- what the rows of lines hold
+pub lines_back : (number : ℕ) (sum : List ℕ) (these : List (List ℕ)) → map (λ row. bytes (column row 1)) (columns_after number sum these) ≡ these
 lines_back number sum [] = refl
 lines_back number sum (line ∷ these) = ap (λ more. line ∷ more) (lines_back (number + 1) (next_sum sum line) these)
 

@@ -2,7 +2,7 @@
 use Rattle.rd_chain.proofs.Common.{◌≡◌, ◌∙◌, ◌+◌, ◌<◌, ◌≤◌, ℕ, pos, Bool, true, false, List, [], ◌∷◌, length, map, refl, sym, ap, ap₂, subst, arith, nat_tests, codes, is_gt, Less, AllByRecursion, Database, IsDatabase, IsPermutation, IsPermutation-map, IsPermutation-sym, IsPermutation-trans, IsSorted, Row, Trees, Term, Int, column, FIRST_SUM, MOST_LINES, MOST_READ, Asks, Err, Ghosts, Held, HoldsChain, IfErr, IsOpen, Ok, OnOk, ReadsAfter, Result, AreAllRows, AreLaterRows, AreNextRows, AreRowsOfLines, End, IsChain, IsChainOf, by_number, columns_after, columns_of, end_of, end_with, history_schema, line_columns, lines, lines_in, lines_of, next_end, next_sum, row_of, seen, shown, state, value_cmp-Int}
 use Rattle.rd_tables.proofs.ConnectionLaws.{Laws}
 use Rattle.std.proofs.Common.{IfOk, Some, cond, drop, filter, get_or, is_lt, suc, take, zero}
-use Rattle.std.proofs.lemmas.List.{get_or-map, length-map, take-map}
+use Rattle.std.proofs.lemmas.List.{drop-map, get_or-map, length-map, take-map}
 use Rattle.sqlite_keyed.proofs.ListLemmas.{filter-map}
 use Rattle.sqlite_trees.proofs.ListLemmas.{IsPermutation-filter, filter_all}
 use Rattle.sqlite_trees.specs.Tree.{IsAscending}
@@ -26,8 +26,8 @@ use Rattle.sqlite.specs.declared.rows.Row.{Row as SqlRow}
 use Rattle.rd_chain.specs.declared.faults.ChainFault.{ChainFault}
 use Rattle.rd_chain.specs.declared.faults.ChainFault.TheVariants.{Sql}
 use Rattle.rd_chain.specs.declared.read.SummedLine.{SummedLine}
-use Rattle.rd_chain.proofs.Laws.{leaves_only, lines_same, stays_chain}
-use Rattle.rd_chain.proofs.LineLemmas.{rising_after, rising_alone}
+use Rattle.rd_chain.proofs.Laws.{keeps_of, leaves_only, stays_chain}
+use Rattle.rd_chain.proofs.LineLemmas.{lines_back, rising_after, rising_alone}
 
 -- ---- the queries
 
@@ -185,6 +185,13 @@ later_lines these after trees rows same later =
     let shows : map shown later.all ≡ later.all = ap (map shown) it.2 ∙ map_map shown seen it.0 ∙ sym it.2 in
     ap (map shown) later.first ∙ sym (take-map shown MOST_READ later.all) ∙ ap (take MOST_READ) (shows ∙ all)
 
+-- so are the lines that are made of them
+pub lines_read : (these : List (List ℕ)) (after : ℕ) (page : List SummedLine) → map row_of page ≡ take MOST_READ (drop after (columns_of these)) → map (λ line. line.line.items) page ≡ take MOST_READ (drop after these)
+lines_read these after page read =
+    let text : Row → List ℕ = λ row. bytes (column row 1) in
+    sym (map_map text row_of page) ∙ ap (map text) read ∙ sym (take-map text MOST_READ (drop after (columns_of these)))
+    ∙ ap (take MOST_READ) (sym (drop-map text after (columns_of these)) ∙ ap (drop after) (lines_back 0 FIRST_SUM these))
+
 -- ---- row after row
 
 pub end_step : (end : End) (line : List ℕ) (more : List (List ℕ)) → end_with (next_end end line) more ≡ end_with end (line ∷ more)
@@ -198,12 +205,10 @@ module _ {S : Type 0} (g : Ghosts S) (laws : Laws g) (old new : Held S) (number 
       let stays = asks.stays in
       let holds_new = stays_chain g old new stays holds in
       record {
-        lasts = stays.lasts;
-        same = lines_same g old new stays;
+        keeps = keeps_of g old new stays (λ was. (holds was).autocommit);
         answer = λ is_open. IfOk-weaker r _ _ (λ found columns. columns ∙ later_lines (lines g old) number (state g old).now.trees rows.items (holds (stays.lasts.was_open is_open)).holds.rows (asks.answer is_open)) is;
         fault = fault;
         ends_open = λ clean. still r (asks.ends_open clean);
-        crash = stays.quiet;
         durable = leaves_only g laws new holds_new;
       }
     where

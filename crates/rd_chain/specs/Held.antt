@@ -4,6 +4,7 @@ use Rattle.std.specs.declared.alloc.Global.{Global}
 use Rattle.sqlite.specs.Tree.{Trees}
 use Rattle.sqlite.specs.Store.{Ghosts}
 use Rattle.sqlite.specs.State.{State}
+use Rattle.sqlite.specs.Effect.{Database}
 use Rattle.sqlite.specs.Held.{Held, state}
 use Rattle.rd_tables.specs.Connections.{IsClean, IsOpen, IsUntouched, Lasts, LeavesOld, LeavesOpen, RestsIn}
 use Rattle.rd_tables.specs.Schemas.{IsBlank}
@@ -81,36 +82,36 @@ pub record IsNotCreated {S : Type 0} (g : Ghosts S) (old new : Held S) (fault : 
   pub durable : IsOpen g new → LeavesOld g old new
   pub crash : LeavesOldOrNew g old new
 
--- A chain was opened, and nothing else was done.
-pub record IsOpened {S : Type 0} (g : Ghosts S) (old new : Held S) : Type 0 where
+-- A call that changes nothing. Where the connection is open at the end, it shows the database that it showed, and a
+-- crash leaves what it left before.
+pub record Keeps {S : Type 0} (g : Ghosts S) (old new : Held S) : Type 0 where
   pub lasts : Lasts g old new
-  pub schema : old.schema ≡ history_schema
-  pub chain : IsOpen g new → IsChain (state g old).now
-  pub same : IsOpen g new → lines g new ≡ lines g old
   pub untouched : IsOpen g new → IsUntouched g old new
-  pub ends_open : IsClean g new → IsOpen g new
   pub crash : LeavesOld g old new
+
+-- A chain was opened of whose database this is true, and nothing else was done.
+pub record IsOpened {S : Type 0} (g : Ghosts S) (Holds : Database → Type 0) (old new : Held S) : Type 0 where
+  pub keeps : Keeps g old new
+  pub schema : old.schema ≡ history_schema
+  pub holds : IsOpen g new → Holds (state g old).now
+  pub ends_open : IsClean g new → IsOpen g new
   pub durable : IsOpen g new → LeavesOnly g new (lines g new)
 
 -- No chain was opened, and nothing else was done: NotAChain exactly where the tables are not those of a chain, and Broken
--- only where the rows are not those of lines.
-pub record IsNotOpened {S : Type 0} (g : Ghosts S) (old new : Held S) (fault : OpenFault) : Type 0 where
-  pub lasts : Lasts g old new
+-- only where this is not true of the database.
+pub record IsNotOpened {S : Type 0} (g : Ghosts S) (Holds : Database → Type 0) (old new : Held S) (fault : OpenFault) : Type 0 where
+  pub keeps : Keeps g old new
   pub other : old.schema ≢ history_schema → fault ≡ NotAChain
   pub schema : old.schema ≡ history_schema → fault ≢ NotAChain
   pub same : fault ≡ NotAChain → new ≡ old
-  pub broken : IsOpen g new → fault ≡ Broken → ¬ IsChain (state g old).now
-  pub untouched : IsOpen g new → IsUntouched g old new
+  pub broken : IsOpen g new → fault ≡ Broken → ¬ Holds (state g old).now
   pub ends_open : fault ≡ Broken → IsClean g new → IsOpen g new
-  pub crash : LeavesOld g old new
 
 -- A call that reads lines and changes nothing: where the connection is open at the end, it tells after Ok the first 200
 -- after a number, or all of them.
 pub record ReadsAfter {S : Type 0} (g : Ghosts S) (old new : Held S) (number : ℕ) (result : Result (Vec SummedLine Global) ChainFault) : Type 0 where
-  pub lasts : Lasts g old new
-  pub same : IsOpen g new → lines g new ≡ lines g old
+  pub keeps : Keeps g old new
   pub answer : IsOpen g new → IfOk result (λ found. map row_of found.items ≡ take MOST_READ (drop number (columns_of (lines g old))))
   pub fault : IfErr result (λ fault. fault ≡ Sql)
   pub ends_open : LeavesOpen g new result
-  pub crash : LeavesOld g old new
   pub durable : IsOpen g new → LeavesOnly g new (lines g new)

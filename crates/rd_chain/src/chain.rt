@@ -2,6 +2,7 @@ ghost use Rattle.std.specs.Prelude.{◌≡◌, ◌∷◌, [], false, IfOk, IfErr
 ghost use Rattle.sqlite.specs.Held.{Held, state};
 ghost use Rattle.rd_tables.specs.Connections.{IsOpen};
 ghost use Rattle.rd_chain.specs.Held.{Appends, HoldsChain, IsAtRest, IsCreated, IsFullFor, IsNotCreated, IsNotOpened, IsOpened, ReadsAfter, lines};
+ghost use Rattle.rd_chain.specs.Rows.{IsChain};
 
 use crate::faults::{ChainFault, CreateFault, OpenFault, Refused};
 use crate::read::{SummedLine, judge, later_rows, summed_lines};
@@ -76,8 +77,8 @@ impl<S: Alter> Chain<S> {
     /// runs out.
     pub fn open(mut conn: Connection<S>) -> Result<Chain<S>, Refused<OpenFault, S>>
         requires outside { conn.in_transaction ≡ false }
-        ensures opened { IfOk result (λ chain. IsOpened S.Store conn chain) }
-        ensures refused { IfErr result (λ refused. IsNotOpened S.Store conn refused.conn refused.fault) }
+        ensures opened { IfOk result (λ chain. IsOpened S.Store IsChain conn chain) }
+        ensures refused { IfErr result (λ refused. IsNotOpened S.Store IsChain conn refused.conn refused.fault) }
     {
         if !is_history(conn.schema()) {
             return Err(Refused {
