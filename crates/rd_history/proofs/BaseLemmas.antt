@@ -9,7 +9,8 @@ use Rattle.rd_holdings.proofs.Members.{Has, IsKeyOrder, below_has, found_has}
 use Rattle.rd_holdings.specs.State.{Terms, Place, digest_cmp, place_cmp}
 use Rattle.rd_holdings.specs.declared.rows.DeedRow.{DeedRow}
 use Rattle.rd_policy.specs.declared.audience.Audience.{Audience}
-use Rattle.rd_history.specs.Laws.{BasesTell, MayBeVoid}
+use Rattle.rd_history.specs.Histories.{MayBeVoid}
+use Rattle.rd_history.specs.Laws.{BasesTell}
 use Rattle.rd_history.specs.Standings.{Deposit, NOTHING, Standing, base_of, changed, deed_put, image_put, key_put, put_or_kept, rule_put, step, told_after}
 use Rattle.rd_history.specs.declared.entry.Change.{Change}
 use Rattle.rd_history.specs.declared.entry.Change.TheVariants.{Begin, Deed, Image, Rule, DropRule, Key, DropKey, Void}

@@ -4,3 +4,6 @@ pub mod ReadBack
 pub mod LineLemmas
 pub mod LineEntries
 pub mod ReadingLemmas
+pub mod StageLemmas
+pub mod Judging
+pub mod Appended

@@ -1,6 +1,7 @@
 -- What a list of entries tells.
 use Rattle.std.proofs.Common.{◌≡◌, ◌∙◌, List, [], ◌∷◌, ◌++◌, ap, refl}
-use Rattle.rd_history.specs.Laws.{BasesForget, MayBeVoid, VoidsTakeBack}
+use Rattle.rd_history.specs.Histories.{MayBeVoid}
+use Rattle.rd_history.specs.Laws.{BasesForget, VoidsTakeBack}
 use Rattle.rd_history.specs.Standings.{NOTHING, Standing, step, told, told_after}
 use Rattle.rd_history.specs.declared.entry.Change.{Change}
 use Rattle.rd_history.specs.declared.entry.Change.TheVariants.{Begin, Deed, Image, Rule, DropRule, Key, DropKey, Void}

@@ -1,6 +1,7 @@
 -- Laws of lines, and of what a list of entries tells.
 use Rattle.std.specs.Prelude.{◌≡◌, ℕ, List, [], ◌∷◌, ◌++◌, map}
 use Rattle.rd_history.specs.Entries.{HasDigests, IsEntry}
+use Rattle.rd_history.specs.Histories.{MayBeVoid, MayCome}
 use Rattle.rd_history.specs.Lines.{line_of}
 use Rattle.rd_history.specs.Standings.{Standing, base_of, standing_after}
 use Rattle.rd_history.specs.declared.entry.Cause.{Cause}
@@ -12,12 +13,6 @@ use Rattle.rd_history.specs.declared.entry.Entry.{Entry}
 abbrev pub LinesAreEntries : Type 0
 LinesAreEntries = (one other : Entry) → IsEntry one → IsEntry other → HasDigests one → HasDigests other
     → line_of one ≡ line_of other → one ≡ other
-
--- a change that may be taken back: it begins nothing, and takes nothing back itself
-abbrev pub MayBeVoid : Change → Type 0
-MayBeVoid (Begin count) = ⊥
-MayBeVoid (Void cause) = ⊥
-MayBeVoid other = Unit {0}
 
 -- an entry and one that takes it back leave what stood before
 abbrev pub VoidsTakeBack : Type 0
@@ -35,3 +30,7 @@ abbrev pub BasesTell : Type 0
 BasesTell = (before listed : List Entry) (entry : Entry) (count : ℕ) (now : Standing)
     → entry.change ≡ Begin count → map (λ entry. entry.change) listed ≡ base_of now
     → standing_after (before ++ entry ∷ listed) ≡ now
+
+-- a change that may be taken back may come behind each history
+abbrev pub ChangesMayCome : Type 0
+ChangesMayCome = (change : Change) (lines : List (List ℕ)) → MayBeVoid change → MayCome change lines

@@ -5,4 +5,7 @@ pub mod Changes
 pub mod Lines
 pub mod Reading
 pub mod Standings
+pub mod Histories
 pub mod Laws
+-- ---- inside: what only private functions and proofs cite
+pub mod Stages

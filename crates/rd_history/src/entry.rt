@@ -155,6 +155,15 @@ fn has_day(moment: i64) -> bool
 }
 
 impl Change {
+    ghost use Rattle.rd_history.specs.Histories.{MayBeVoid};
+
+    /// Whether the change may be taken back: it begins nothing, and takes nothing back itself.
+    pub fn may_be_void(&self) -> bool
+        ensures { IsTrue result ↔ MayBeVoid self.now }
+    {
+        !matches!(self, Change::Begin(_) | Change::Void(_))
+    }
+
     /// Whether each value is within the limits that its field names.
     pub fn fits(&self) -> bool
         ensures { IsTrue result ↔ IsChange self.now }

@@ -1,6 +1,6 @@
 //! Laws of lines and entries. No code calls them.
 
-ghost use Rattle.rd_history.specs.Laws.{BasesForget, BasesTell, LinesAreEntries, VoidsTakeBack};
+ghost use Rattle.rd_history.specs.Laws.{BasesForget, BasesTell, ChangesMayCome, LinesAreEntries, VoidsTakeBack};
 
 /// Law: a line is its entry. Two entries within their limits, with digests of 32 bytes, have the same line
 /// only if they are the same.
@@ -18,4 +18,9 @@ pub fn voids_take_back()
 pub fn bases_tell()
     ensures forget { BasesForget }
     ensures tell { BasesTell }
+{}
+
+/// Law: a change that may be taken back may come behind each history.
+pub fn changes_may_come()
+    ensures { ChangesMayCome }
 {}

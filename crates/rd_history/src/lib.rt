@@ -1,15 +1,20 @@
 //! The history of a desk: what was changed, who asked it and when, one entry for each change; the line of
-//! each; and what a list of entries tells. It names no database.
+//! each; what a list of entries tells; and a history in a file.
 #![tactic(auto)]
 
 mod change;
 mod entry;
+mod history;
 mod laws;
 mod reading;
+mod stage;
+#[cfg(test)]
+mod tests;
 mod writing;
 
 pub use change::change_of;
 pub use entry::{Cause, Change, Entry, LAST_NUMBER};
-pub use laws::{bases_tell, lines_are_entries, voids_take_back};
+pub use history::History;
+pub use laws::{bases_tell, changes_may_come, lines_are_entries, voids_take_back};
 pub use reading::read_line;
 pub use writing::line;

@@ -1,6 +1,6 @@
 //! The line of an entry: JSON (RFC 8259) without blanks, each object's keys in the order of their bytes.
 
-ghost use Rattle.std.specs.Prelude.{◌≡◌, IfOk, IfSome, option_map};
+ghost use Rattle.std.specs.Prelude.{◌≡◌, IfOk, IfSome, IsUtf8, option_map};
 ghost use Rattle.serde_json.specs.Data.{string};
 ghost use Rattle.serde_json.specs.View.{view};
 ghost use Rattle.hex.specs.Hex.{encode_lower};
@@ -241,8 +241,11 @@ fn entry_value(alloc: Global, entry: &Entry) -> Result<Value, NoMemory>
 /// The line of an entry whose values are within their limits. It fails only when memory runs out.
 pub fn line(alloc: Global, entry: &Entry) -> Result<Text, NoMemory>
     requires { IsEntry entry.now }
-    ensures { IfOk result (λ text. text ≡ line_of entry.now) }
+    ensures line { IfOk result (λ text. text ≡ line_of entry.now) }
+    ensures utf8 { IfOk result IsUtf8 }
 {
     let value = entry_value(alloc, entry)?;
-    Ok(Text::of(value.to_string(alloc)?))
+    let text = value.to_string(alloc)?;
+    let _utf8 = text.as_str().as_bytes();
+    Ok(Text::of(text))
 }

@@ -16,10 +16,10 @@ pub returns-then-eq : goal.returns-then-eq
 returns-then-eq c = record {
   within = c.if-not-fits.ensures.0 refl;
   digests = c.in_ok-entry.ensures.bytes;
-  written = sym c.in_ok-written.ensures ∙ sym c.as_str.ensures ∙ (bytes_eq-Decides c.as_str.result.now c.args.line.now).0 (sym c.if-eq.ensures);
+  written = sym c.in_ok-written.ensures.line ∙ sym c.as_str.ensures ∙ (bytes_eq-Decides c.as_str.result.now c.args.line.now).0 (sym c.if-eq.ensures);
 }
 
 pub returns : goal.returns
 returns c =
     not_read c.args.line.now (view c.in-Some.value) c.in_ok-entry.entry (rw c.in-Some.is at c.in_ok-value.ensures) c.in_ok-entry.ensures.reads
-    (λ is. true≢false (sym (c.if-eq.ensures ∙ (bytes_eq-Decides c.as_str.result.now c.args.line.now).1 (c.as_str.ensures ∙ c.in_ok-written.ensures ∙ is.written))))
+    (λ is. true≢false (sym (c.if-eq.ensures ∙ (bytes_eq-Decides c.as_str.result.now c.args.line.now).1 (c.as_str.ensures ∙ c.in_ok-written.ensures.line ∙ is.written))))

@@ -1,0 +1,183 @@
+//! A history in a file: a chain of lines, each of them that of an entry.
+
+ghost use Rattle.std.specs.Prelude.{◌≡◌, ◌≢◌, ◌+◌, ◌∷◌, [], false, Err, IfErr, IfOk, IsTrue, OnOk, length};
+ghost use Rattle.sqlite.specs.Held.{Held, state};
+ghost use Rattle.rd_tables.specs.Connections.{IsClean, IsOpen};
+ghost use Rattle.rd_chain.specs.Held.{Appends, IsAtRest, IsCreated, IsFullFor, IsNotCreated, IsNotOpened, IsOpened, Keeps, lines};
+ghost use Rattle.rd_history.specs.Entries.{HasDigests, IsEntry};
+ghost use Rattle.rd_history.specs.Histories.{HoldsHistory, IsHistory, MayBeTakenBack, MayBeVoid, MayCome, line_at};
+ghost use Rattle.rd_history.specs.Stages.{EndsSo};
+
+use crate::entry::{Entry, LAST_NUMBER};
+use crate::stage::Stage;
+use crate::writing;
+use rd_chain::{Chain, ChainFault, CreateFault, OpenFault, Refused};
+use sqlite::{Alter, Connection};
+use std::alloc::Global;
+use std::marker::Model;
+
+/// A history over a connection: a chain whose lines are those of entries. In memory it keeps whether the last of them is
+/// a change that nothing has taken back.
+#[derive(Drop)]
+pub struct History<S: Alter> {
+    chain: Chain<S>,
+    ends_in_change: bool,
+}
+
+impl<S: Alter> Model for History<S> {
+    ghost use Rattle.sqlite.specs.Held.{Held, held_code};
+    ghost use Rattle.rd_tables.specs.Connections.{IsOpen};
+    ghost use Rattle.rd_chain.specs.Held.{lines};
+    ghost use Rattle.rd_history.specs.Stages.{EndsSo};
+
+    ghost Value = { Held S };
+
+    ghost coded = { held_code S.code };
+
+    ghost view = { λ history. history.chain };
+
+    ghost invariant = { λ history. IsOpen S.Store history.chain → EndsSo history.ends_in_change (lines S.Store history.chain) };
+}
+
+/// Reads all lines, and says whether the last of them is that of a change that nothing has taken back.
+///
+/// It fails with `Broken` if they are not those of a history, and with `Sql` if the database fails, or if memory runs out.
+fn judge<S: Alter>(alloc: Global, chain: &mut Chain<S>) -> Result<bool, OpenFault>
+    ensures keeps { Keeps S.Store chain.old chain.new }
+    ensures ok { IsOpen S.Store chain.new → IfOk result (λ ends. EndsSo ends (lines S.Store chain.old)) }
+    ensures broken { IsOpen S.Store chain.new → IfErr result (λ fault. fault ≡ OpenFault.Broken → ¬ IsHistory (lines S.Store chain.old)) }
+    ensures named { IfErr result (λ fault. fault ≢ OpenFault.NotAChain) }
+    ensures ends_open { (IsClean S.Store chain.old → IsOpen S.Store chain.old) → result ≢ Err OpenFault.Sql → IsClean S.Store chain.new → IsOpen S.Store chain.new }
+{
+    let last = chain.last();
+    let mut stage = Stage::START;
+    while stage.number < last {
+        let Ok(page) = chain.lines_after(alloc, stage.number) else {
+            return Err(OpenFault::Sql);
+        };
+        let before = stage.number;
+        stage = stage.with_lines(alloc, &page)?;
+        if stage.number <= before {
+            return Err(OpenFault::Sql);
+        }
+    }
+    if stage.to_come > 0 {
+        return Err(OpenFault::Broken);
+    }
+    Ok(stage.ends_in_change)
+}
+
+impl<S: Alter> History<S> {
+    /// Makes a history without entries in a database without tables. It fails as `Chain::create` does.
+    pub fn create(conn: Connection<S>) -> Result<History<S>, Refused<CreateFault, S>>
+        requires outside { conn.in_transaction ≡ false }
+        ensures created { IfOk result (λ history. IsCreated S.Store conn history) }
+        ensures refused { IfErr result (λ refused. IsNotCreated S.Store conn refused.conn refused.fault) }
+    {
+        match Chain::create(conn) {
+            Ok(chain) => Ok(History {
+                chain,
+                ends_in_change: false,
+            }),
+            Err(refused) => Err(refused),
+        }
+    }
+
+    /// Opens the history that a database holds. The connection is outside a transaction.
+    ///
+    /// It fails as `Chain::open` does, and with `Broken` also where the lines of the chain are not those of a history.
+    pub fn open(alloc: Global, conn: Connection<S>) -> Result<History<S>, Refused<OpenFault, S>>
+        requires outside { conn.in_transaction ≡ false }
+        ensures opened { IfOk result (λ history. IsOpened S.Store HoldsHistory conn history) }
+        ensures refused { IfErr result (λ refused. IsNotOpened S.Store HoldsHistory conn refused.conn refused.fault) }
+    {
+        let mut chain = match Chain::open(conn) {
+            Ok(chain) => chain,
+            Err(refused) => return Err(refused),
+        };
+        match judge(alloc, &mut chain) {
+            Ok(ends_in_change) => {
+                // Whatever was read, a crash leaves these lines.
+                chain.between_calls();
+                Ok(History {
+                    chain,
+                    ends_in_change,
+                })
+            }
+            Err(fault) => Err(Refused {
+                fault,
+                conn: chain.into_connection(),
+            }),
+        }
+    }
+
+    /// How many entries there are, which is the number of the last. It is answered from memory.
+    pub fn last(&self) -> u32
+        ensures { IsOpen S.Store self.now → result ≡ length (lines S.Store self.now) }
+    {
+        self.chain.last()
+    }
+
+    /// Whether the last entry is a change that nothing has taken back. It is answered from memory.
+    pub fn ends_in_change(&self) -> bool
+        ensures { IsOpen S.Store self.now → IsTrue result → MayBeTakenBack (lines S.Store self.now) }
+    {
+        self.ends_in_change
+    }
+
+    /// Puts an entry at the end, with the next number in place of its own. After `Ok` it is durable. A change that may be
+    /// taken back may always come (`changes_may_come`), and can then be taken back.
+    ///
+    /// It fails with `Full` where there are 999,999,999 entries, and with `Sql` if the database fails, or if memory runs
+    /// out.
+    pub fn append(&mut self, alloc: Global, entry: Entry) -> Result<(), ChainFault>
+        requires fits { IsEntry entry }
+        requires digests { HasDigests entry }
+        requires comes { IsOpen S.Store self.old → MayCome entry.change (lines S.Store self.old) }
+        ensures appends { Appends S.Store self.old self.new (line_at (length (lines S.Store self.old) + 1) entry ∷ []) result }
+        ensures full { IsFullFor S.Store self.old self.new 1 result }
+        ensures back { IsOpen S.Store self.new → OnOk result (MayBeVoid entry.change → MayBeTakenBack (lines S.Store self.new)) }
+    {
+        // If it fails below, a crash leaves the lines as they are here.
+        self.chain.between_calls();
+        let last = self.chain.last();
+        if last >= LAST_NUMBER {
+            return Err(ChainFault::Full);
+        }
+        let entry = Entry {
+            number: last + 1,
+            ..entry
+        };
+        let Ok(line) = writing::line(alloc, &entry) else {
+            return Err(ChainFault::Sql);
+        };
+        let ends_in_change = entry.change.may_be_void();
+        match self.chain.append(line.as_str()) {
+            Ok(()) => {
+                self.ends_in_change = ends_in_change;
+                Ok(())
+            }
+            Err(fault) => Err(fault),
+        }
+    }
+
+    /// Gives the connection back, with the lines in its database.
+    pub fn into_connection(self) -> Connection<S>
+        ensures { result ≡ self }
+    {
+        let History {
+            chain,
+            ends_in_change: _,
+        } = self;
+        chain.into_connection()
+    }
+
+    /// Does nothing. Its contract says what holds between two calls: while the connection is open, its database is the
+    /// chain of its lines, these are a history, and a crash leaves them and nothing else.
+    pub fn between_calls(&self)
+        ensures rest { IsAtRest S.Store self.now }
+        ensures history { IsOpen S.Store self.now → IsHistory (lines S.Store self.now) }
+    {
+        self.chain.between_calls();
+    }
+}
