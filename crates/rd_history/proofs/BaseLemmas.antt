@@ -9,7 +9,7 @@ use Rattle.rd_holdings.proofs.Members.{Has, IsKeyOrder, below_has, found_has}
 use Rattle.rd_holdings.specs.State.{Terms, Place, digest_cmp, place_cmp}
 use Rattle.rd_holdings.specs.declared.rows.DeedRow.{DeedRow}
 use Rattle.rd_policy.specs.declared.audience.Audience.{Audience}
-use Rattle.rd_history.specs.Histories.{MayBeVoid}
+use Rattle.rd_history.specs.Histories.{IsAsked}
 use Rattle.rd_history.specs.Laws.{BasesTell}
 use Rattle.rd_history.specs.Standings.{Deposit, NOTHING, Standing, base_of, changed, deed_put, image_put, key_put, put_or_kept, rule_put, step, told_after}
 use Rattle.rd_history.specs.declared.entry.Change.{Change}
@@ -127,13 +127,13 @@ carry_base now =
 
 abbrev AreCarried : List Change → Type 0
 AreCarried [] = Unit {0}
-AreCarried (change ∷ changes) = MayBeVoid change × AreCarried changes
+AreCarried (change ∷ changes) = IsAsked change × AreCarried changes
 
 both_carried : (changes others : List Change) → AreCarried changes → AreCarried others → AreCarried (changes ++ others)
 both_carried [] others is more = more
 both_carried (change ∷ changes) others is more = (is.0, both_carried changes others is.1 more)
 
-each_carried : {A : Type 0} (put : A → Change) → ((x : A) → MayBeVoid (put x)) → (xs : List A) → AreCarried (map put xs)
+each_carried : {A : Type 0} (put : A → Change) → ((x : A) → IsAsked (put x)) → (xs : List A) → AreCarried (map put xs)
 each_carried put is [] = tt
 each_carried put is (x ∷ xs) = (is x, each_carried put is xs)
 
@@ -144,7 +144,7 @@ base_carried now =
     (both_carried (map rule_put (entries now.rules)) _ (each_carried rule_put (λ e. tt) (entries now.rules))
     (each_carried key_put (λ e. tt) (entries now.keys))))
 
-is_now : (change : Change) (at : Standing × Standing) → MayBeVoid change → (step change at).1 ≡ changed change at.1
+is_now : (change : Change) (at : Standing × Standing) → IsAsked change → (step change at).1 ≡ changed change at.1
 is_now (Begin count) at may = absurd may
 is_now (Void cause) at may = absurd may
 is_now (Deed num donor signed) at may = refl

@@ -7,3 +7,5 @@ pub mod ReadingLemmas
 pub mod StageLemmas
 pub mod Judging
 pub mod Appended
+pub mod SoLemmas
+pub mod NearLemmas

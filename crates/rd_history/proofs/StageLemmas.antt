@@ -3,12 +3,13 @@ use Rattle.std.proofs.Common.{◌≡◌, ◌≢◌, ◌∙◌, ◌⊎◌, ◌+�
 use Rattle.std.specs.List.{AllByRecursion}
 use Rattle.std.proofs.lemmas.List.Concat.{flat_map-append}
 use Rattle.rd_history.specs.Entries.{HasDigests, IsEntry}
-use Rattle.rd_history.specs.Histories.{AreLinesOf, AreNumbered, AreParts, IsHistory, IsPart, IsTail, MayBeTakenBack, MayBeVoid, changes_of}
+use Rattle.rd_history.specs.Histories.{AreLinesOf, AreNumbered, AreParts, IsHistory, IsPart, IsAsked, IsPut, IsTail, MayBeTakenBack, MayCome, changes_of}
 use Rattle.rd_history.specs.Laws.{ChangesMayCome}
 use Rattle.rd_history.specs.Lines.{line_of}
 use Rattle.rd_history.specs.Reading.{IsLineOf}
-use Rattle.rd_history.specs.Stages.{Arrives, EndsSo, Follows, Leads, Path, START, Steps}
+use Rattle.rd_history.specs.Stages.{Arrives, EndsSo, Follows, IsListedOrAlone, Leads, Path, START, StandsAlone, Steps}
 use Rattle.rd_history.specs.declared.entry.TheConstants.{LAST_NUMBER}
+use Rattle.rd_history.specs.declared.entry.Cause.TheVariants.{Lost}
 use Rattle.rd_history.specs.declared.entry.Change.{Change}
 use Rattle.rd_history.specs.declared.entry.Change.TheVariants.{Begin, Deed, Image, Rule, DropRule, Key, DropKey, Void}
 use Rattle.rd_history.specs.declared.entry.Entry.{Entry}
@@ -31,21 +32,27 @@ module _ {X : Type 0} (Next : X → Stage → Stage → Type 0) where
   path_once once at one other (x ∷ xs) first second =
       path_once once first.0 one other xs first.2 (subst (λ s. Path Next s xs other) (once x at second.0 first.0 second.1 first.1) second.2)
 
--- a change that may be taken back leads on as one of a base that is under way, or alone
-abbrev pub Plainly : Stage → Stage → Type 0
-Plainly at next =
-    (at.to_come ≡ 0 → (next.to_come ≡ 0) × (next.ends_in_change ≡ true))
-    × (at.to_come ≢ 0 → (at.to_come ≡ next.to_come + 1) × (next.ends_in_change ≡ false))
+leads_plainly : (change : Change) (at next : Stage) → IsPut change → IsListedOrAlone at next → Leads change at next
+leads_plainly (Begin count) at next put leads = absurd put
+leads_plainly (Void cause) at next put leads = absurd put
+leads_plainly (DropRule band scope rank) at next put leads = absurd put
+leads_plainly (DropKey digest) at next put leads = absurd put
+leads_plainly change at next put leads = leads
 
-leads_plainly : (change : Change) (at next : Stage) → MayBeVoid change → Plainly at next → Leads change at next
-leads_plainly (Begin count) at next may leads = absurd may
-leads_plainly (Void cause) at next may leads = absurd may
-leads_plainly change at next may leads = leads
+-- what a request asks leads on alone
+leads_alone : (change : Change) (at : Stage) → IsAsked change → at.to_come ≡ 0 → Leads change at (record { number = at.number + 1; to_come = 0; ends_in_change = true })
+leads_alone (Begin count) at asked none = absurd asked
+leads_alone (Void cause) at asked none = absurd asked
+leads_alone (DropRule band scope rank) at asked none = (none, refl, refl)
+leads_alone (DropKey digest) at asked none = (none, refl, refl)
+leads_alone change at asked none = ((λ e. (refl, refl)), (λ some. absurd (some none)))
 
-pub led_plainly : (change : Change) (at next : Stage) → MayBeVoid change → Leads change at next → Plainly at next
-led_plainly (Begin count) at next may leads = absurd may
-led_plainly (Void cause) at next may leads = absurd may
-led_plainly change at next may leads = leads
+pub led_alone : (change : Change) (at next : Stage) → IsAsked change → Leads change at next → at.to_come ≡ 0 → next.ends_in_change ≡ true
+led_alone (Begin count) at next asked leads none = absurd asked
+led_alone (Void cause) at next asked leads none = absurd asked
+led_alone (DropRule band scope rank) at next asked leads none = leads.2
+led_alone (DropKey digest) at next asked leads none = leads.2
+led_alone change at next asked leads none = (leads.0 none).1
 
 by_zero : {P : Type 0} → (n : ℕ) → (n ≡ 0 → P) → (n ≢ 0 → P) → P
 by_zero zero none some = none refl
@@ -54,7 +61,7 @@ by_zero (suc n) none some = some (λ e. absurd (omega (arith, e)))
 stage_is : (one other : Stage) → one.number ≡ other.number → one.to_come ≡ other.to_come → one.ends_in_change ≡ other.ends_in_change → one ≡ other
 stage_is one other number to_come ends = λ i. record { number = number i; to_come = to_come i; ends_in_change = ends i }
 
-plainly_once : (at one other : Stage) → one.number ≡ other.number → Plainly at one → Plainly at other → one ≡ other
+plainly_once : (at one other : Stage) → one.number ≡ other.number → IsListedOrAlone at one → IsListedOrAlone at other → one ≡ other
 plainly_once at one other number first second =
     by_zero at.to_come
     (λ none. stage_is one other number ((first.0 none).0 ∙ sym (second.0 none).0) ((first.0 none).1 ∙ sym (second.0 none).1))
@@ -63,6 +70,8 @@ plainly_once at one other number first second =
 leads_once : (change : Change) (at one other : Stage) → one.number ≡ other.number → Leads change at one → Leads change at other → one ≡ other
 leads_once (Begin count) at one other number first second = stage_is one other number (first.1 ∙ sym second.1) (first.2 ∙ sym second.2)
 leads_once (Void cause) at one other number first second = stage_is one other number (first.1 ∙ sym second.1) (first.2 ∙ sym second.2)
+leads_once (DropRule band scope rank) at one other number first second = stage_is one other number (first.1 ∙ sym second.1) (first.2 ∙ sym second.2)
+leads_once (DropKey digest) at one other number first second = stage_is one other number (first.1 ∙ sym second.1) (first.2 ∙ sym second.2)
 leads_once change at one other number first second = plainly_once at one other number first second
 
 pub steps_once : (change : Change) (at one other : Stage) → Steps change at one → Steps change at other → one ≡ other
@@ -148,7 +157,7 @@ pub record Comes (at : Stage) (changes : List Change) : Type 0 where
   pub path : Path Steps at changes end
   pub whole : end.to_come ≡ 0
 
-listed_come : (listed : List Change) (at : Stage) → AllByRecursion MayBeVoid listed → at.to_come ≡ length listed → Comes at listed
+listed_come : (listed : List Change) (at : Stage) → AllByRecursion IsPut listed → at.to_come ≡ length listed → Comes at listed
 listed_come [] at each left = record { end = at; path = refl; whole = left }
 listed_come (change ∷ listed) at each left =
     let next : Stage = record { number = at.number + 1; to_come = length listed; ends_in_change = false } in
@@ -166,13 +175,13 @@ tail_comes (Void cause ∷ []) at is none ends =
     record { end = next; path = (next, (refl, (ends, refl, refl)), refl); whole = refl }
 tail_comes other at is none ends = absurd is
 
-alone_comes : (change : Change) (tail : List Change) (at : Stage) → MayBeVoid change → IsTail tail → at.to_come ≡ 0 → Comes at (change ∷ tail)
+alone_comes : (change : Change) (tail : List Change) (at : Stage) → IsAsked change → IsTail tail → at.to_come ≡ 0 → Comes at (change ∷ tail)
 alone_comes change tail at may is none =
     let next : Stage = record { number = at.number + 1; to_come = 0; ends_in_change = true } in
     let more = tail_comes tail next is refl refl in
     record {
       end = more.end;
-      path = (next, (refl, leads_plainly change at next may ((λ e. (refl, refl)), (λ some. absurd (some none)))), more.path);
+      path = (next, (refl, leads_alone change at may none), more.path);
       whole = more.whole;
     }
 
@@ -196,7 +205,7 @@ changes_come changes at are none = subst (Comes at) (sym are.are) (parts_come ar
 
 -- ---- and what leads there is parts
 
-part_alone : (change : Change) (tail : List Change) → MayBeVoid change → IsTail tail → IsPart (change ∷ tail)
+pub part_alone : (change : Change) (tail : List Change) → IsAsked change → IsTail tail → IsPart (change ∷ tail)
 part_alone (Begin count) tail may is = absurd may
 part_alone (Void cause) tail may is = absurd may
 part_alone change tail may is = (may, is)
@@ -205,7 +214,7 @@ each_more : {X : Type 0} (P : X → Type 0) (xs : List X) (x : X) → AllByRecur
 each_more P [] x each has = (has, tt)
 each_more P (first ∷ xs) x each has = (each.0, each_more P xs x each.1 has)
 
-parts_more : (changes part : List Change) → AreParts changes → IsPart part → AreParts (changes ++ part)
+pub parts_more : (changes part : List Change) → AreParts changes → IsPart part → AreParts (changes ++ part)
 parts_more changes part are is = record {
   parts = are.parts ++ part ∷ [];
   each = each_more IsPart are.parts part are.each is;
@@ -218,7 +227,7 @@ record Alone (done : List Change) : Type 0 where
   last : Change
   are : done ≡ before ++ last ∷ []
   parts : AreParts before
-  may : MayBeVoid last
+  may : IsAsked last
 
 -- a base is under way, of which so many are to come
 record Under (to_come : ℕ) (done : List Change) : Type 0 where
@@ -227,7 +236,7 @@ record Under (to_come : ℕ) (done : List Change) : Type 0 where
   listed : List Change
   are : done ≡ before ++ Begin count ∷ listed
   parts : AreParts before
-  each : AllByRecursion MayBeVoid listed
+  each : AllByRecursion IsPut listed
   left : length listed + to_come ≡ count
 
 abbrev Stood : Stage → List Change → Type 0
@@ -242,10 +251,18 @@ stood_whole at done none stood = elim stood [
   ]
 ]
 
-plainly_stood : (change : Change) (at next : Stage) (done : List Change) → MayBeVoid change → Plainly at next → Stood at done → Stood next (done ++ change ∷ [])
-plainly_stood change at next done may leads stood =
+put_asked : (change : Change) → IsPut change → IsAsked change
+put_asked (DropRule band scope rank) put = absurd put
+put_asked (DropKey digest) put = absurd put
+put_asked change put = put
+
+alone_stood : (change : Change) (at next : Stage) (done : List Change) → IsAsked change → StandsAlone at next → Stood at done → Stood next (done ++ change ∷ [])
+alone_stood change at next done asked alone stood = inl (alone.2, alone.1, record { before = done; last = change; are = refl; parts = stood_whole at done alone.0 stood; may = asked })
+
+plainly_stood : (change : Change) (at next : Stage) (done : List Change) → IsPut change → IsListedOrAlone at next → Stood at done → Stood next (done ++ change ∷ [])
+plainly_stood change at next done put leads stood =
     by_zero at.to_come
-    (λ none. inl ((leads.0 none).1, (leads.0 none).0, record { before = done; last = change; are = refl; parts = stood_whole at done none stood; may = may }))
+    (λ none. alone_stood change at next done (put_asked change put) (none, (leads.0 none).0, (leads.0 none).1) stood)
     (λ some. elim stood [
       | inl alone ↦ absurd (some alone.1)
       | inr plain ↦ elim plain.1 [
@@ -258,7 +275,7 @@ plainly_stood change at next done may leads stood =
             listed = under.listed ++ change ∷ [];
             are = ap (λ l. l ++ change ∷ []) under.are ∙ append_assoc under.before (Begin under.count ∷ under.listed) (change ∷ []);
             parts = under.parts;
-            each = each_more MayBeVoid under.listed change under.each may;
+            each = each_more IsPut under.listed change under.each put;
             left = omega (arith, under.left, (leads.1 some).0, length-append under.listed (change ∷ []));
           }),
         )
@@ -289,6 +306,8 @@ steps_stood (Void cause) at next done leads stood = elim stood [
   )
   | inr plain ↦ absurd (true≢false (sym leads.0 ∙ plain.0))
 ]
+steps_stood (DropRule band scope rank) at next done leads stood = alone_stood (DropRule band scope rank) at next done tt leads stood
+steps_stood (DropKey digest) at next done leads stood = alone_stood (DropKey digest) at next done tt leads stood
 steps_stood change at next done leads stood = plainly_stood change at next done tt leads stood
 
 path_stood : (changes done : List Change) (at end : Stage) → Path Steps at changes end → Stood at done → Stood end (done ++ changes)
@@ -314,11 +333,25 @@ lines_tell lines end path whole =
 pub arrives_history : (lines : List (List ℕ)) (end : Stage) → Arrives START lines end → end.to_come ≡ 0 → IsHistory lines
 arrives_history lines end path whole = let told = lines_tell lines end path whole in (told.0, told.1)
 
+-- the entries of a history lead from the start to where no base is under way
+record Arriving (entries : List Entry) (lines : List (List ℕ)) : Type 0 where
+  end : Stage
+  path : Path Steps START (changes_of entries) end
+  arrives : Arrives START lines end
+  whole : end.to_come ≡ 0
+
+entries_arrive : (entries : List Entry) (lines : List (List ℕ)) → AreLinesOf entries lines → Arriving entries lines
+entries_arrive entries lines of =
+    let comes = changes_come (changes_of entries) START of.parts refl in
+    record {
+      end = comes.end;
+      path = comes.path;
+      arrives = subst (λ l. Arrives START l comes.end) (sym of.are) (arrives_of START comes.end entries comes.path of.numbered (subst (AllByRecursion IsUtf8) of.are of.texts));
+      whole = comes.whole;
+    }
+
 pub history_arrives : (lines : List (List ℕ)) → IsHistory lines → (end : Stage) × Arrives START lines end × (end.to_come ≡ 0)
-history_arrives lines history =
-    let of = history.1 in
-    let comes = changes_come (changes_of history.0) START of.parts refl in
-    (comes.end, subst (λ l. Arrives START l comes.end) (sym of.are) (arrives_of START comes.end history.0 comes.path of.numbered (subst (AllByRecursion IsUtf8) of.are of.texts)), comes.whole)
+history_arrives lines history = let it = entries_arrive history.0 lines history.1 in (it.end, it.arrives, it.whole)
 
 pub so_history : (ends : Bool) (lines : List (List ℕ)) → EndsSo ends lines → IsHistory lines
 so_history ends lines so = arrives_history lines so.end so.arrives so.whole
@@ -331,12 +364,21 @@ none_so lines none = subst (EndsSo false) (sym none) (record { end = START; arri
 pub changes_may_come : ChangesMayCome
 changes_may_come change lines may entries of = parts_more (changes_of entries) (change ∷ []) of.parts (part_alone change [] may tt)
 
+-- a history may go on with a change exactly where one leads on from its end
+pub led_on : (change : Change) (ends : Bool) (lines : List (List ℕ)) → (so : EndsSo ends lines) → MayCome change lines → (next : Stage) × Steps change so.end next × (next.to_come ≡ 0)
+led_on change ends lines so comes =
+    let told = lines_tell lines so.end so.arrives so.whole in
+    let after = changes_come (changes_of told.0 ++ change ∷ []) START (comes told.0 told.1) refl in
+    let split = path_split Steps START after.end (changes_of told.0) (change ∷ []) after.path in
+    let same : split.0 ≡ so.end = path_once Steps steps_once START split.0 so.end (changes_of told.0) split.1 told.2 in
+    (split.2.0, subst (λ s. Steps change s split.2.0) same split.2.1, ap (λ (s : Stage). s.to_come) (sym split.2.2) ∙ after.whole)
+
 pub may_be_taken_back : (lines : List (List ℕ)) → EndsSo true lines → MayBeTakenBack lines
 may_be_taken_back lines so cause entries of =
-    let comes = changes_come (changes_of entries) START of.parts refl in
-    let arrives = subst (λ l. Arrives START l comes.end) (sym of.are) (arrives_of START comes.end entries comes.path of.numbered (subst (AllByRecursion IsUtf8) of.are of.texts)) in
-    let end = arrives_once START comes.end so.end lines arrives so.arrives in
-    let ends : comes.end.ends_in_change ≡ true = ap (λ (s : Stage). s.ends_in_change) end ∙ so.ends in
-    let next : Stage = record { number = comes.end.number + 1; to_come = 0; ends_in_change = false } in
-    stood_whole next (changes_of entries ++ Void cause ∷ []) refl
-    (steps_stood (Void cause) comes.end next (changes_of entries) (ends, refl, refl) (path_stood (changes_of entries) [] START comes.end comes.path start_stood))
+    let it = entries_arrive entries lines of in
+    let ends : it.end.ends_in_change ≡ true = ap (λ (s : Stage). s.ends_in_change) (arrives_once START it.end so.end lines it.arrives so.arrives) ∙ so.ends in
+    let next : Stage = record { number = it.end.number + 1; to_come = 0; ends_in_change = false } in
+    comes_parts (changes_of entries ++ Void cause ∷ []) next (path_join Steps START it.end next (changes_of entries) (Void cause ∷ []) it.path (next, (refl, (ends, refl, refl)), refl)) refl
+
+pub taken_back_ends : (ends : Bool) (lines : List (List ℕ)) → EndsSo ends lines → MayBeTakenBack lines → ends ≡ true
+taken_back_ends ends lines so may = let on = led_on (Void Lost) ends lines so (may Lost) in sym so.ends ∙ on.1.1.0

@@ -1,6 +1,6 @@
 -- What a list of entries tells.
 use Rattle.std.proofs.Common.{◌≡◌, ◌∙◌, List, [], ◌∷◌, ◌++◌, ap, refl}
-use Rattle.rd_history.specs.Histories.{MayBeVoid}
+use Rattle.rd_history.specs.Histories.{IsAsked}
 use Rattle.rd_history.specs.Laws.{BasesForget, VoidsTakeBack}
 use Rattle.rd_history.specs.Standings.{NOTHING, Standing, step, told, told_after}
 use Rattle.rd_history.specs.declared.entry.Change.{Change}
@@ -13,7 +13,7 @@ told_append at [] others = refl
 told_append at (entry ∷ entries) others = told_append (step entry.change at) entries others
 
 -- before a change, and what stands after it
-was : (change : Change) (at : Standing × Standing) → MayBeVoid change → (step change at).0 ≡ at.1
+was : (change : Change) (at : Standing × Standing) → IsAsked change → (step change at).0 ≡ at.1
 was (Begin count) at may = absurd may
 was (Void cause) at may = absurd may
 was (Deed num donor signed) at may = refl

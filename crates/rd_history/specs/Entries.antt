@@ -1,5 +1,5 @@
 -- The words of an entry, and the limits of its values: this project's.
-use Rattle.std.specs.Prelude.{◌≡◌, ◌≢◌, ◌≤◌, ℕ, List, codes, length, IfSome}
+use Rattle.std.specs.Prelude.{◌≡◌, ◌≢◌, ◌≤◌, ℕ, List, [], None, Option, codes, length, IfSome}
 use Rattle.hex.specs.Hex.{IsBytes}
 use Rattle.rd_policy.specs.Days.{HasDay}
 use Rattle.rd_policy.specs.Rules.{IsPlainText, IsRank, IsRule, IsScope}
@@ -33,6 +33,17 @@ IsChange (Key digest audience) = audience ≢ Public
 IsChange (DropKey digest) = Unit {0}
 IsChange (Void cause) = Unit {0}
 
+-- this badge, note and name may stand beside a change: no key beside one that no request asks, and no word of the staff
+-- beside one that takes another back
+abbrev pub MayBeSigned : Change → Option (List ℕ) → List ℕ → List ℕ → Type 0
+MayBeSigned (Begin count) badge note staff = badge ≡ None
+MayBeSigned (Void cause) badge note staff = (badge ≡ None) × (note ≡ []) × (staff ≡ [])
+MayBeSigned other badge note staff = Unit {0}
+
+-- the entry has a badge, a note and a name that may stand beside its change
+abbrev pub IsSigned : Entry → Type 0
+IsSigned entry = MayBeSigned entry.change entry.badge entry.note entry.staff
+
 -- The values of an entry are within their limits.
 pub record IsEntry (entry : Entry) : Type 0 where
   pub change : IsChange entry.change
@@ -40,6 +51,7 @@ pub record IsEntry (entry : Entry) : Type 0 where
   pub note : IsPlainText 1_000 entry.note
   pub number : (1 ≤ entry.number) × (entry.number ≤ LAST_NUMBER)
   pub staff : IsPlainText 1_000 entry.staff
+  pub signed : IsSigned entry
 
 -- the digest of a SHA-256: 32 bytes
 abbrev pub IsDigest : List ℕ → Type 0

@@ -7,14 +7,20 @@ use Rattle.rd_history.specs.Entries.{HasDigests, IsEntry}
 use Rattle.rd_history.specs.Lines.{line_of}
 use Rattle.rd_history.specs.declared.entry.Cause.{Cause}
 use Rattle.rd_history.specs.declared.entry.Change.{Change}
-use Rattle.rd_history.specs.declared.entry.Change.TheVariants.{Begin, Void}
+use Rattle.rd_history.specs.declared.entry.Change.TheVariants.{Begin, DropKey, DropRule, Void}
 use Rattle.rd_history.specs.declared.entry.Entry.{Entry}
 
--- a change that may be taken back: it begins nothing, and takes nothing back itself
-abbrev pub MayBeVoid : Change → Type 0
-MayBeVoid (Begin count) = ⊥
-MayBeVoid (Void cause) = ⊥
-MayBeVoid other = Unit {0}
+-- a change that a request asks: it begins nothing, and takes nothing back
+abbrev pub IsAsked : Change → Type 0
+IsAsked (Begin count) = ⊥
+IsAsked (Void cause) = ⊥
+IsAsked other = Unit {0}
+
+-- to put something; a base lists nothing else
+abbrev pub IsPut : Change → Type 0
+IsPut (DropRule band scope rank) = ⊥
+IsPut (DropKey digest) = ⊥
+IsPut other = IsAsked other
 
 -- behind a change stands nothing more of its part, or that it was not carried out
 abbrev pub IsTail : List Change → Type 0
@@ -22,12 +28,12 @@ IsTail [] = Unit {0}
 IsTail (Void cause ∷ []) = Unit {0}
 IsTail other = ⊥
 
--- a part of a history: a base, whose first entry says how many behind it tell what stands; or a change, and perhaps that
--- it was not carried out
+-- a part of a history: a base, whose first entry says how many entries behind it tell what stands; or a change, and
+-- perhaps that it was not carried out
 abbrev pub IsPart : List Change → Type 0
 IsPart [] = ⊥
-IsPart (Begin count ∷ listed) = (length listed ≡ count) × AllByRecursion MayBeVoid listed
-IsPart (change ∷ tail) = MayBeVoid change × IsTail tail
+IsPart (Begin count ∷ listed) = (length listed ≡ count) × AllByRecursion IsPut listed
+IsPart (change ∷ tail) = IsAsked change × IsTail tail
 
 -- The changes are parts, one after the other.
 pub record AreParts (changes : List Change) : Type 0 where
@@ -61,7 +67,7 @@ IsHistory lines = (entries : List Entry) × AreLinesOf entries lines
 abbrev pub HoldsHistory : Database → Type 0
 HoldsHistory db = IsChain db × IsHistory (lines_of db.trees)
 
--- a change may come behind these lines
+-- behind these lines one entry with this change may come: they are a history with it, too
 abbrev pub MayCome : Change → List (List ℕ) → Type 0
 MayCome change lines = (entries : List Entry) → AreLinesOf entries lines → AreParts (changes_of entries ++ change ∷ [])
 

@@ -1,7 +1,7 @@
 -- Laws of lines, and of what a list of entries tells.
 use Rattle.std.specs.Prelude.{◌≡◌, ℕ, List, [], ◌∷◌, ◌++◌, map}
 use Rattle.rd_history.specs.Entries.{HasDigests, IsEntry}
-use Rattle.rd_history.specs.Histories.{MayBeVoid, MayCome}
+use Rattle.rd_history.specs.Histories.{IsAsked, MayCome}
 use Rattle.rd_history.specs.Lines.{line_of}
 use Rattle.rd_history.specs.Standings.{Standing, base_of, standing_after}
 use Rattle.rd_history.specs.declared.entry.Cause.{Cause}
@@ -17,7 +17,7 @@ LinesAreEntries = (one other : Entry) → IsEntry one → IsEntry other → HasD
 -- an entry and one that takes it back leave what stood before
 abbrev pub VoidsTakeBack : Type 0
 VoidsTakeBack = (entries : List Entry) (entry void : Entry) (cause : Cause)
-    → MayBeVoid entry.change → void.change ≡ Void cause
+    → IsAsked entry.change → void.change ≡ Void cause
     → standing_after (entries ++ entry ∷ void ∷ []) ≡ standing_after entries
 
 -- of what stood before an entry that begins anew, nothing counts
@@ -33,4 +33,4 @@ BasesTell = (before listed : List Entry) (entry : Entry) (count : ℕ) (now : St
 
 -- a change that may be taken back may come behind each history
 abbrev pub ChangesMayCome : Type 0
-ChangesMayCome = (change : Change) (lines : List (List ℕ)) → MayBeVoid change → MayCome change lines
+ChangesMayCome = (change : Change) (lines : List (List ℕ)) → IsAsked change → MayCome change lines

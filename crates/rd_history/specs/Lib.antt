@@ -6,6 +6,7 @@ pub mod Lines
 pub mod Reading
 pub mod Standings
 pub mod Histories
+pub mod Settled
 pub mod Laws
 -- ---- inside: what only private functions and proofs cite
 pub mod Stages

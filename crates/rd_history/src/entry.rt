@@ -1,7 +1,7 @@
 ghost use Rattle.std.specs.Prelude.{◌≡◌, ◌≢◌, ◌↔◌, IfNone, IfSome, IsTrue};
 ghost use Rattle.rd_policy.specs.Days.{HasDay};
 ghost use Rattle.rd_policy.specs.Rules.{IsPlainText};
-ghost use Rattle.rd_history.specs.Entries.{IsChange, IsEntry};
+ghost use Rattle.rd_history.specs.Entries.{IsChange, IsEntry, IsSigned};
 
 use rd_geometry::{Kind, Text};
 use rd_holdings::is_donor;
@@ -155,11 +155,11 @@ fn has_day(moment: i64) -> bool
 }
 
 impl Change {
-    ghost use Rattle.rd_history.specs.Histories.{MayBeVoid};
+    ghost use Rattle.rd_history.specs.Histories.{IsAsked};
 
-    /// Whether the change may be taken back: it begins nothing, and takes nothing back itself.
-    pub fn may_be_void(&self) -> bool
-        ensures { IsTrue result ↔ MayBeVoid self.now }
+    /// Whether a request asks the change: it begins nothing, and takes nothing back.
+    pub fn is_asked(&self) -> bool
+        ensures { IsTrue result ↔ IsAsked self.now }
     {
         !matches!(self, Change::Begin(_) | Change::Void(_))
     }
@@ -192,5 +192,20 @@ impl Entry {
             && is_remark(self.note.as_str())
             && (1..=LAST_NUMBER).contains(&self.number)
             && is_remark(self.staff.as_str())
+            && self.is_signed_as_due()
+    }
+
+    /// Whether nobody's key stands beside a change that no request asks, and no word of the staff beside one that takes
+    /// another back.
+    fn is_signed_as_due(&self) -> bool
+        ensures { IsTrue result ↔ IsSigned self.now }
+    {
+        match &self.change {
+            Change::Begin(_) => self.badge.is_none(),
+            Change::Void(_) => {
+                self.badge.is_none() && self.note.as_str() == "" && self.staff.as_str() == ""
+            }
+            _ => true,
+        }
     }
 }

@@ -1,23 +1,26 @@
 //! A history in a file: a chain of lines, each of them that of an entry.
 
-ghost use Rattle.std.specs.Prelude.{◌≡◌, ◌≢◌, ◌+◌, ◌∷◌, [], false, Err, IfErr, IfOk, IsTrue, OnOk, length};
+ghost use Rattle.std.specs.Prelude.{◌≡◌, ◌≢◌, ◌↔◌, ◌+◌, ◌∷◌, [], false, Err, IfErr, IfOk, IsTrue, MatchOption, OnOk, length};
 ghost use Rattle.sqlite.specs.Held.{Held, state};
-ghost use Rattle.rd_tables.specs.Connections.{IsClean, IsOpen};
-ghost use Rattle.rd_chain.specs.Held.{Appends, IsAtRest, IsCreated, IsFullFor, IsNotCreated, IsNotOpened, IsOpened, Keeps, lines};
+ghost use Rattle.rd_tables.specs.Connections.{IsClean, IsOpen, LeavesOpen};
+ghost use Rattle.rd_chain.specs.Held.{Appends, HoldsChain, IsAtRest, IsCreated, IsFullFor, IsNotCreated, IsNotOpened, IsOpened, Keeps, lines};
 ghost use Rattle.rd_history.specs.Entries.{HasDigests, IsEntry};
-ghost use Rattle.rd_history.specs.Histories.{HoldsHistory, IsHistory, MayBeTakenBack, MayBeVoid, MayCome, line_at};
+ghost use Rattle.rd_history.specs.Histories.{HoldsHistory, IsHistory, MayBeTakenBack, IsAsked, MayCome, line_at};
+ghost use Rattle.rd_history.specs.Reading.{IsLineOf};
+ghost use Rattle.rd_history.specs.Settled.{EndIn};
 ghost use Rattle.rd_history.specs.Stages.{EndsSo};
 
 use crate::entry::{Entry, LAST_NUMBER};
+use crate::reading::read_line;
 use crate::stage::Stage;
 use crate::writing;
-use rd_chain::{Chain, ChainFault, CreateFault, OpenFault, Refused};
+use rd_chain::{Chain, ChainFault, CreateFault, OpenFault, Refused, SummedLine};
 use sqlite::{Alter, Connection};
 use std::alloc::Global;
 use std::marker::Model;
 
-/// A history over a connection: a chain whose lines are those of entries. In memory it keeps whether the last of them is
-/// a change that nothing has taken back.
+/// A history over a connection: a chain whose lines are those of entries. In memory it keeps whether the last of them
+/// is a change alone, that nothing has taken back.
 #[derive(Drop)]
 pub struct History<S: Alter> {
     chain: Chain<S>,
@@ -39,9 +42,10 @@ impl<S: Alter> Model for History<S> {
     ghost invariant = { λ history. IsOpen S.Store history.chain → EndsSo history.ends_in_change (lines S.Store history.chain) };
 }
 
-/// Reads all lines, and says whether the last of them is that of a change that nothing has taken back.
+/// Reads all lines, and says whether the last of them is that of a change alone, that nothing has taken back.
 ///
-/// It fails with `Broken` if they are not those of a history, and with `Sql` if the database fails, or if memory runs out.
+/// It fails with `Broken` if they are not those of a history, and with `Sql` if the database fails, or if memory runs
+/// out.
 fn judge<S: Alter>(alloc: Global, chain: &mut Chain<S>) -> Result<bool, OpenFault>
     ensures keeps { Keeps S.Store chain.old chain.new }
     ensures ok { IsOpen S.Store chain.new → IfOk result (λ ends. EndsSo ends (lines S.Store chain.old)) }
@@ -58,6 +62,7 @@ fn judge<S: Alter>(alloc: Global, chain: &mut Chain<S>) -> Result<bool, OpenFaul
         let before = stage.number;
         stage = stage.with_lines(alloc, &page)?;
         if stage.number <= before {
+            // A connection that a fault has shut may tell no lines.
             return Err(OpenFault::Sql);
         }
     }
@@ -67,8 +72,22 @@ fn judge<S: Alter>(alloc: Global, chain: &mut Chain<S>) -> Result<bool, OpenFaul
     Ok(stage.ends_in_change)
 }
 
+/// The entry of a line that was read; `Sql` where it is the line of none, or memory runs out.
+fn entry_in(alloc: Global, line: &SummedLine) -> Result<Entry, ChainFault>
+    ensures { IfOk result (IsLineOf line.now.line.items) }
+{
+    let Ok(text) = str::from_utf8(&line.line) else {
+        return Err(ChainFault::Sql);
+    };
+    match read_line(alloc, text) {
+        Ok(Some(entry)) => Ok(entry),
+        Ok(None) | Err(_) => Err(ChainFault::Sql),
+    }
+}
+
 impl<S: Alter> History<S> {
-    /// Makes a history without entries in a database without tables. It fails as `Chain::create` does.
+    /// Makes a history without entries in a database without tables. The connection is outside a transaction. It fails as
+    /// `Chain::create` does.
     pub fn create(conn: Connection<S>) -> Result<History<S>, Refused<CreateFault, S>>
         requires outside { conn.in_transaction ≡ false }
         ensures created { IfOk result (λ history. IsCreated S.Store conn history) }
@@ -118,25 +137,50 @@ impl<S: Alter> History<S> {
         self.chain.last()
     }
 
-    /// Whether the last entry is a change that nothing has taken back. It is answered from memory.
+    /// Whether the last entry may be taken back: it is a change alone, and nothing has taken it back. It is answered from
+    /// memory.
     pub fn ends_in_change(&self) -> bool
-        ensures { IsOpen S.Store self.now → IsTrue result → MayBeTakenBack (lines S.Store self.now) }
+        ensures { IsOpen S.Store self.now → IsTrue result ↔ MayBeTakenBack (lines S.Store self.now) }
     {
         self.ends_in_change
     }
 
-    /// Puts an entry at the end, with the next number in place of its own. After `Ok` it is durable. A change that may be
-    /// taken back may always come (`changes_may_come`), and can then be taken back.
+    /// The last entry; `None` where there is none. It changes nothing.
     ///
-    /// It fails with `Full` where there are 999,999,999 entries, and with `Sql` if the database fails, or if memory runs
-    /// out.
+    /// It fails with `Sql` if the database fails, or if memory runs out.
+    pub fn last_entry(&mut self, alloc: Global) -> Result<Option<Entry>, ChainFault>
+        ensures keeps { Keeps S.Store self.old self.new }
+        ensures last { IsOpen S.Store self.new → IfOk result (λ found.
+            MatchOption found (lines S.Store self.old ≡ []) (EndIn (lines S.Store self.old))) }
+        ensures ends_open { LeavesOpen S.Store self.new result }
+    {
+        let last = self.chain.last();
+        let page = match self.chain.lines_after(alloc, last.saturating_sub(1)) {
+            Ok(page) => page,
+            Err(fault) => return Err(fault),
+        };
+        match page.first() {
+            Some(line) => match entry_in(alloc, line) {
+                Ok(entry) => Ok(Some(entry)),
+                Err(fault) => Err(fault),
+            },
+            None => Ok(None),
+        }
+    }
+
+    /// Puts an entry at the end, with the next number in place of its own, which may be any within the limits. After `Ok`
+    /// it is durable. What a request asks may always come (`changes_may_come`), and then be taken back. A base of
+    /// things cannot be put, as its first entry alone makes no history.
+    ///
+    /// It fails with `Full` where there are 999,999,999 entries, and with `Sql` if the database fails, or if memory
+    /// runs out.
     pub fn append(&mut self, alloc: Global, entry: Entry) -> Result<(), ChainFault>
         requires fits { IsEntry entry }
         requires digests { HasDigests entry }
         requires comes { IsOpen S.Store self.old → MayCome entry.change (lines S.Store self.old) }
         ensures appends { Appends S.Store self.old self.new (line_at (length (lines S.Store self.old) + 1) entry ∷ []) result }
         ensures full { IsFullFor S.Store self.old self.new 1 result }
-        ensures back { IsOpen S.Store self.new → OnOk result (MayBeVoid entry.change → MayBeTakenBack (lines S.Store self.new)) }
+        ensures back { IsOpen S.Store self.new → OnOk result (IsAsked entry.change → MayBeTakenBack (lines S.Store self.new)) }
     {
         // If it fails below, a crash leaves the lines as they are here.
         self.chain.between_calls();
@@ -151,7 +195,7 @@ impl<S: Alter> History<S> {
         let Ok(line) = writing::line(alloc, &entry) else {
             return Err(ChainFault::Sql);
         };
-        let ends_in_change = entry.change.may_be_void();
+        let ends_in_change = entry.change.is_asked();
         match self.chain.append(line.as_str()) {
             Ok(()) => {
                 self.ends_in_change = ends_in_change;
@@ -163,7 +207,8 @@ impl<S: Alter> History<S> {
 
     /// Gives the connection back, with the lines in its database.
     pub fn into_connection(self) -> Connection<S>
-        ensures { result ≡ self }
+        ensures same { result ≡ self }
+        ensures holds { HoldsChain (state S.Store result) }
     {
         let History {
             chain,

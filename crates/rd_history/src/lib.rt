@@ -7,6 +7,7 @@ mod entry;
 mod history;
 mod laws;
 mod reading;
+mod settling;
 mod stage;
 #[cfg(test)]
 mod tests;
@@ -17,4 +18,5 @@ pub use entry::{Cause, Change, Entry, LAST_NUMBER};
 pub use history::History;
 pub use laws::{bases_tell, changes_may_come, lines_are_entries, voids_take_back};
 pub use reading::read_line;
+pub use settling::{Unsettled, settle};
 pub use writing::line;

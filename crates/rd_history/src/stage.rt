@@ -40,6 +40,7 @@ impl Stage {
             Change::Void(_) if self.ends_in_change => (0, false),
             Change::Begin(_) | Change::Void(_) => return None,
             _ if self.to_come == 0 => (0, true),
+            Change::DropRule { .. } | Change::DropKey { .. } => return None,
             _ => (self.to_come - 1, false),
         };
         Some(Stage {
@@ -49,8 +50,8 @@ impl Stage {
         })
     }
 
-    /// The stage with a line more. It fails with `Broken` if the line is not that of the next entry, and with `Sql` when
-    /// memory runs out.
+    /// The stage with a line more. It fails with `Broken` if the line is not that of the next entry, and with `Sql`
+    /// when memory runs out.
     fn with_line(self, alloc: Global, line: &[u8]) -> Result<Stage, OpenFault>
         ensures ok { IfOk result (Follows line.now self) }
         ensures broken { IfErr result (λ fault. fault ≡ OpenFault.Broken → (next : _) → ¬ Follows line.now self next) }

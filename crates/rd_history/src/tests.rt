@@ -1,4 +1,4 @@
-//! Histories in memory: which lines are opened as one, and that what was put is there when it is opened again.
+//! Histories in memory: which lines are opened as one, and that what was put stands when it is opened again.
 
 use crate::{Cause, Change, Entry, History, changes_may_come};
 use rd_chain::{Chain, OpenFault, Refused};
@@ -11,22 +11,66 @@ const NONE_STANDS: &str = r#"{"begin":0}"#;
 
 const ONE_STANDS: &str = r#"{"begin":1}"#;
 
+const TWO_STAND: &str = r#"{"begin":2}"#;
+
 const DEED: &str = r#"{"deed":{"deed":7,"donor":"A. Curator","signed":"2019-05-04"}}"#;
+
+const DROP: &str = r#"{"drop_rule":{"deed":7,"rank":10}}"#;
 
 const VOID: &str = r#"{"void":"conflict"}"#;
 
-/// What the entries of a history change, and why these are none.
-const CHANGES: [(&[&str], Option<OpenFault>); 10] = [
-    (&[], None),
-    (&[NONE_STANDS, ONE_STANDS, DEED], None),
-    (&[DEED, VOID, DEED], None),
-    (&[ONE_STANDS], Some(OpenFault::Broken)),
-    (&[ONE_STANDS, NONE_STANDS], Some(OpenFault::Broken)),
-    (&[ONE_STANDS, VOID], Some(OpenFault::Broken)),
-    (&[ONE_STANDS, DEED, VOID], Some(OpenFault::Broken)),
-    (&[VOID], Some(OpenFault::Broken)),
-    (&[DEED, VOID, VOID], Some(OpenFault::Broken)),
-    (&[r#"{"deed":{}}"#], Some(OpenFault::Broken)),
+/// A case, what entries change, and why these are no history.
+type Case<'a> = (&'a str, &'a [&'a str], Option<OpenFault>);
+
+const CASES: [Case<'_>; 10] = [
+    ("none", &[], None),
+    ("two bases", &[NONE_STANDS, ONE_STANDS, DEED], None),
+    ("taken back", &[DEED, VOID, DROP, VOID, DEED], None),
+    (
+        "taken back behind a base",
+        &[ONE_STANDS, DEED, DEED, VOID],
+        None,
+    ),
+    (
+        "a base is short",
+        &[TWO_STAND, DEED],
+        Some(OpenFault::Broken),
+    ),
+    (
+        "a base in a base",
+        &[TWO_STAND, NONE_STANDS],
+        Some(OpenFault::Broken),
+    ),
+    (
+        "a drop in a base",
+        &[ONE_STANDS, DROP],
+        Some(OpenFault::Broken),
+    ),
+    (
+        "of a base",
+        &[ONE_STANDS, DEED, VOID],
+        Some(OpenFault::Broken),
+    ),
+    ("twice", &[DEED, VOID, VOID], Some(OpenFault::Broken)),
+    (
+        "no change",
+        &[DEED, r#"{"deed":{}}"#],
+        Some(OpenFault::Broken),
+    ),
+];
+
+const BASES_TAKEN_BACK: [Case<'_>; 3] = [
+    ("first", &[VOID], Some(OpenFault::Broken)),
+    (
+        "in a base",
+        &[TWO_STAND, DEED, VOID],
+        Some(OpenFault::Broken),
+    ),
+    (
+        "of an empty base",
+        &[NONE_STANDS, VOID],
+        Some(OpenFault::Broken),
+    ),
 ];
 
 fn line_of(alloc: Global, change: &str, number: u32) -> Result<String, AllocError> {
@@ -38,16 +82,18 @@ fn line_of(alloc: Global, change: &str, number: u32) -> Result<String, AllocErro
     format!(in alloc; "{before}{change}{between}{number}{after}")
 }
 
-fn new_chain(alloc: Global) -> Option<Chain<MemStore>> {
-    let conn = Connection::open_in_memory(alloc).ok()?;
+fn new_chain(alloc: Global) -> Result<Chain<MemStore>, Fail> {
+    let Ok(conn) = Connection::open_in_memory(alloc) else {
+        return Err(Fail::new("no connection"));
+    };
     match Chain::create(conn) {
-        Ok(chain) => Some(chain),
+        Ok(chain) => Ok(chain),
         Err(
             Refused {
                 fault: _,
                 conn: _conn,
             },
-        ) => None,
+        ) => Err(Fail::new("no chain")),
     }
 }
 
@@ -61,23 +107,60 @@ fn opened(alloc: Global, conn: Connection<MemStore>) -> Result<History<MemStore>
     }
 }
 
-/// Why the lines with these changes are no history, the first of them with this number.
-fn refused(alloc: Global, changes: &[&str], first: u32) -> Option<OpenFault> {
+fn put(alloc: Global, chain: &mut Chain<MemStore>, change: &str, number: u32) -> Result<(), Fail> {
+    let Ok(line) = line_of(alloc, change, number) else {
+        return Err(Fail::new("no line"));
+    };
+    match chain.append(line.as_str()) {
+        Ok(()) => Ok(()),
+        Err(_) => Err(Fail::new("not put")),
+    }
+}
+
+/// A chain of lines with these changes, the first of them with this number.
+fn chain_of(alloc: Global, changes: &[&str], first: u32) -> Result<Chain<MemStore>, Fail> {
     let mut chain = new_chain(alloc)?;
     for (change, number) in changes.iter().zip(first..) {
-        let line = line_of(alloc, change, number).ok()?;
-        chain.append(line.as_str()).ok()?;
+        put(alloc, &mut chain, change, number)?;
     }
-    opened(alloc, chain.into_connection()).err()
+    Ok(chain)
 }
 
 #[test]
 fn which_lines_are_a_history(rt: HostRuntime) -> Result<(), Fail> {
-    for (changes, wanted) in CHANGES {
-        let first = changes.first().unwrap_or(&"");
-        assert_eq!(rt; refused(rt.alloc(), changes, 1), wanted, "{first}");
+    for (case, changes, wanted) in CASES {
+        let chain = chain_of(rt.alloc(), changes, 1)?;
+        assert_eq!(rt;
+            opened(rt.alloc(), chain.into_connection()).err(),
+            wanted,
+            "{case}"
+        );
     }
-    assert_eq!(rt; refused(rt.alloc(), &[DEED], 2), Some(OpenFault::Broken));
+    for (case, changes, wanted) in BASES_TAKEN_BACK {
+        let chain = chain_of(rt.alloc(), changes, 1)?;
+        assert_eq!(rt;
+            opened(rt.alloc(), chain.into_connection()).err(),
+            wanted,
+            "{case}"
+        );
+    }
+    let second = chain_of(rt.alloc(), &[DEED], 2)?;
+    let found = opened(rt.alloc(), second.into_connection()).err();
+    assert_eq!(rt; found, Some(OpenFault::Broken), "a first number of 2");
+    Ok(())
+}
+
+#[test]
+fn more_lines_than_a_page(rt: HostRuntime) -> Result<(), Fail> {
+    for (last, wanted) in [(VOID, None), ("1", Some(OpenFault::Broken))] {
+        let mut chain = chain_of(rt.alloc(), &[DEED; 200], 1)?;
+        put(rt.alloc(), &mut chain, last, 201)?;
+        assert_eq!(rt;
+            opened(rt.alloc(), chain.into_connection()).err(),
+            wanted,
+            "{last}"
+        );
+    }
     Ok(())
 }
 
@@ -92,27 +175,37 @@ fn entry_of(alloc: Global, change: Change) -> Entry {
     }
 }
 
+/// A history that was opened again, if it has so many entries, of which the last may be taken back or not.
+fn again(
+    alloc: Global,
+    history: History<MemStore>,
+    count: u32,
+    ends_in_change: bool,
+) -> Result<History<MemStore>, Fail> {
+    match opened(alloc, history.into_connection()) {
+        Ok(again) if again.last() == count && again.ends_in_change() == ends_in_change => Ok(again),
+        _ => Err(Fail::new("not as it was put")),
+    }
+}
+
 #[test]
-fn what_is_put_is_there_again(rt: HostRuntime) -> Result<(), Fail> {
+fn what_is_put_stands_again(rt: HostRuntime) -> Result<(), Fail> {
     changes_may_come();
     let alloc = rt.alloc();
-    let Some(chain) = new_chain(alloc) else {
-        return Err(Fail::new("no chain"));
-    };
-    let Ok(mut history) = opened(alloc, chain.into_connection()) else {
+    let Ok(history) = opened(alloc, new_chain(alloc)?.into_connection()) else {
         return Err(Fail::new("no history"));
     };
-    assert!(rt; !history.ends_in_change());
+    let mut history = again(alloc, history, 0, false)?;
     let put = history.append(alloc, entry_of(alloc, Change::DropKey { digest: [7; 32] }));
     assert!(rt; put.is_ok());
+    let mut history = again(alloc, history, 1, true)?;
+    let Ok(Some(last)) = history.last_entry(alloc) else {
+        return Err(Fail::new("no last entry"));
+    };
+    assert!(rt; matches!(last.change, Change::DropKey { digest: [7, ..] }));
     assert!(rt; history.ends_in_change());
     let taken_back = history.append(alloc, entry_of(alloc, Change::Void(Cause::Lost)));
     assert!(rt; taken_back.is_ok());
-    assert_eq!(rt; history.last(), 2);
-    let Ok(again) = opened(alloc, history.into_connection()) else {
-        return Err(Fail::new("not opened"));
-    };
-    assert_eq!(rt; again.last(), 2);
-    assert!(rt; !again.ends_in_change());
+    let _ = again(alloc, history, 2, false)?;
     Ok(())
 }

@@ -30,13 +30,13 @@ invariant_of-self g c = λ is_open.
     let fits : FitsSigned w64 c.args.entry.moment = search rules in
     let line : c.in-Ok.line ≡ line_of entry = c.in-Ok.ensures.line ∙ ap (λ m. line_of (record entry { moment = m })) (to_z-of_z w64 c.args.entry.moment fits) in
     let number : entry.number ≡ length (lines g.S.Store old) + 1 = ap (λ n. n + 1) (c.last-last.ensures was) in
-    let within : IsEntry entry = record { change = c.requires.fits.change; moment = c.requires.fits.moment; note = c.requires.fits.note; number = (omega arith, omega arith); staff = c.requires.fits.staff } in
+    let within : IsEntry entry = record { change = c.requires.fits.change; moment = c.requires.fits.moment; note = c.requires.fits.note; number = (omega arith, omega arith); staff = c.requires.fits.staff; signed = c.requires.fits.signed } in
     let comes = subst (λ h. IsOpen g.S.Store h → MayCome c.args.entry.change (lines g.S.Store h)) (sym c.self.view_is) c.requires.comes was in
-    subst (EndsSo c.may_be_void-ends_in_change.result) (sym (appends.ok is_open ∙ ap (λ l. lines g.S.Store old ++ l ∷ []) (c.as_str.ensures ∙ line)))
-    (ends_more (lines g.S.Store old) c.self.inside.ends_in_change c.may_be_void-ends_in_change.result entry (c.self.invariant was) comes within c.requires.digests number (subst IsUtf8 line c.in-Ok.ensures.utf8)
-    c.may_be_void-ends_in_change.ensures.0 c.may_be_void-ends_in_change.ensures.1)
+    subst (EndsSo c.is_asked-ends_in_change.result) (sym (appends.ok is_open ∙ ap (λ l. lines g.S.Store old ++ l ∷ []) (c.as_str.ensures ∙ line)))
+    (ends_more (lines g.S.Store old) c.self.inside.ends_in_change c.is_asked-ends_in_change.result entry (c.self.invariant was) comes within c.requires.digests number (subst IsUtf8 line c.in-Ok.ensures.utf8)
+    c.is_asked-ends_in_change.ensures.0 c.is_asked-ends_in_change.ensures.1)
 
 pub returns-in-Ok-append-clause-back : goal.returns-in-Ok-append-clause-back
 returns-in-Ok-append-clause-back g c = λ is_open may.
     let these = lines g.S.Store c.append.new.self in
-    may_be_taken_back these (subst (λ flag. EndsSo flag these) (c.may_be_void-ends_in_change.ensures.1 may) (invariant_of-self g c is_open))
+    may_be_taken_back these (subst (λ flag. EndsSo flag these) (c.is_asked-ends_in_change.ensures.1 may) (invariant_of-self g c is_open))
