@@ -1,15 +1,22 @@
 // Tables of CSV: read as they come, and written so that a spreadsheet takes no cell of them as a formula.
 
 // The fields of the record at a place of a text, and where it ends; null where its end has not come yet. Most lines
-// have no quotes. A field in quotes has its own quotes doubled.
+// have no quotes, and to look for each comma is quicker than to split them. In quotes a field has its own ones doubled.
 function recordAt(text, at) {
   const end = text.indexOf("\n", at);
   if (end < 0) return null;
-  const line = text.slice(at, end);
-  if (!line.includes('"')) return { record: line.split(","), end: end + 1 };
+  const record = [];
+  if (!text.slice(at, end).includes('"')) {
+    let from = at;
+    for (let to = text.indexOf(",", at); to >= 0 && to < end; to = text.indexOf(",", from)) {
+      record.push(text.slice(from, to));
+      from = to + 1;
+    }
+    record.push(text.slice(from, end));
+    return { record, end: end + 1 };
+  }
   const field = /(?:"((?:[^"]|"")*)"|([^",\n]*))([,\n])/y;
   field.lastIndex = at;
-  const record = [];
   for (let found = field.exec(text); found !== null; found = field.exec(text)) {
     record.push(found[1] === undefined ? found[2] : found[1].replaceAll('""', '"'));
     if (found[3] === "\n") return { record, end: field.lastIndex };
