@@ -8,12 +8,8 @@ const printed = (bytes, others) => Array.from(bytes, (byte) => {
 
 const trimmed = (bytes, pad) => bytes.subarray(0, bytes.findLastIndex((byte) => byte !== pad) + 1);
 
-// How often each unit is claimed.
-function tally(units) {
-  const counts = new Map();
-  for (const unit of units) counts.set(unit, (counts.get(unit) ?? 0) + 1);
-  return counts;
-}
+// Each unit that is claimed, as often as it is.
+const byUnit = (units) => Map.groupBy(units, (unit) => unit);
 
 const faultsOf = (holds) => Object.keys(holds).filter((word) => holds[word]);
 
@@ -52,14 +48,14 @@ function cbmDisk(bytes) {
   const entries = places.map((place) => bytes.subarray(place, place + 32));
   const files = entries.flatMap((entry, slot) => (entry[2] === 0 ? [] : [cbmFile(bytes, entry, slot)]));
   const system = new Set([blockAt(18, 0), ...directory]);
-  const taken = tally([...system, ...files.flatMap(({ units }) => units)]);
+  const taken = byUnit([...system, ...files.flatMap(({ units }) => units)]);
   const isBad = (block) => bytes[256 * BLOCKS + block] > 1;
   for (const file of files) {
     file.faults = faultsOf({
       "not-closed": !file.isClosed,
       "off-disk": file.ends.includes("off"),
       loop: file.ends.includes("loop"),
-      crossed: file.units.some((unit) => taken.get(unit) > 1),
+      crossed: file.units.some((unit) => taken.get(unit).length > 1),
       "read-error": file.units.some(isBad),
     });
     file.isServed = file.faults.length === 0 && ["SEQ", "PRG", "USR"].includes(file.type);
@@ -92,7 +88,7 @@ function cpmDisk(bytes) {
     byName.get(key)[3].push(entry);
   }
   const files = Array.from(byName.values(), cpmFile);
-  const taken = tally(files.flatMap(({ units }) => units));
+  const taken = byUnit(files.flatMap(({ units }) => units));
   for (const file of files) {
     const { entries, units } = file;
     const extents = entries.map(extentOf);
@@ -104,13 +100,13 @@ function cpmDisk(bytes) {
       short: entries.some((entry, at) => entry[15] < 128 && extents[at] < extents.at(-1)),
       hole: reached.includes(0),
       "off-disk": units.some((unit) => unit > 242),
-      crossed: units.some((unit) => unit === 1 || taken.get(unit) > 1),
+      crossed: units.some((unit) => unit === 1 || taken.get(unit).length > 1),
     });
     file.isServed = file.faults.length === 0;
+    // an entry would keep the bytes of the whole dump
+    delete file.entries;
   }
   const unitAt = (track, sector) => (track < 2 ? -1 : (26 * (track - 2) + SKEW.indexOf(sector + 1)) >> 3);
-  // an entry would keep the bytes of the whole dump
-  for (const file of files) delete file.entries;
   return { tracks: Array(77).fill(26), unitAt, files, taken, system: new Set([-1, 0, 1]), isBad: () => false };
 }
 

@@ -2,9 +2,9 @@
 import { closedNow, closedWords, deedWords, rulesOf } from "./room.closed.js";
 import { allDisks, familyOf, known, lastShown, listingOf, mayRead, nameOfDisk, nameOfFile } from "./room.lists.js";
 import { typeWords } from "./room.lists.js";
-import { askAbout, button, citation, inSight, link, neighbours, numberOf, permission, quoting } from "./room.parts.js";
+import { askAbout, citation, inSight, link, neighbours, numberOf, permission, quoting } from "./room.parts.js";
 import { directoryScreen } from "./screen.js";
-import { box, cell, counted, element, kindWords, loaded, refusal, row, table } from "./shared.js";
+import { box, button, cell, counted, element, kindWords, loaded, refusal, row, table } from "./shared.js";
 import { noteOf } from "./titles.js";
 
 function fileRow(kind, accession, file, hasUsers) {

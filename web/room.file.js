@@ -3,10 +3,10 @@ import { BASIC_WORDS, basicListing } from "./basic.js";
 import { pictureIn } from "./pictures.js";
 import { whyClosed } from "./room.closed.js";
 import { kept, listingOf, mayRead, nameOfDisk, nameOfFile, typeWords } from "./room.lists.js";
-import { askAbout, button, citation, facts, link, neighbours, numberOf, quoting } from "./room.parts.js";
+import { askAbout, citation, facts, link, neighbours, numberOf, quoting } from "./room.parts.js";
 import { fileName } from "./safe.js";
 import { blocksOf, canvasOf, textScreen } from "./screen.js";
-import { Refused, ask, box, counted, digestOf, element, kindWords, meaning, part, textOf } from "./shared.js";
+import { Refused, ask, box, button, counted, digestOf, element, kindWords, meaning, part, textOf } from "./shared.js";
 import { cbmText, cpmText, hexText, isInSmall, petsciiText, wordStarText } from "./texts.js";
 
 // A window in which a line of bytes is short.

@@ -2,8 +2,8 @@
 import { house, readAbout, room } from "./about.js";
 import { choicesIn, showHome } from "./room.home.js";
 import { allDisks, nameOfDisk } from "./room.lists.js";
-import { askAbout, askedWords, button, link } from "./room.parts.js";
-import { Refused, box, keyInUse, listenForKey, loaded, part, refusal, useNow } from "./shared.js";
+import { askAbout, askedWords, link } from "./room.parts.js";
+import { Refused, box, button, keyInUse, listenForKey, loaded, part, refusal, useNow } from "./shared.js";
 import { readTitles } from "./titles.js";
 
 // How often the view has changed: the page drops a reply to an earlier view.

@@ -22,9 +22,7 @@ const OF_CPM = {
 
 let lists = {};
 
-forgetWithKey(() => {
-  lists = {};
-});
+forgetWithKey(() => (lists = {}));
 
 // The disks in the order in which the home showed them last.
 export const lastShown = () => lists.shown ?? [];
@@ -37,9 +35,7 @@ export function kept(name, read, since = 0) {
     const asked = Date.now();
     const made = { asked, list: read().then((list) => Object.assign(list, { asked })) };
     lists[name] = made;
-    made.list.catch(() => {
-      if (lists[name] === made) delete lists[name];
-    });
+    made.list.catch(() => lists[name] === made && delete lists[name]);
   }
   return lists[name].list;
 }

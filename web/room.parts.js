@@ -1,18 +1,11 @@
 // What the views of the page for readers share: what a reader may do with a file, and ways to quote, ask and go on.
 import { askStaff, holder } from "./about.js";
 import { mayRead, nameOfDisk, typeWords } from "./room.lists.js";
-import { box, counted, element, faultWords, keyInUse, kindWords, listOf, meaning, textOf } from "./shared.js";
+import { box, button, counted, element, faultWords, keyInUse, kindWords, listOf, meaning, textOf } from "./shared.js";
 import { titleOf } from "./titles.js";
 
 // A link within the page.
 export const link = (words, place, fields = {}) => element("a", words, { href: `#/${place}`, ...fields });
-
-// A button that does something.
-export function button(words, act, fields = {}) {
-  const made = element("button", words, { type: "button", ...fields });
-  made.addEventListener("click", act);
-  return made;
-}
 
 // Ways to go, under a name.
 export function ways(label, className, ...inside) {

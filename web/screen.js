@@ -95,12 +95,11 @@ function cpmDirectory({ files }, isSmall) {
     const mine = files.filter((file) => (file.user ?? 0) === user);
     const across = isSmall ? 2 : 4;
     for (let at = 0; at < mine.length; at += across) {
-      const some = mine.slice(at, at + across).flatMap((file, place) => {
+      lines.push(mine.slice(at, at + across).flatMap((file, place) => {
         const [name] = shownName("cpm8", file.name).split(/\.(?=[^.]*$)/);
         const words = `${name.padEnd(8)} ${file.type.padEnd(3)}`;
         return [...typed(place ? " : " : "A: ", BRIGHT), ...typed(words, mayRead(file) ? BRIGHT : DIM)];
-      });
-      lines.push(some);
+      }));
     }
   }
   lines.push([...typed("A>", BRIGHT), ...typed(" ", BRIGHT, true)]);

@@ -118,6 +118,12 @@ export function box(name, className, ...inside) {
   return made;
 }
 
+export function button(words, press, fields_ = {}) {
+  const made = element("button", words, { type: "button", ...fields_ });
+  if (press) made.addEventListener("click", press);
+  return made;
+}
+
 export function cell(label, content, kind = "") {
   const made = box("td", content === "" ? "empty" : kind, content instanceof Node ? content : element("span", content));
   made.dataset.label = label;

@@ -1,5 +1,5 @@
 // The staff's side of the desk: what stands there, changes to it, and the work of a section of the page.
-import { Refused, askObject, box, cell, element, fields, grouped, listOf, part, refusal } from "./shared.js";
+import { Refused, askObject, box, button, cell, element, fields, grouped, listOf, part, refusal } from "./shared.js";
 import { withTitle } from "./titles.js";
 
 // After these nobody here knows whether the desk has done what was sent. A command that is sent twice is done once.
@@ -99,12 +99,6 @@ export function dated(name, text, fields = {}) {
     from = end;
   }
   if (from < text.length) made.append(text.slice(from));
-  return made;
-}
-
-export function button(words, press, fields = {}) {
-  const made = element("button", words, { type: "button", ...fields });
-  if (press) made.addEventListener("click", press);
   return made;
 }
 

@@ -1,8 +1,8 @@
 // One disk on one page: what it is, who gets what of it by which rules, its journal, and takedowns of ticked files.
 import { nameCell } from "./lists.js";
-import { askObject, box, cell, counted, element, grouped, part, row, table } from "./shared.js";
+import { askObject, box, button, cell, counted, element, grouped, part, row, table } from "./shared.js";
 import { checkWords, checked, surveyed } from "./staff.checks.js";
-import { ANY_NAME, button, change, dated, formOf, readHeld, rulesOf, showsAnew } from "./staff.desk.js";
+import { ANY_NAME, change, dated, formOf, readHeld, rulesOf, showsAnew } from "./staff.desk.js";
 import { COLUMNS as CHANGES, changeRow } from "./staff.journal.js";
 import { audienceCounts } from "./staff.forecast.js";
 import { SINCE, originsOf, sinceWords, standingDisk, standingRule } from "./staff.origins.js";

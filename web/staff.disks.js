@@ -1,8 +1,8 @@
 // Dumps of disks: chosen, described by their lengths and SHA-256, numbered by hand or by a sheet, and put.
 import { readDump } from "./dump.js";
-import { KINDS, Refused, box, cell, counted, digestOf, element, explainRefusal, kindWords } from "./shared.js";
+import { KINDS, Refused, box, button, cell, counted, digestOf, element, explainRefusal, kindWords } from "./shared.js";
 import { grouped, part, row, table } from "./shared.js";
-import { button, change, dated, formOf, readHeld, rulesOf, send, sure, work } from "./staff.desk.js";
+import { change, dated, formOf, readHeld, rulesOf, send, sure, work } from "./staff.desk.js";
 import { forecast, forecastWords } from "./staff.forecast.js";
 import { isDone, sendMany } from "./staff.many.js";
 import { diskMap } from "./staff.map.js";
@@ -42,19 +42,16 @@ const cellsOf = ({ accession, kind, deed, digest, file, sha256 }) =>
   sha256 ? [accession, kind, deed, sha256, file] : [accession.value, kind, deed.value, digest, file.name];
 const pathOf = (dump) => `/accessions/${cellsOf(dump).slice(0, 4).join("/")}`;
 
+// The columns of the list, and how each looks.
+const COLUMNS = { File: "name", Bytes: "number", Kind: "", "SHA-256": "digest", Accession: "", Deed: "", Result: "" };
+const listRow = (texts) => row(Object.entries(COLUMNS).map(([column, look], at) => cell(column, texts[at], look)));
+
 function dumpRow(dump) {
   const { file, kind, digest, accession, deed, says } = dump;
   const fields = dump.isLeftOut ? ["", ""] : [accession, deed];
   says.textContent = dump.problem || dump.outcome;
-  return row([
-    cell("File", kind === undefined ? file.name : mapButton(dump), "name"),
-    cell("Bytes", grouped(file.size), "number"),
-    cell("Kind", kind === undefined ? "" : kindWords(kind)),
-    cell("SHA-256", digest, "digest"),
-    cell("Accession", fields[0]),
-    cell("Deed", fields[1]),
-    cell("Result", says),
-  ]);
+  const name = kind === undefined ? file.name : mapButton(dump);
+  return listRow([name, grouped(file.size), kindWords(kind), digest, ...fields, says]);
 }
 
 // The name of a dump, with a button that shows its map.
@@ -67,16 +64,13 @@ function mapButton({ file, kind }) {
   return box("div", "", `${file.name} `, made);
 }
 
-function missingRow({ name, kind, sha256, accession, deed, problem }) {
-  const [file, digest] = [cell("File", name, "name"), cell("SHA-256", sha256, "digest")];
-  const others = [cell("Accession", accession), cell("Deed", deed), cell("Result", problem)];
-  return row([file, cell("Bytes", ""), cell("Kind", kindWords(kind)), digest, ...others]);
-}
+const missingRow = ({ name, kind, sha256, accession, deed, problem }) =>
+  listRow([name, "", kindWords(kind), sha256, accession, deed, problem]);
 
 function showDumps() {
-  const columns = ["File", "Bytes", "Kind", "SHA-256", "Accession", "Deed", "Result"];
   const rows = [...dumps.map(dumpRow), ...missing().map(missingRow)];
-  part("disks").querySelector(".list").replaceChildren(...(rows.length ? [table("Dumps", columns, rows)] : []));
+  const made = rows.length ? [table("Dumps", Object.keys(COLUMNS), rows)] : [];
+  part("disks").querySelector(".list").replaceChildren(...made);
   part("disks").querySelector(".choices").hidden = rows.length === 0;
 }
 

@@ -1,7 +1,7 @@
 // Many changes, one after the other: with progress, a report that can be saved, and a way to go on where they stopped.
 import { longTable } from "./lists.js";
-import { Refused, box, cell, counted, element, explainRefusal, refusalName, row } from "./shared.js";
-import { ANY_NAME, button, change, diskCell, isUnsure, keepReason, older, whoNow } from "./staff.desk.js";
+import { Refused, box, button, cell, counted, element, explainRefusal, refusalName, row } from "./shared.js";
+import { ANY_NAME, change, diskCell, isUnsure, keepReason, older, whoNow } from "./staff.desk.js";
 import { saveTable, saver } from "./staff.saved.js";
 import { momentNow } from "./staff.words.js";
 

@@ -1,8 +1,7 @@
 // The map of a dump: each sector where it is on the disk, the first track outermost; the chosen file, and faults.
 import { readDump } from "./dump.js";
 import { shownName } from "./names.js";
-import { box, counted, element, explained } from "./shared.js";
-import { button } from "./staff.desk.js";
+import { box, button, counted, element, explained } from "./shared.js";
 
 const [OUTER, INNER] = [100, 25];
 const WORDS = { chosen: "chosen file", used: "other files", system: "directory", fault: "faults", free: "free" };
@@ -26,7 +25,7 @@ function outline(track, tracks, sector) {
 
 // The units at which a file has a fault: that the drive could not read, that something else has too, or the last one.
 function faultyUnits({ faults, units }, { taken, isBad }) {
-  const found = units.filter((unit) => isBad(unit) || taken.get(unit) > 1);
+  const found = units.filter((unit) => isBad(unit) || taken.get(unit).length > 1);
   return faults.length && found.length === 0 ? units.slice(-1) : found;
 }
 

@@ -1,7 +1,7 @@
 // What a change of rules would open and what it would close, for whom and on which days, before it is made.
 import { shownName } from "./names.js";
-import { box, counted, element, loaded, part } from "./shared.js";
-import { button, dated, refusedWork, sure } from "./staff.desk.js";
+import { box, button, counted, element, loaded, part } from "./shared.js";
+import { dated, refusedWork, sure } from "./staff.desk.js";
 import { COLUMNS, given, readVerdicts, verdictsOf } from "./staff.verdicts.js";
 import { EFFECTS, audienceWords, dayAfter, isOnNoDay, listed, today } from "./staff.words.js";
 import { readTable } from "./stream.js";

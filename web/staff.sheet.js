@@ -47,13 +47,8 @@ export function matchRows(rows, dumps) {
 
 // Gives each row the first dump with its key that no row before it has got. Gives the dumps that are left.
 function giveByKey(rows, dumps, keyOfRow, keyOfDump) {
-  const lists = new Map();
   // from the last dump on, so that the first stands at the end of its list
-  for (const dump of [...dumps].reverse()) {
-    const key = keyOfDump(dump).join("\0");
-    if (!lists.has(key)) lists.set(key, []);
-    lists.get(key).push(dump);
-  }
+  const lists = Map.groupBy(dumps.toReversed(), (dump) => keyOfDump(dump).join("\0"));
   for (const row of rows) row.dump = lists.get(keyOfRow(row).join("\0"))?.pop() ?? null;
   const taken = new Set(rows.map(({ dump }) => dump));
   return dumps.filter((dump) => !taken.has(dump));
