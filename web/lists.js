@@ -1,58 +1,72 @@
-// Long lists: a table whose rows are drawn as far as they are seen. Its rows stand in blocks; a block that is far from
-// the screen is one empty row of the same height.
+// Long lists: a table whose rows are drawn as far as they are seen. They stand in blocks. Blocks that are far from the
+// screen and stand one after the other are a gap: one empty row as high as they all.
 import { shownName } from "./names.js";
 import { box, cell, element, grouped, table } from "./shared.js";
 
-const BLOCK = 50;
-const NEAR = "1200px 0px";
-// How high a row is before one was measured, in pixels.
+// Up to how many rows a table is drawn whole, and how many rows a block has.
+const WHOLE = 50;
+const BLOCK = 20;
+// How far from the screen blocks are drawn, and how high a row is before one was measured, in pixels.
+const NEAR = 1200;
 const ROW = 40;
 
-class Block {
-  constructor(items, rowOf, columns, list) {
-    Object.assign(this, { items, rowOf, columns, list, height: 0, body: element("tbody", null), isDrawn: true });
-    this.clear();
-  }
-
-  draw() {
-    if (this.isDrawn) return;
-    this.isDrawn = true;
-    this.body.replaceChildren(...this.items.map(this.rowOf));
-    this.height = this.body.getBoundingClientRect().height;
-    if (this.height === 0 || this.list.isMeasured) return;
-    // the first block that is drawn shows how high the rows of the others will be
-    Object.assign(this.list, { isMeasured: true, row: this.height / this.items.length });
-    this.list.blocks.forEach((block) => block.isDrawn || block.stretch());
-  }
-
-  // A block in which somebody is at work stays.
-  clear() {
-    if (!this.isDrawn || this.body.contains(document.activeElement)) return;
-    this.isDrawn = false;
-    const space = box("tr", "space", element("td", null, { colSpan: this.columns }));
+// The bodies of a table: a block or a gap, each for the blocks from its first to before its end.
+function bodiesOf(items, rowOf, columns) {
+  const heights = Array(Math.ceil(items.length / BLOCK)).fill(ROW * BLOCK);
+  let isMeasured = false;
+  const see = ({ target, isIntersecting, boundingClientRect: { top } }) => {
+    if (target.isConnected && target.isDrawn !== isIntersecting) (isIntersecting ? draw : clear)(target, top);
+  };
+  const observer = new IntersectionObserver((all) => all.forEach(see), { rootMargin: `${NEAR}px 0px` });
+  const body = (rows, fields) => {
+    const made = Object.assign(box("tbody", "", ...rows), fields);
+    observer.observe(made);
+    return made;
+  };
+  const block = (first) => {
+    const rows = items.slice(first * BLOCK, (first + 1) * BLOCK).map(rowOf);
+    // (the row of the heads is the first)
+    rows.forEach((one, at) => (one.ariaRowIndex = first * BLOCK + at + 2));
+    return body(rows, { first, end: first + 1, isDrawn: true });
+  };
+  const gap = (first, end) => {
+    if (first === end) return [];
+    const space = box("tr", "space", element("td", null, { colSpan: columns }));
     space.ariaHidden = "true";
-    this.body.replaceChildren(space);
-    this.stretch();
-  }
-
-  stretch() {
-    this.body.firstChild.firstChild.style.height = `${this.height || this.items.length * this.list.row}px`;
-  }
+    space.firstChild.style.height = `${heights.slice(first, end).reduce((sum, one) => sum + one)}px`;
+    return [body([space], { first, end, isDrawn: false })];
+  };
+  // draws the blocks of a gap that are near the screen; the first of all shows how high the others will be
+  const draw = (old, top) => {
+    let [from, place] = [old.first, top];
+    while (from < old.end - 1 && place + heights[from] < -NEAR) place += heights[from++];
+    let to = from;
+    do place += heights[to++];
+    while (to < old.end && place < window.innerHeight + NEAR);
+    const blocks = Array.from({ length: to - from }, (_, at) => block(from + at));
+    old.before(...blocks);
+    const drawn = blocks.map((one) => one.getBoundingClientRect().height);
+    if (!isMeasured) heights.fill(drawn[0]);
+    heights.splice(from, drawn.length, ...drawn);
+    isMeasured = true;
+    blocks[0].before(...gap(old.first, from));
+    old.replaceWith(...gap(to, old.end));
+  };
+  // makes a block a gap, one with those beside it; a block in which somebody is at work stays
+  const clear = (old) => {
+    if (old.contains(document.activeElement)) return;
+    const all = [old.previousSibling, old, old.nextSibling].filter((one) => one === old || one?.isDrawn === false);
+    old.before(...gap(all[0].first, all.at(-1).end));
+    all.forEach((one) => one.remove());
+  };
+  return gap(0, heights.length);
 }
 
 // A table of items, each as the row that `rowOf` makes of it.
 export function longTable(caption, columns, items, rowOf) {
-  if (items.length <= 2 * BLOCK) return table(caption, columns, items.map(rowOf));
+  if (items.length <= WHOLE) return table(caption, columns, items.map(rowOf));
   const made = table(caption, columns, []);
-  const list = { isMeasured: false, row: ROW, blocks: [] };
-  for (let at = 0; at < items.length; at += BLOCK) {
-    list.blocks.push(new Block(items.slice(at, at + BLOCK), rowOf, columns.length, list));
-  }
-  const blocks = new Map(list.blocks.map((block) => [block.body, block]));
-  const seen = ({ target, isIntersecting }) => blocks.get(target)[isIntersecting ? "draw" : "clear"]();
-  const observer = new IntersectionObserver((entries) => entries.forEach(seen), { rootMargin: NEAR });
-  [...blocks.keys()].forEach((body) => observer.observe(body));
-  made.lastChild.replaceWith(...blocks.keys());
+  made.lastChild.replaceWith(...bodiesOf(items, rowOf, columns.length));
   made.setAttribute("aria-rowcount", items.length + 1);
   return made;
 }
