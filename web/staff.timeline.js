@@ -1,13 +1,13 @@
 // The timeline: the days of each rule that begins or ends by itself, the next change first; a day to drag, and who gets
 // what on it, as the desk's verdicts say.
 import { listTable } from "./lists.js";
-import { box, cell, element, loaded, part, row } from "./shared.js";
-import { dated, formOf, readHeld, standing, work } from "./staff.desk.js";
+import { askObject, box, cell, element, listOf, loaded, part, row } from "./shared.js";
+import { dated, formOf, work } from "./staff.desk.js";
 import { audienceCounts } from "./staff.forecast.js";
 import { Changes, dayParts } from "./staff.rehearsal.js";
 import { limitFields } from "./staff.ruleform.js";
 import { COLUMNS, effectOf, onDay, readVerdicts } from "./staff.verdicts.js";
-import { AUDIENCES, RULES, dayAfter, isOnNoDay, ruleWords, today } from "./staff.words.js";
+import { AUDIENCES, RULES, dayAfter, isDay, isOnNoDay, ruleWords, today } from "./staff.words.js";
 import { keeper } from "./stream.js";
 
 // How many days the bars show before today and after the last change, and how far from today that one may be.
@@ -29,13 +29,17 @@ function share(day) {
   return `${100 * Math.min(1, Math.max(0, far))}%`;
 }
 
+// (of the lists this view keeps no more than these rules)
 async function readLines() {
-  for (const what of ["deeds", "takedowns"]) await readHeld(what);
-  const [now, most] = [today(), dayAfter(today(), MOST_DAYS)];
+  const [now, most, found] = [today(), dayAfter(today(), MOST_DAYS), []];
   const nextOf = (rule) => turnsOf(rule).find((day) => day > now) ?? "none";
-  const turning = (name) => standing(name).filter(({ rule }) => turnsOf(rule).length);
-  const linesOf = (name) => turning(name).map(({ scope, rule }) => ({ name, scope, rule, next: nextOf(rule) }));
-  lines = ["rules", "takedowns"].flatMap(linesOf).sort((one, other) => (one.next < other.next ? -1 : 1));
+  for (const [name, list, of] of [["rules", "deeds", "deed"], ["takedowns", "takedowns", "accession"]]) {
+    for (const { [of]: scope, rules } of listOf((await askObject(`/staff/${list}`))[list])) {
+      const turning = rules.filter((rule) => turnsOf(rule).length);
+      found.push(...turning.map((rule) => ({ name, scope, rule, next: nextOf(rule) })));
+    }
+  }
+  lines = found.sort((one, other) => (one.next < other.next ? -1 : 1));
   const last = [now, ...allTurns().filter((day) => day > now && day < most)].at(-1);
   range = { first: numberOf(dayAfter(now, -DAYS)), last: numberOf(dayAfter(last, DAYS)) };
 }
@@ -136,7 +140,8 @@ async function look() {
     await showDay(read, tools);
     return `Read: ${read}.`;
   };
-  if (field().reportValidity() && (await work("timeline", doing)) && field().value !== read) look();
+  const isFine = isDay(field().value) || field().reportValidity();
+  if (isFine && (await work("timeline", doing)) && field().value !== read) look();
 }
 
 export async function open() {
