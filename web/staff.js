@@ -26,8 +26,8 @@ let taken = false;
 // The museum's name, and its titles of disks: those for everybody, and those for the staff, which go before them.
 const own = Promise.all([readTitles(["titles.csv", "staff.titles.csv"]), readAbout()]);
 
-function place() {
-  const [, name, number] = /^#\/([a-z]+)(?:\/([1-9][0-9]{0,5})?)?$/.exec(location.hash) ?? [];
+function place(hash = location.hash) {
+  const [, name, number] = /^#\/([a-z]+)(?:\/([1-9][0-9]{0,5})?)?$/.exec(hash) ?? [];
   return Object.hasOwn(VIEWS, name ?? "") ? { name, number } : { name: "deeds" };
 }
 
@@ -105,6 +105,10 @@ function listen() {
   part("places").addEventListener("click", ({ target }) => {
     if (target.hash === location.hash) showView(true);
   });
+  // what a view needs comes while somebody types the key, or goes to its link (where it does not, its opening says so)
+  const come = ({ hash }) => VIEWS[place(hash).name].load?.().catch(() => {});
+  for (const move of ["pointerover", "focusin"]) part("places").addEventListener(move, ({ target }) => come(target));
+  come(location);
   listenForKey(useKey);
 }
 
