@@ -18,7 +18,7 @@ WATCH = """window.longest = 0;
 const take = (list) => list.getEntries().forEach((one) => { window.longest = Math.max(window.longest, one.duration); });
 new PerformanceObserver(take).observe({ type: "longtask" });"""
 # The commit of the earlier page, whose view of the year is the timeline now; a day on which something opens.
-BEFORE, TURN, ROUNDS, LISTS = "1cccd23d", "2026-12-01", 7, ("deeds", "takedowns", "keys", "checks")
+BEFORE, TURN, ROUNDS = "1cccd23d", "2026-12-01", 7
 GIVE = "const form = document.forms['key-form']; form.key.value = 'abc'; form.requestSubmit()"
 LOOK = """const form = document.querySelector("section:not([hidden]) form"), { day, later } = form.elements;
 if (later) { day.value = "%s"; later.click(); } else form.requestSubmit();""" % TODAY
@@ -55,8 +55,9 @@ def test_page_bears_ten_times_as_many_disks(disks, tmp_path, bounded, request):
     bounded(f"the longest work of a search of {disks:,} disks, beside a tenth", work / few_work, 4)
     assert memory < 30e6 + 12_000 * disks
 
-def costs(driver, page, replies, view, *looks):
+def costs(driver, page, replies, view):
     """Seconds of the processor that the page's thread takes until a view is shown, and to show it again; its memory."""
+    looks = [LOOK] * (view in ("eyes", "timeline", "year"))
     def taken(do, *words):
         before = metrics(driver)["TaskDuration"]
         for word in words:
@@ -80,16 +81,16 @@ def test_no_view_of_the_staff_costs_more_than_before(tmp_path):
     subprocess.run(f"git archive {BEFORE} web | tar -x -C {tmp_path}", cwd=ROOT, shell=True, check=True)
     museum, pages, came, worse = museums.many(10_000, 20, day=TODAY), (tmp_path / "web", stand_in.WEB), {}, set()
     museum.rules["T100"][1000]["until"] = TURN
-    replies = {f"/staff/{name}": getattr(museum, f"show_{name}")(None).reply for name in LISTS}
+    views = ("deeds", "takedowns", "keys", "checks", "rules", "eyes", "timeline")
+    replies = {f"/staff/{name}": getattr(museum, f"show_{name}")(None).reply for name in views[:4]}
     replies |= {f"/staff/verdicts/{day}": museum.show_verdicts(None, day).reply for day in (TODAY, TURN)}
-    views = {**{name: () for name in (*LISTS, "rules")}, "eyes": (LOOK,), "timeline": (LOOK,)}
     for _, view, page in itertools.product(range(ROUNDS), views, pages):
         name = view if page == stand_in.WEB else view.replace("timeline", "year")
         with chromium(tmp_path) as driver:
-            came.setdefault((view, page), []).append(costs(driver, page, replies, name, *views[view]))
+            came.setdefault((view, page), []).append(costs(driver, page, replies, name))
     for view, kind in itertools.product(views, (min, statistics.median)):
         old, new = ([kind(all_) for all_ in zip(*came[view, page])] for page in pages)
         for what, before, now in zip(("first", "again", "memory"), old, new):
-            print(f"{view}, {what}, {kind.__name__}: {now:.3g} beside {before:.3g}: {now / before:.2f} times", flush=True)
+            print(f"{view}, {what}, {kind.__name__}: {now:.3g} beside {before:.3g}, {now / before:.2f} times")
             worse |= {(view, what)} if now > 1.1 * before else set()
     assert worse <= {("keys", "again")}
