@@ -2,11 +2,11 @@
 
 // The fields of the record at a place of a text, and where it ends; null where its end has not come yet. Most lines
 // have no quotes, and to look for each comma is quicker than to split them. In quotes a field has its own ones doubled.
-function recordAt(text, at) {
+function recordAt(text, at, isPlain) {
   const end = text.indexOf("\n", at);
   if (end < 0) return null;
   const record = [];
-  if (!text.slice(at, end).includes('"')) {
+  if (isPlain || !text.slice(at, end).includes('"')) {
     let from = at;
     for (let to = text.indexOf(",", at); to >= 0 && to < end; to = text.indexOf(",", from)) {
       record.push(text.slice(from, to));
@@ -34,8 +34,8 @@ export class Records {
   add(part) {
     const text = this.rest + part;
     const records = [];
-    let at = 0;
-    for (let found = recordAt(text, at); found !== null; found = recordAt(text, at)) {
+    let [at, isPlain] = [0, !text.includes('"')];
+    for (let found = recordAt(text, at, isPlain); found !== null; found = recordAt(text, at, isPlain)) {
       records.push(found.record);
       at = found.end;
     }
