@@ -48,8 +48,8 @@ const listRow = (texts) => row(Object.entries(COLUMNS).map(([column, look], at) 
 
 function dumpRow(dump) {
   const { file, kind, digest, accession, deed, says } = dump;
-  const fields = dump.isLeftOut ? ["", ""] : [accession, deed];
   says.textContent = dump.problem || dump.outcome;
+  const fields = dump.isLeftOut ? ["", ""] : [accession, deed];
   const name = kind === undefined ? file.name : mapButton(dump);
   return listRow([name, grouped(file.size), kindWords(kind), digest, ...fields, says]);
 }

@@ -49,7 +49,9 @@ export class Changes {
   close() {
     for (const [turn, audiences] of this.file?.turns ?? []) {
       const key = `${turn} ${audiences.join(" ")}`;
-      const group = this.groups.get(key) ?? newGroup(turn.split(" "), audiences);
+      const [now, then] = turn.split(" ");
+      const opens = ORDER.indexOf(then) > ORDER.indexOf(now);
+      const group = this.groups.get(key) ?? { now, then, audiences, opens, count: 0, first: [] };
       group.count += 1;
       if (group.first.length < MOST_NAMED) group.first.push(this.file);
       this.groups.set(key, group);
@@ -61,10 +63,6 @@ export class Changes {
   all() {
     return [...this.groups.values()].sort((one, other) => other.opens - one.opens || other.count - one.count);
   }
-}
-
-function newGroup([now, then], audiences) {
-  return { now, then, audiences, opens: ORDER.indexOf(then) > ORDER.indexOf(now), count: 0, first: [] };
 }
 
 const isNoDisk = (fault) => fault.said?.error === "no-accession";

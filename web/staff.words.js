@@ -64,20 +64,16 @@ export const LIMITS = {
   digest: { pattern: "[0-9A-Fa-f]{64}", title: "64 hexadecimal digits" },
 };
 
-// Rules of deeds, and takedowns: what they are of, how their labels begin, what they may let readers do, their paths.
+// Rules of deeds, and takedowns: words for one and for what it is of, the column of that, how labels begin, what they
+// may let readers do, and their paths.
+const rulesOf = (word, thing, more, begin) => ({
+  ...{ word, thing, ...more },
+  words: (scope, rank) => `${word} ${rank} of ${thing} ${scope}`,
+  path: (scope, rank) => `${begin}/${scope}/rules/${rank}`,
+});
 export const RULES = {
-  rules: {
-    ...{ of: "Deed", letter: "R" },
-    words: (scope, rank) => `rule ${rank} of deed ${scope}`,
-    effects: ["read", "list", "deny"],
-    path: (scope, rank) => `/deeds/${scope}/rules/${rank}`,
-  },
-  takedowns: {
-    ...{ of: "Accession", letter: "T" },
-    words: (scope, rank) => `takedown ${rank} of disk ${scope}`,
-    effects: ["list", "deny"],
-    path: (scope, rank) => `/images/${scope}/rules/${rank}`,
-  },
+  rules: rulesOf("rule", "deed", { of: "Deed", letter: "R", effects: ["read", "list", "deny"] }, "/deeds"),
+  takedowns: rulesOf("takedown", "disk", { of: "Accession", letter: "T", effects: ["list", "deny"] }, "/images"),
 };
 
 // Whether a text is a day as the page shows it, and is in the calendar.
@@ -118,6 +114,10 @@ const SHORT = { read: "readable for", list: "only listed for", deny: "closed to"
 // A rule in short.
 export const ruleWords = (rule, names) =>
   `${filesWords(rule, names)} ${SHORT[rule.effect]} ${audienceWords(rule.audiences)}, ${daysWords(rule)}`;
+
+// What is to be said of a takedown that is put.
+export const VISITS = `From which addresses files were fetched before, desk-visits.log on the museum's machine says \
+for 14 days only: keep a copy if you need it (OPERATING, Logs).`;
 
 // Who put what stands, by the journal: the name of the column, and what is there before the journal is read.
 export const PUT = "Put when, by whom, and why";
