@@ -7,23 +7,22 @@ const LONGEST_WORDS = 300;
 
 const short = (text) => (text.length > LONGEST_WORDS ? `${text.slice(0, LONGEST_WORDS)} ..` : text);
 
-// The body of a change as an object; an empty one where it is none.
-export function bodyOf({ body }) {
+// What comes of reading something that may be no whole line, text or rule; where it is none, something else.
+export function tried(read, otherwise) {
   try {
-    return Object(JSON.parse(body));
+    return read();
   } catch {
-    return {};
+    return otherwise;
   }
 }
 
+// The body of a change as an object; an empty one where it is none.
+export const bodyOf = ({ body }) => tried(() => Object(JSON.parse(body)), {});
+
 // What a body says, or nothing where the page cannot read it: the desk may have refused it.
 function said(change, words) {
-  try {
-    const text = words(bodyOf(change));
-    return text && `: ${short(text)}`;
-  } catch {
-    return "";
-  }
+  const text = tried(() => words(bodyOf(change)), "");
+  return text && `: ${short(text)}`;
 }
 
 // A rule as the desk shows it, from the body that puts it.
@@ -114,13 +113,7 @@ export function outcomeWords(change) {
 }
 
 // A name or a reason as it was typed.
-function typed(text) {
-  try {
-    return decodeURIComponent(text);
-  } catch {
-    return text;
-  }
-}
+const typed = (text) => tried(() => decodeURIComponent(text), text);
 
 // A moment with a blank in it; and the day and the time of a change, by the clock of the museum's machine.
 export const spaced = (moment) => moment.replace("T", " ");
@@ -135,12 +128,7 @@ export class AllChanges {
   }
 
   take(line) {
-    let came = null;
-    try {
-      came = JSON.parse(line);
-    } catch {
-      // a line that was cut off
-    }
+    const came = tried(() => JSON.parse(line), null);
     if (typeof came?.id !== "string" || typeof came.moment !== "string" || !Number.isFinite(came.at)) this.unread += 1;
     else this.add(came);
   }

@@ -1,6 +1,6 @@
 // Who put what stands, when and why, as the journal says; and what it says of a day that is over.
-import { Refused, counted, meaning } from "./shared.js";
-import { UNKNOWN, bodyOf, changeWords, isUnknown, ruleOfBody, spaced } from "./staff.changes.js";
+import { Refused, counted, listOf, meaning } from "./shared.js";
+import { UNKNOWN, bodyOf, changeWords, isUnknown, ruleOfBody, spaced, tried } from "./staff.changes.js";
 import { held, readHeld, standing } from "./staff.desk.js";
 import { readBack } from "./staff.lines.js";
 import { COLUMNS } from "./staff.verdicts.js";
@@ -15,13 +15,7 @@ export const standingDisk = ({ accession, kind, deed }) =>
   thing("disk", `/accessions/${accession}/${kind}/${deed}`, () => true);
 
 // Whether a change says what stands: the desk takes no body that is not of its form.
-function isOf({ isSaid }, change) {
-  try {
-    return change.method === "PUT" && isSaid(bodyOf(change));
-  } catch {
-    return false;
-  }
-}
+const isOf = ({ isSaid }, change) => change.method === "PUT" && tried(() => isSaid(bodyOf(change)), false);
 
 // Changes by what they are of, each from the newest on.
 const byPlaces = (changes) => Map.groupBy(changes, ({ place }) => place);
@@ -60,15 +54,20 @@ async function journalTo(isEnough, tools) {
 // For each of some things that stand, the words that say who put it, when and why, and the change that did, if that is
 // in the journal; and the changes that were read, or why none could be.
 export async function originsOf(things, tools) {
-  const isEnough = (changes, places = byPlaces(changes)) => things.every((one) => originOf(one, places).put);
+  // (what a deed's rule has replaced since the disk came may stand in older lines)
+  const isTold = (one, places, { put } = originOf(one, places)) =>
+    put && (one.name !== "rules" || places.get(one.place).at(-1).at <= originOf(things[0], places).put?.at);
+  const isEnough = (changes, places = byPlaces(changes)) => things.every((one) => isTold(one, places));
   const { changes, places, far, none } = await journalTo(isEnough, tools);
   const toldOf = (one, found) => ({ origin: none || originWords(one, found, far), put: found.put });
   return { told: things.map((one) => toldOf(one, originOf(one, places))), changes, none, isWhole: far.isWhole };
 }
 
 export const SINCE = `In the journal since: from then on it has no change of the disk, of the rule that decides, or of \
-a rule before that; it may have been so for longer. Rules for another file by its slot, or for other readers, do not \
-count; a takedown that is put where the journal has nothing before counts as new.`;
+a rule before that. A rule that was replaced does not count where the journal says that it let these readers do the \
+same with the file on all days; nor do rules for another file by its slot, or for other readers. It may have been so \
+for longer: what other rules did before, the page does not reckon. A takedown counts as new where the journal has \
+nothing before it.`;
 
 // The place of a rule in the order in which the desk tries them: takedowns come before the rules of a deed.
 function orderOf(place) {
@@ -88,6 +87,19 @@ function concerns({ place, method, body, stood }, file) {
   return bodies.some((one) => one !== null && canBeFor(bodyOf({ body: one }), file));
 }
 
+// The change since which the rule that decides, or those that it replaced, let an audience do the same with a file: the
+// latest at its place before which anything else may have stood. (Which files are of a name, a type or a user only the
+// desk says: rules with the same words for these are for the same files.)
+function firstOf({ rule, ...own }, { slot, audience }, changes) {
+  const words = JSON.stringify(rule.select);
+  const isFor = (select) => select?.all || select?.slot === slot || JSON.stringify(select) === words;
+  const isAlike = ({ audiences, effect, select, from, until }) =>
+    effect === rule.effect && listOf(audiences).includes(audience) && isFor(select) && !(from || until || rule.from);
+  const isSame = (body) => isOf(own, { method: "PUT", body }) || isAlike(bodyOf({ body }));
+  const isFirst = ({ stood }) => stood.length === 0 || !stood.every(isSame);
+  return changes.find((one) => one.place === own.place && counts(one) && isFirst(one));
+}
+
 // When and by whom something was done, and what, in short.
 function doneWords(change, what = changeWords({ ...change, body: "", stood: [] })) {
   return byWords({ ...change, reason: isUnknown(change) ? `${what} (${UNKNOWN})` : what });
@@ -100,14 +112,17 @@ export function sinceWords([disk, ...rules], { label, isWhole, ...file }, change
   const far = isWhole ? "" : ", as far as it was read";
   if (!disk.put || !(own ? own.put : label === "D0")) return `since when: not in the journal${far}`;
   const order = own ? orderOf(own.place) : Infinity;
+  const first = own && firstOf(own, file, changes);
   const done = changes.filter((one) => counts(one) && orderOf(one.place) < order && concerns(one, file));
-  if (own) done.push(own.put);
+  if (own) done.push(first);
   done.sort((one, other) => one.at - other.at);
+  const later = own && first.at < own.put.at ? "; what has replaced it is the same for them" : "";
   const before = rules.filter(({ place, rule }) => orderOf(place) < order && canBeFor(rule, file));
   const days = [[own?.rule.from, label, "began"], ...before.map((one) => [one.rule.until, one.label, "ended"])];
   const turns = days.filter(([day]) => day && day <= today()).map(([day, of, did]) => `${day} (${meaning(of)} ${did})`);
   // These texts begin with their moments or days, and a day comes before its moments. Of one second the last counts.
-  const texts = [...turns, doneWords(disk.put, "taken in"), ...done.map((one) => doneWords(one))];
+  const words = done.map((one) => doneWords(one) + (one === first ? later : ""));
+  const texts = [...turns, doneWords(disk.put, "taken in"), ...words];
   const latest = texts.reduce((last, text) => (text.slice(0, 19) < last.slice(0, 19) ? last : text));
   return `in the journal since ${latest}`;
 }
