@@ -1,13 +1,17 @@
 // Tables that the page saves. Each row says by itself whose it is, what the table has, and what it does not say; the
-// name of the file says at which moment the page asked for it.
+// heads say by whose clocks it is, and the name of the file at which moment the page asked for it.
 import { holder } from "./about.js";
-import { csvText } from "./csv.js";
+import { csvText, explainedHead } from "./csv.js";
 import { element } from "./shared.js";
 import { inParts, save } from "./stream.js";
 
+const clocks = () => `this table (moments: in UTC, or with their distance from it behind them; days of the journal: by \
+the museum's machine; days of rules: by the zone of the desk; day of asking: by this computer, whose zone is \
+${Intl.DateTimeFormat().resolvedOptions().timeZone})`;
+
 export async function saveTable(name, moment, about, heads, items, recordOf) {
   const said = [holder() || "(the museum's name was not found)", about];
-  const texts = [csvText([["museum", "this table", ...heads], ...(items.length ? [] : [said])])];
+  const texts = [csvText([["museum", clocks(), ...heads.map(explainedHead)], ...(items.length ? [] : [said])])];
   await inParts(items, (some) => texts.push(csvText(some.map((one) => [...said, ...recordOf(one)]))));
   const file = `${name}-${moment.slice(0, 19).replaceAll(":", "")}Z.csv`;
   save(file, texts, "text/csv");
