@@ -6,7 +6,7 @@ import { ANY_NAME, change, dated, formOf, readHeld, rulesOf, showsAnew } from ".
 import { COLUMNS as CHANGES, changeRow } from "./staff.journal.js";
 import { audienceCounts } from "./staff.forecast.js";
 import { SINCE, originsOf, sinceWords, standingDisk, standingRule } from "./staff.origins.js";
-import { freeRank } from "./staff.ranks.js";
+import { placeOf } from "./staff.ranks.js";
 import { rehearsalDays, rehearsed, saveFirst } from "./staff.rehearsal.js";
 import { makeRuleForm, ruleIn } from "./staff.ruleform.js";
 import { putMany } from "./staff.rules.js";
@@ -18,8 +18,8 @@ import { noteOf, titleOf } from "./titles.js";
 
 // How many changes of the journal are shown at most.
 const MOST_CHANGES = 20;
-const DAYS = `A day of a rule begins at midnight by the desk's clock, in the museum's time zone. A change holds from \
-the moment at which it is put, not before, whatever its days.`;
+const DAYS = `A day of a rule begins at midnight by the desk's clock, whose zone (ZONE in the file places) this page \
+cannot see. A change holds from the moment at which it is put, not before, whatever its days.`;
 
 // The disk that is shown: its survey, who put it and its rules, its files with their verdicts, and their names; where.
 let shown = null;
@@ -164,18 +164,19 @@ export const saveNow = async (accession, more, tools) =>
 async function takeDown(records, tools) {
   const { accession } = shown.survey;
   await readHeld("takedowns");
-  const ranks = rulesOf("takedowns", accession).map(({ rank }) => rank);
+  const stand = [...rulesOf("takedowns", accession)];
   const commands = records.map((record) => {
-    const [rank, slot] = [freeRank(ranks), Number(record[COLUMNS.slot])];
-    ranks.push(rank);
+    const slot = Number(record[COLUMNS.slot]);
     const rule = { ...ruleIn(part("ticked")), select: { slot } };
+    const { rank, says } = placeOf("takedowns", accession, "", rule, stand);
+    stand.push({ ...rule, rank });
     const sent = { method: "PUT", path: RULES.takedowns.path(accession, rank), body: JSON.stringify(rule) };
-    return { scope: accession, rank, slot, rule, name: nameOf(record), ...sent };
+    return { scope: accession, rank, slot, rule, says, name: nameOf(record), ...sent };
   });
   if (commands.some(({ rank }) => rank === null)) return `All ranks of disk ${accession} are in use.`;
   const whom = listed(commands[0].rule.audiences.map((audience) => AUDIENCES[audience]));
   const words = `Take down ${counted(commands.length, "file")} of disk ${accession} for ${whom}?`;
-  const notes = commands.map(({ name, rank, rule }) => `${name}, at rank ${rank}: ${ruleWords(rule)}.`);
+  const notes = commands.map(({ name, rule, says }) => `${name}: ${ruleWords(rule)}. ${says}`);
   const asked = { words, notes, commands, days: rehearsalDays(commands[0].rule), isTakedown: true, go: "Take down" };
   asked.first = saveFirst(accession, words);
   if ((await rehearsed(asked, tools)).length === 0) return "Nothing is taken down.";

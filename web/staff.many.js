@@ -1,11 +1,12 @@
 // Many changes, one after the other: with progress, a report that can be saved, and a way to go on where they stopped.
 import { longTable } from "./lists.js";
 import { Refused, box, button, cell, counted, element, explainRefusal, refusalName, row } from "./shared.js";
-import { ANY_NAME, change, diskCell, isUnsure, keepReason, older, whoNow } from "./staff.desk.js";
+import { ANY_NAME, change, diskCell, isUnsure, keepReason, older, paragraph, whoNow } from "./staff.desk.js";
 import { saveTable, saver } from "./staff.saved.js";
-import { momentNow } from "./staff.words.js";
+import { VISITS, momentNow } from "./staff.words.js";
 
 const DONE = "done";
+const isTakedown = ({ word }) => word === "takedown";
 
 // What is to be said of a change that failed.
 function outcomeWords(fault) {
@@ -66,13 +67,14 @@ function report(run, isOlder) {
   const more = run.more && !isWhole && !isOlder ? element("p", run.more()) : null;
   const goOn = isWhole ? null : button("Go on with the rest", () => change(run.section, (how) => sendMany(run, how)));
   const buttons = box("p", "choices", goOn, ...saver(button("Save the report"), () => saveReport(run)));
-  return box("div", "report", summary(run), table, more, buttons, isOlder ? older(run.section) : null);
+  const visits = isTakedown(run) ? paragraph(VISITS) : null;
+  return box("div", "report", summary(run), table, more, visits, buttons, isOlder ? older(run.section) : null);
 }
 
-function saveReport({ section, of = section, begun, word, items, heads, cells }) {
+function saveReport({ section, of = section, begun, items, heads, cells, ...run }) {
   const columns = [...heads.map((head) => head.toLowerCase()), "outcome", "by", "reason", "tried at"];
   const recordOf = (item) => [...cells(item), outcomeOf(item) || "not sent", ...(item.who ?? ["", "", ""])];
-  const [what, each] = word === "takedown" ? ["Takedowns that were to be put", "each"] : ["What was to be sent", "it"];
-  const about = `${what}, and what became of ${each}. It does not say what stands since. ${ANY_NAME}`;
+  const [what, more] = isTakedown(run) ? ["Takedowns that were to be put", ` ${VISITS}`] : ["What was to be sent", ""];
+  const about = `${what}, and what became of each. It does not say what stands since. ${ANY_NAME}${more}`;
   return saveTable(`${of}-report-of`, begun, about, columns, items, recordOf);
 }

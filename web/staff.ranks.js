@@ -1,9 +1,10 @@
 // Which disks and which ranks a takedown gets.
-import { RULES, listed, ruleWords } from "./staff.words.js";
+import { counted } from "./shared.js";
+import { RULES, ruleWords } from "./staff.words.js";
 
-const FIRST_RANK = 1000;
 const LAST_RANK = 9999;
-const STEP = 10;
+// How far apart are ranks of takedowns of one file, and of others: one of a file has to fit before those.
+const [STEP, WIDE_STEP] = [10, 100];
 export const MOST_DISKS = 1000;
 
 // The accessions of a list such as `1001-1011, 1020`, ascending, each once; null where it is none.
@@ -19,32 +20,40 @@ export function accessionsIn(text) {
   return found.size > MOST_DISKS ? null : [...found].sort((one, other) => one - other);
 }
 
-// A free rank before all ranks in use, the first free one after them where none is before, or null where none is free.
-export function freeRank(ranks) {
-  if (ranks.length === 0) return FIRST_RANK;
-  const least = Math.min(...ranks);
-  if (least > 1) return least > 2 * STEP ? least - STEP : Math.floor(least / 2);
-  const used = new Set(ranks);
-  for (let rank = 2; rank <= LAST_RANK; rank += 1) if (!used.has(rank)) return rank;
+// Those that stand which may be for the same files and readers as a rule.
+function met({ audiences, select }, stand) {
+  const isFor = (one) => (one.select.slot ?? select.slot) === (select.slot ?? one.select.slot);
+  return stand.filter((one) => isFor(one) && one.audiences.some((audience) => audiences.includes(audience)));
+}
+
+// A free rank for a rule, before those that it meets: one of 10, 20, 30 .. for one file, of 100, 200, 300 .. for more,
+// or else any. Where none is free there, the first free one of all; null where none is.
+function freeRank(rule, stand) {
+  const used = new Set(stand.map(({ rank }) => rank));
+  const first = Math.min(...met(rule, stand).map(({ rank }) => rank));
+  const wide = rule.select.slot === undefined ? WIDE_STEP : STEP;
+  const before = [wide, STEP, 1].map((step) => [(Math.ceil(first / step) - 1) * step, -step]);
+  for (let [rank, step] of [...before, [wide, wide], [1, 1]]) {
+    while (used.has(rank)) rank += step;
+    if (rank > 0 && rank <= LAST_RANK) return rank;
+  }
   return null;
 }
 
 // Where a rule goes: its rank, the rule that it replaces there, and what is to be said of that.
-export function placeOf(name, scope, typed, stand) {
-  const ranks = stand.map((rule) => rule.rank);
-  const rank = typed === "" ? freeRank(ranks) : Number(typed);
-  const replaced = stand.find((rule) => rule.rank === rank);
-  return { scope, rank, replaced, says: placeWords(name, scope, rank, ranks, replaced) };
+export function placeOf(name, scope, typed, rule, stand) {
+  const rank = typed === "" ? freeRank(rule, stand) : Number(typed);
+  const replaced = stand.find((one) => one.rank === rank);
+  return { scope, rank, replaced, says: placeWords(name, { scope, rank, replaced }, rule, stand) };
 }
 
-function placeWords(name, scope, rank, ranks, replaced) {
+function placeWords(name, { scope, rank, replaced }, rule, stand) {
   if (rank === null) return `All ranks of disk ${scope} are in use.`;
   const words = RULES[name].words(scope, rank);
   if (replaced) return `In use: ${words} stands, ${ruleWords(replaced)}. What you put replaces it.`;
   if (name === "rules") return "";
-  const before = ranks.filter((other) => other < rank);
-  if (ranks.length === 0) return `Rank ${rank}: it is the first takedown of disk ${scope}.`;
-  if (before.length === 0) return `Rank ${rank}: before all other takedowns of disk ${scope}.`;
-  const first = Math.min(...ranks) === 1 ? "No rank is free before all others. " : "";
-  return `${first}Rank ${rank}: after takedown ${listed(before.map(String))} of disk ${scope}.`;
+  const [before, meets] = [stand, met(rule, stand)].map((some) => some.filter((one) => one.rank < rank).length);
+  const mind = meets ? ` Mind: ${meets} before it may be for the same files and readers.` : "";
+  const all = counted(stand.length + 1, "takedown");
+  return `Rank ${rank} gives its place in the order: number ${before + 1} of ${all} of disk ${scope}.${mind}`;
 }

@@ -63,14 +63,15 @@ export function fillRule(form, rule) {
   needAudience(form);
 }
 
-// The rule that a form holds, as the desk shows rules but for its rank. Without it, it is the body that puts the rule.
+// The rule that a form holds, as the desk shows rules but for its rank: the body that puts it. While nobody has chosen
+// its files, it selects none.
 export function ruleIn(form) {
   const { how, what, effect, from, until } = form.elements;
   return {
     audiences: chosenAudiences(form),
     effect: effect.value,
     from: from.value || null,
-    select: { [how.value]: SELECTORS[how.value].sent(what.value) },
+    select: how.value ? { [how.value]: SELECTORS[how.value].sent(what.value) } : {},
     until: until.value || null,
   };
 }

@@ -5,7 +5,7 @@ import { buttonsCell, change, dated, diskCell, formOf, readHeld, rulesOf, send }
 import { showChange, shownAnew, showsAnew, standing } from "./staff.desk.js";
 import { MOST_DISKS, accessionsIn, placeOf } from "./staff.ranks.js";
 import { fillRule, makeRuleForm, ruleIn } from "./staff.ruleform.js";
-import { RULES, ruleTexts, ruleWords } from "./staff.words.js";
+import { RULES, VISITS, ruleTexts, ruleWords } from "./staff.words.js";
 import { titleOf } from "./titles.js";
 
 // Of how many disks the page says one by one what their takedowns replace or follow.
@@ -23,7 +23,7 @@ const rehearsals = () => loaded(import("./staff.rehearsal.js"));
 // Puts a rule at each place once the rehearsal is agreed to: at the rank that is typed, or else at a free one.
 async function put(name, scopes, typedRank, rule, tools) {
   await showRules(name);
-  const places = scopes.map((scope) => placeOf(name, scope, typedRank, rulesOf(name, scope)));
+  const places = scopes.map((scope) => placeOf(name, scope, typedRank, rule, rulesOf(name, scope)));
   const full = places.find(({ rank }) => rank === null);
   if (full) return full.says;
   const sent = { rule, method: "PUT", body: JSON.stringify(rule) };
@@ -43,7 +43,7 @@ async function put(name, scopes, typedRank, rule, tools) {
   const more = { after: () => showRules(name), heads: ["Accession", "Rank"], cells, verb: done.toLowerCase() };
   if (places.length > 1) return putMany(name, agreed, more, tools);
   await send("PUT", agreed[0].path, sent.body);
-  return shownAnew(name, `${done}: ${words}.`);
+  return [await shownAnew(name, `${done}: ${words}.`), ...(isTakedown ? [VISITS] : [])].flat();
 }
 
 // Puts takedowns one after the other, in a section; `more` has what else its report needs.
@@ -67,7 +67,7 @@ function placesWords(name, places) {
 // What is to be said of the places: of one all, of many only what replaces something or comes after others.
 function placeNotes(places) {
   if (places.length === 1) return places[0].says ? [places[0].says] : [];
-  const notes = places.map(({ says }) => says).filter((says) => /^(In use|No rank)/.test(says));
+  const notes = places.map(({ says }) => says).filter((says) => /^In use|Mind/.test(says));
   const rest = notes.length - MOST_NOTES;
   return rest > 0 ? [...notes.slice(0, MOST_NOTES), `The same of ${counted(rest, "more disk")}.`] : notes;
 }
@@ -109,14 +109,12 @@ function ruleRow(name, { scope, rule }) {
 
 // Draws those that stand: of the deed or the disks that are typed, or all.
 function draw(name) {
-  const { of } = RULES[name];
+  const { of, word, thing } = RULES[name];
   const typed = formOf(name).elements.scope.value;
   const scopes = new Set(scopesIn(name, typed));
   const all = standing(name);
   const shown = typed === "" ? all : all.filter(({ scope }) => scopes.has(scope));
-  const word = name === "rules" ? "rule" : "takedown";
-  const things = name === "rules" ? "deed" : "disk";
-  const where = typed === "" ? "" : ` of ${things}${scopes.size > 1 ? "s" : ""} ${typed}`;
+  const where = typed === "" ? "" : ` of ${thing}${scopes.size > 1 ? "s" : ""} ${typed}`;
   const count = element("p", shown.length ? `${counted(shown.length, word)}${where}.` : `There is no ${word}${where}.`);
   const textOf = (column) => [column, (one) => ruleTexts(one.rule)[column]];
   const columns = { [of]: ({ scope: number }) => number, Rank: ({ rule }) => rule.rank };
@@ -135,13 +133,13 @@ async function showRules(name) {
 // Says below the fields which rank it will be, and what stands there.
 function hint(name) {
   const form = formOf(name);
-  const { scope, rank } = form.elements;
-  const scopes = scopesIn(name, scope.value);
-  const places = scopes.map((one) => placeOf(name, one, rank.value, rulesOf(name, one)));
-  const title = name === "takedowns" && places.length === 1 ? titleOf(scopes[0]) : "";
+  const { scope, rank, how } = form.elements;
+  const [scopes, rule] = [scopesIn(name, scope.value), ruleIn(form)];
+  const isOpen = rank.value === "" && (name === "rules" || how.value === "");
+  const places = isOpen ? [] : scopes.map((one) => placeOf(name, one, rank.value, rule, rulesOf(name, one)));
+  const title = name === "takedowns" && scopes.length === 1 ? titleOf(scopes[0]) : "";
   const words = [title && `\u201c${title}\u201d.`, ...placeNotes(places)].filter(Boolean).join(" ");
-  const isEmpty = name === "rules" && rank.value === "";
-  form.querySelector(".hint").replaceChildren(...(words && !isEmpty ? [dated("span", words)] : []));
+  form.querySelector(".hint").replaceChildren(...(words ? [dated("span", words)] : []));
 }
 
 // The section of rules or takedowns: where a deed or a disk is named, for that one.

@@ -1,9 +1,8 @@
 // What every caller gets of every file on a day, as the desk says; and how that is said and saved.
 import { shownName } from "./names.js";
-import { Records } from "./csv.js";
-import { Refused, ask, element, explained, meaning } from "./shared.js";
+import { Refused, element, explained, meaning } from "./shared.js";
 import { AUDIENCES, today } from "./staff.words.js";
-import { partsOf, readTable } from "./stream.js";
+import { readTable } from "./stream.js";
 import { titleOf } from "./titles.js";
 
 // The columns of the table of verdicts, by their places. After them come, for each audience, the effect and the rule.
@@ -16,30 +15,11 @@ export function readVerdicts(day, take, { progress, signal }) {
 }
 
 // The verdicts of one disk on a day.
-export async function verdictsOf({ accession, files }, day, tools) {
-  const [found, path] = [[], `/staff/verdicts/${day}/${accession}`];
-  const older = (fault) => {
-    if (fault.said?.error !== "no-route") throw fault;
-    return amongAll(accession, day, tools).then((some) => found.push(...some));
-  };
-  await readTable(path, { take: (record) => found.push(record), signal: tools.signal }).catch(older);
+export async function verdictsOf({ accession, files }, day, { signal }) {
+  const found = [];
+  await readTable(`/staff/verdicts/${day}/${accession}`, { take: (record) => found.push(record), signal });
   if (files !== undefined && found.length !== files) throw new Refused(0, {});
   return found;
-}
-
-// A desk of an older version tells the verdicts of all disks, by accession: the page keeps the lines of one, and stops
-// at the first line of a later one.
-async function amongAll(accession, day, { progress, signal }) {
-  const start = `\n${accession},`;
-  let [text, length] = ["", 0];
-  for await (const part of partsOf(await ask(`/staff/verdicts/${day}`, { signal }))) {
-    progress("Reading who gets what of it, in kB", Math.round((length += part.length) / 1000));
-    text = (text.includes(start) ? text : text.slice(Math.max(0, text.lastIndexOf("\n")))) + part;
-    const end = text.lastIndexOf("\n");
-    if (Number.parseInt(text.slice(text.lastIndexOf("\n", end - 1) + 1, end), 10) > accession) break;
-  }
-  const [first, end] = [text.indexOf(start), text.indexOf("\n", text.lastIndexOf(start) + 1)];
-  return first < 0 ? [] : new Records().add(text.slice(first + 1, end + 1));
 }
 
 // The names of some files of a disk as they were shown, by their slots.

@@ -82,5 +82,5 @@ def test_reader_finds_reads_and_saves_a_file(museum, reader):
 def test_staff_rehearses_and_puts_a_takedown(staff):
     staff.go("takedowns")
     assert "GUIDE (disk 1002, slot 2)" in staff.take_down("1002", "", "2", "public", "room")["sure"]
-    assert staff.answer(True)["result"] == ["Put: takedown 1000 of disk 1002."]
+    assert staff.answer(True)["result"][0] == "Put: takedown 10 of disk 1002."
     assert staff.door.effects(1002)["public"] == ["read", "read", "deny"]

@@ -35,6 +35,6 @@ def test_staff_gives_a_key_and_puts_a_takedown(staff):
     staff.wait(lambda state: state["sure"], "a question")
     reach(staff, staff.text("#sure [value=go]"), Keys.ENTER)
     shown = staff.wait(lambda state: not state["busy"] and not state["sure"], "the outcome")
-    assert shown["result"] == ["Put: takedown 1000 of disk 1002."]
+    assert shown["result"][0] == "Put: takedown 10 of disk 1002."
     assert staff.door.effects(1002)["public"] == ["deny", "read", "read"]
-    reach(staff, "Drop takedown 1000 of disk 1002")
+    reach(staff, "Drop takedown 10 of disk 1002")

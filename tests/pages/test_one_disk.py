@@ -48,6 +48,8 @@ def test_disk_says_what_it_is_and_who_gets_what_by_which_rule(museum, disk):
         ["takedown 1000 of disk 1002 (T1002.1000)", NOT], [f"{BY_DEED} (R9.20)", BY + NOTHING]]
     assert rows[5][1].startswith("Ada") and rows[5][2].startswith("Of its deed: Put rule 20 of deed 9: all")
     heads, *rows = saved_table(disk, f"disk-1002-{TODAY}-asked", "Save who gets what as CSV")
+    kind = "kind (cpm8: CP/M, 8 inches; d64: Commodore 1541; d64e: Commodore 1541 with error bytes)"
+    assert {kind, "user (the user of CP/M, 0 to 15, whose file it is)"} < {*heads}, "words that nobody explains"
     keys = "day", "audience", "they may", "rule", "what the rule says", PUT, "since when", "name as shown", "size"
     said, file = f"the file at slot 2 (GUIDE) {ALWAYS}", [UNKNOWN, "GUIDE", "532"]
     assert [[dict(zip(heads, one))[key] for key in keys] for one in rows[6:9:2]] == [
@@ -97,11 +99,36 @@ def test_file_says_since_when_the_journal_has_no_change_that_can_concern_it_and_
     said = disk.text("#disk .stands")
     assert "from then on it has no change of the disk" in said and "A day of a rule begins at midnight by" in said
 
+def test_time_goes_back_past_what_was_replaced_where_the_journal_says_that_it_was_the_same_for_them(disk):
+    """Cases: when the disk came in; what rule 20 said a month before; whether it was the same for public and staff."""
+    put, month, of_deed = disk.door.journals["/journal"], -4e6, "/deeds/9/rules/20"
+    at = lambda far, who, what: f"{when(far + 0.5)} by {who}: {what}"
+    back = at(month, "nobody who is named", f"Put {BY_DEED}; what has replaced it is the same for them")
+    some, of = READ.replace('"public",', ""), lambda words: READ.replace('"all":true', words)
+    cases = [(-9, some, 0, 1), (-9, of('"slot":0'), 1, 1), (-9, of('"prefix":"T"'), 0, 0),
+             (-9, READ.replace("read", "list"), 0, 0), (-9, READ[:-1] + ',"until":"2099-01-01"}', 0, 0),
+             (month - 9, some, 0, 1), (month - 9, of('"slot":0'), 1, 1)]
+    # (the page asks once for a month without a file, and for what is older than all that it has read)
+    disk.door.journals["/journal-2023-09"] = journal_lines(2, START + month - 99, "200", "PUT", "/deeds/8")
+    assert disk.load() and disk.begin()
+    for far, body, *is_same in cases:
+        older = journal_lines(2, START + month, "200", "PUT", of_deed, body=body)
+        came, is_late = journal_lines(3, START + far, "200", "PUT", TAKEN_IN), far == -9
+        disk.door.journals = {"/journal": came * is_late + put, "/journal-2023-09": came * (not is_late) + older}
+        since = at(0, "Ada", f"Replace {BY_DEED}"), at(-9, "nobody who is named", "taken in") if is_late else back
+        cells = [disk.go("disk/1002")["rows"][0][cell].partition("in the journal since ")[2] for cell in (5, 7)]
+        assert cells == [since[one] for one in is_same], body
+    lines = journal_lines(4, START - 5, "200", "PUT", of_deed, body=READ)
+    disk.door.journals["/journal"] = lines + journal_lines(5, START - 1, "502", "DELETE", of_deed) + put
+    assert at(0, "Ada", f"Put {BY_DEED}") in disk.go("disk/1002")["rows"][0][5], "what may have been dropped stood"
+
 def test_files_ticked_by_their_shown_names_are_taken_down_and_what_stands_after_a_failure_is_said(museum, disk):
     museums.put_files(museum, 1002, "d64", 9, [("%CCETTER", "SEQ", b"A"), ("-", "DEL", None), ("GUIDE", "SEQ", b"A")])
     disk.go("disk/1002")
-    rules = [("Letter", "1000", "0"), ("GUIDE", "990", "2")]
-    notes = [f"{name}, at rank {rank}: the file at slot {slot} {ALWAYS}." for name, rank, slot in rules]
+    rules = [("Letter", "10", "0"), ("GUIDE", "20", "2")]
+    place = "Rank {0} gives its place in the order: number {1} of {1} takedown{2} of disk 1002."
+    places = place.format(10, 1, ""), place.format(20, 2, "s")
+    notes = [f"{name}: the file at slot {slot} {ALWAYS}. {at}" for (name, _, slot), at in zip(rules, places)]
     for slot in (0, 2):
         disk.set(f"#disk [name=slots][value='{slot}']", True)
     asked = disk.push("Take down what is ticked")["sure"][:3]
@@ -119,33 +146,22 @@ def test_files_ticked_by_their_shown_names_are_taken_down_and_what_stands_after_
     assert f"It is what stood before an answer to: “{due.format(' and the reading room')}”" in saved[0][1]
     del museum.rules["T1002"][7]
     disk.door.before = lost_at(2)
-    stand = "These stand: Letter (takedown 1000). These do not: GUIDE (takedown 990)."
+    stand = "These stand: Letter (takedown 10). These do not: GUIDE (takedown 20)."
     assert disk.answer(True)["result"][:2] == ["1 takedown put, 1 failed.", stand]
     assert disk.script(SEEN) == [True, "status"], "the outcome is out of sight"
     with disk.phone():
         shown = disk.push("Go on with the rest")
         assert (shown["result"][0], *disk.script(SEEN)) == ("2 takedowns put, 0 failed.", True, "status")
-    assert [row[5] for row in shown["rows"][:3]] == [CLOSED.format(1000), LISTS, CLOSED.format(990)]
+    assert [row[5] for row in shown["rows"][:3]] == [CLOSED.format(10), LISTS, CLOSED.format(20)]
     assert "Save the report" not in str(disk.go("disk/1003")["result"]) and disk.go("keys") and disk.go("disk/1002")
     due = [["1002", slot, name, rank, f"the file at slot {slot} {ALWAYS}", "done"] for name, rank, slot in rules]
-    _, *rows = saved_table(disk, "disk-1002-report-of", "Save the report")
+    disk.cdp("Emulation.setTimezoneOverride", timezoneId="Asia/Tokyo")
+    heads, *rows = saved_table(disk, "disk-1002-report-of", "Save the report")
+    disk.cdp("Emulation.setTimezoneOverride", timezoneId="")
     assert [row[2:8] for row in rows] == due and "of each. It does not say what stands since. Whoever" in rows[0][1]
-
-def test_desk_of_an_older_version_tells_of_all_disks_and_no_more_of_them_is_read_than_needed(museum, disk):
-    whole, no_route = museum.show_verdicts(None, TODAY).reply, refused(404, "no-route")
-    told = lambda reply: lambda _, path: (reply if TODAY in path[-10:] else no_route) if "/verdicts/" in path else None
-    until = lambda line: told([whole[: whole.index(line) + 90], 1e3])
-    disk.door.before = until(b"\n1003,")
-    names = [row[2] for row in disk.go("disk/1002")["rows"]][:3]
-    assert names == ["TOUR", "-" * 16, "GUIDE"], "it waits for other disks"
-    disk.door.before = until(b"\n1001,")
-    disk.script("location.hash = '#/disk/1001'")
-    disk.wait(lambda state: state["result"] and "Reading who gets what" in state["result"][0])
-    disk.door.before = told(whole[: whole.index(b"\n1003,") + 3])
-    assert disk.go("disk/1003")["result"] == [CANNOT_REACH], "a reply that is cut off is told as a disk without files"
-    disk.door.before = lambda method, path: None
-    shown = disk.go("disk/1003")
-    assert (shown["heading"], shown["rows"][0][2]) == ("Disk 1003", "LOGBOOK"), "a disk under the number of another"
+    assert "desk-visits.log on the museum's machine says for 14" in rows[0][1], "who fetched them before is not said"
+    assert heads[1].endswith("whose zone is Asia/Tokyo)") and heads[3::2][:2] == [
+        "slot (the file's place on its disk, counted from 0)", "rank (a place in the order of rules, lowest first)"]
 
 def test_each_number_of_a_disk_leads_to_its_page(museum, disk):
     museum.rules["T1002"] = takedown(1000, 2)

@@ -10,6 +10,9 @@ from support.browser import LIMIT, TODAY
 
 BOTH = ("public", "room")
 HIDDEN = "the file at slot {} closed to the public and the reading room, until further notice."
+PLACE = "Rank {} gives its place in the order: number {} of disk {}."
+LOG = "From which addresses files were fetched before, desk-visits.log on the museum's machine says for 14 days only: "
+LOG += "keep a copy if you need it (OPERATING, Logs)."
 NOW, NOTHING = f"Today, {TODAY}", "Nothing opens, and nothing closes."
 SHUT = "see only that closed files are there, not their names"
 CLOSES = f"Closes for the public and the reading room: 1 file. Now they may read them; then they may {SHUT}."
@@ -27,21 +30,22 @@ def takedowns(museum, staff):
 ranks = lambda shown: [row[1] for row in shown["rows"]]
 
 def test_takedowns_are_rehearsed_and_put_each_before_the_others(takedowns):
-    rank, guide = "Rank 1000: it is the first takedown of disk 1002.", "GUIDE (disk 1002, slot 2)"
-    words = ["Put takedown 1000 of disk 1002?", f"It says: {HIDDEN.format(2)}", rank, NOW, CLOSES, guide]
-    for is_agreed, said in ((False, "Not put"), (True, "Put")):
+    guide, rank = "GUIDE (disk 1002, slot 2)", PLACE.format(10, "1 of 1 takedown", 1002)
+    words = ["Put takedown 10 of disk 1002?", f"It says: {HIDDEN.format(2)}", rank, NOW, CLOSES, guide]
+    put = "Put: takedown 10 of disk 1002."
+    for is_agreed, said in ((False, [f"Not {put[0].lower()}{put[1:]}"]), (True, [put, LOG])):
         shown = takedowns.take_down("1002", "", "2", *BOTH)
         assert (shown["hint"], shown["sure"]) == (rank, words)
         assert [at for _, at, _ in takedowns.door.visits if "/verdicts/" in at] == [f"/staff/verdicts/{TODAY}/1002"]
         saved = saved_table(takedowns, f"disk-1002-before-a-change-{TODAY}-asked", "Save what stands now, first")
-        assert str(saved).count("'read it'") == 6 and "an answer to: “Put takedown 1000 of disk 1002?”" in saved[1][1]
+        assert str(saved).count("'read it'") == 6 and "an answer to: “Put takedown 10 of disk 1002?”" in saved[1][1]
         shown = takedowns.answer(is_agreed)
-        assert (shown["result"], len(takedowns.door.sent())) == ([f"{said}: takedown 1000 of disk 1002."], is_agreed)
-    row = ["1002", "1000", "the public and the reading room", "the file at slot 2", SHUT]
+        assert (shown["result"], len(takedowns.door.sent())) == (said, is_agreed), "who fetched it before is not said"
+    row = ["1002", "10", "the public and the reading room", "the file at slot 2", SHUT]
     assert [cells[:5] for cells in shown["rows"]] == [row]
     shown = takedowns.take_down("1002", "", "0", "public")
-    assert shown["sure"][2] == "Rank 990: before all other takedowns of disk 1002."
-    assert ranks(takedowns.answer(True)) == ["990", "1000"]
+    assert shown["sure"][2] == PLACE.format(20, "2 of 2 takedowns", 1002)
+    assert ranks(takedowns.answer(True)) == ["10", "20"]
     assert takedowns.door.effects(1002) == {"public": ["deny", "read", "deny"], "room": ["read", "read", "deny"]}
 
 def test_rank_in_use_is_said_to_be_replaced_and_another_comes_after_it_where_none_is_free_before(takedowns):
@@ -50,10 +54,13 @@ def test_rank_in_use_is_said_to_be_replaced_and_another_comes_after_it_where_non
     assert (shown["hint"], shown["sure"][2:]) == (words, [words, NOW, *TURNS])
     assert shown["sure"][0] == "Replace takedown 1 of disk 1005?" and takedowns.answer(False)
     shown = takedowns.take_down("1005", "", "2", *BOTH)
-    words = "No rank is free before all others. Rank 2: after takedown 1 of disk 1005."
+    words = PLACE.format(10, "2 of 2 takedowns", 1005)
     assert (shown["hint"], shown["sure"][2:]) == (words, [words, NOW, *TURNS[2:]])
-    assert ranks(takedowns.answer(True)) == ["1", "2"]
+    assert ranks(takedowns.answer(True)) == ["1", "10"]
     assert takedowns.door.effects(1005) == dict.fromkeys(BOTH, ["deny", "read", "deny"])
+    shown = takedowns.take_down("1005", "", "0", "public")
+    mind = f"{PLACE.format(20, '3 of 3 takedowns', 1005)} Mind: 1 before it may be for the same files and readers."
+    assert shown["hint"] == mind and takedowns.answer(False)
 
 def test_drop_is_rehearsed_and_done(takedowns):
     shown = takedowns.of_row("takedown 1 of disk 1005", "Drop")
@@ -127,11 +134,18 @@ def test_stop_hides_no_change_that_was_sent(takedowns):
 # The same takedown of many disks, each at a free rank of its own.
 DISKS, TYPED = (1001, 1002, 1004, 1005), ("", "all", None, "public", "room")
 
-def test_free_rank_is_before_those_in_use(museum, takedowns):
-    wanted = [([], 1000), ([1000], 990), ([30], 20), ([21], 11), ([20], 10), ([10, 20], 5), ([3], 1), ([2, 1000], 1),
-        ([1], 2), ([1, 2, 5], 3), ([1, 9999], 2), (list(range(1, 10000)), None), ([9999], 9989)]
-    free = "const [all] = arguments; return import('/staff.ranks.js').then((made) => all.map(made.freeRank))"
-    assert takedowns.script(free, [used for used, _ in wanted]) == [rank for _, rank in wanted]
+def test_free_rank_is_before_those_that_may_be_for_the_same_files_and_readers(museum, takedowns):
+    """Cases: the slots of takedowns of the public by their ranks, none for all files; that of a new one; its rank."""
+    fifty, whole = {10 * slot: slot for slot in range(1, 51)}, dict.fromkeys(range(1, 10000))
+    wanted = [({}, 3, 10), ({10: 1}, 3, 20), ({10: 1, 30: 2}, 3, 20), ({990: 1, 1000: 2}, 3, 10), (fifty, 51, 510),
+        ({}, None, 100), ({100: None}, 3, 90), ({90: 3, 100: None}, 4, 80), ({90: 3, 100: None}, None, 80),
+        ({200: 1}, None, 100), ({10: 3}, 3, 9), ({9: 3, 10: None}, 4, 8), (fifty, None, 9), (fifty, 5, 49),
+        ({1: None}, 3, 10), ({1: 2}, None, 100), (whole, 3, None), ({1: None, 9999: 3}, 3, 10)]
+    of = lambda slot: {"audiences": ["public"], "select": {"all": True} if slot is None else {"slot": slot}}
+    free = """return import("/staff.ranks.js").then(({ placeOf }) =>
+        arguments[0].map(([stand, rule]) => placeOf("takedowns", 7, "", rule, stand).rank));"""
+    asked = [([{**of(slot), "rank": rank} for rank, slot in stand.items()], of(slot)) for stand, slot, _ in wanted]
+    assert takedowns.script(free, asked) == [rank for _, _, rank in wanted]
     museum.rules["T1006"] = {rank: takedown(rank, 0)[rank] for rank in range(1, 10000)}
     shown, words = takedowns.put_rule("takedowns", "1006", *TYPED), "All ranks of disk 1006 are in use."
     assert (shown["result"], shown["hint"], takedowns.door.sent()) == ([words], words, [])
@@ -162,6 +176,6 @@ def test_takedowns_go_on_where_the_connection_was_lost(museum, takedowns):
     is_seen.set()
     said = takedowns.read(lambda state: state["result"])["result"]
     assert said[:1] == ["2 takedowns put, 1 failed, 1 not sent yet."], "a report is lost by leaving"
-    assert [sorted(museum.rules.get(f"T{disk}", {})) for disk in DISKS] == [[990, 1000], [1000], [], []]
+    assert [sorted(museum.rules.get(f"T{disk}", {})) for disk in DISKS] == [[900, 1000], [100], [], []]
     assert takedowns.push("Go on with the rest")["result"][0] == "4 takedowns put, 0 failed."
-    assert [sorted(museum.rules.get(f"T{disk}", {})) for disk in DISKS] == [[990, 1000], [1000], [1000], [1000]]
+    assert [sorted(museum.rules.get(f"T{disk}", {})) for disk in DISKS] == [[900, 1000], [100], [100], [100]]

@@ -39,7 +39,7 @@ def test_titles_for_the_staff_go_before_those_for_all(staff):
     mine = "1001Letters (the ferry company asks for care)"
     wanted = [mine, f"1002{HARMFUL[2]}", "1003", "1004Not open", "1005=1+1", "1006"]
     assert [row[0] for row in staff.go("checks")["rows"]] == wanted
-    hint = "“Letters (the ferry company asks for care)”. Rank 1000: it is the first takedown of disk 1001."
+    hint = "“Letters (the ferry company asks for care)”."
     assert staff.go("takedowns/1001")["hint"] == hint
     assert staff.go("eyes") and staff.push("Look")
     for words, disks in (("company", [mine] * 2), ("ferryman", [])):
