@@ -2,10 +2,11 @@
 
 import itertools
 import random
+import threading
 
 import pytest
 from staff_helpers import lost_at, saved_table
-from support import cbm_image, cpm_image, model_rules, museums, samples
+from support import browser, cbm_image, cpm_image, model_rules, museums, samples
 from support.browser import TODAY
 from support.model import AUDIENCES
 from support.samples import digest
@@ -15,6 +16,7 @@ WELCOME, MUSEUM = (samples.bytes_of("images", name) for name in ("welcome.img", 
 HEADS, LONG = "accession,kind,deed,sha256,file", "Müller box 1, disk 048.img"
 LEFT_OUT = "Left out: {}. The last column of the list says why."
 NO_DEED = "There is no such deed. Check its number, or put the deed first. (no-deed)"
+CHANGED = "Your browser cannot read the file: it is gone, or has changed since you chose it. Choose it again."
 NOT_NAMED, NO_FILE = "The sheet does not name it: left out.", "No file of this name is chosen."
 NO_KIND = "The page does not send it: no kind of disk has 100 bytes. CP/M, 8 inches has 256,256 bytes, "
 NO_KIND += "Commodore 1541 has 174,848 bytes, Commodore 1541 with error bytes has 175,531 bytes."
@@ -36,13 +38,13 @@ FOUND = {LONG: ("2001", "9", ""), "hello.d64": ("2002", "9", ""), "..%2f..%2fX":
 def choose(staff, tmp_path):
     """Chooses files of these names and bytes in the view of disks."""
 
-    def choose_files(files):
+    def choose_files(files, page=staff):
         for name, data in files.items():
             (tmp_path / name).write_bytes(data)
-        staff.one("#disks [name=files]").send_keys("\n".join(str(tmp_path / name) for name in files))
-        return staff.read()
+        page.go("disks")
+        page.one("#disks [name=files]").send_keys("\n".join(str(tmp_path / name) for name in files))
+        return page.read()
 
-    staff.go("disks")
     return choose_files
 
 results = lambda shown: {row[0].removesuffix(" Map"): (row[4], row[5], row[6]) for row in shown["list"]}
@@ -115,6 +117,36 @@ def test_dumps_are_described_and_numbered_by_hand(staff, choose):
         staff.type("Deed of one.d64", deed)
         assert staff.push("Go on with the rest")["result"][0] == words, "it goes out under a deed that nobody agreed to"
     assert [at[4:] for at in staff.read()["list"]] == [["3001", "9", "done"], ["3002", "9", "done"], ["", "", NO_KIND]]
+
+@pytest.mark.long
+@pytest.mark.timeout(1800)
+def test_thousand_dumps_are_asked_once_told_exactly_and_resumed_anew(museum, staff, choose, tmp_path, monkeypatch):
+    """One has a wrong size, one an unknown deed, one changes once it is chosen; at the 400th the browser is closed."""
+    monkeypatch.setattr(browser, "LIMIT", 900)
+    dumps = [bytes([at % 256, at // 256]) + HELLO[2:] if at != 7 else bytes(100) for at in range(1000)]
+    rows = [f"{2000 + at},d64,{99 if at == 8 else 9},{digest(data)},{at}.d64" for at, data in enumerate(dumps)]
+    files = {f"{at}.d64": data for at, data in enumerate(dumps)} | {"all.csv": "\n".join([HEADS, *rows, ""]).encode()}
+    first, puts, is_closed = browser.StaffPage(browser.chromium(tmp_path), staff.door).begin(), [], threading.Event()
+    is_held = lambda method: method == "PUT" and (puts.append(method) or len(puts) == 400) and is_closed.wait(900)
+    staff.door.before = lambda method, path: b"" if is_held(method) else None
+    said = "The sheet has 1,000 rows: 999 ready, 1 with another disk than it says, 0 without a file."
+    assert choose(files, first)["result"] == [f"1,000 files chosen. {said}"]
+    said = "Nothing is sent: there is no deed 99 (as of accession 2008). Put it first."
+    assert (first.push("Put the disks")["result"], puts) == ([said], []), "a disk of an unknown deed goes out"
+    museum.deeds[99] = "Late Donor", "2020-01-01"
+    assert first.push("Put the disks")["sure"][:2] == ["Put 999 disks?", LEFT_OUT.format(1)]
+    first.one("#sure [value=go]").click()
+    browser.wait_for("the 400th dump", lambda: len(puts) == 400)
+    assert first.driver.quit() or is_closed.set() is None and max(museum.images) == 2399
+    asked = choose(files) and staff.push("Put the disks")["sure"]
+    assert (asked[1][:31], asked[2]) == ("In use already: 399 accessions.", LEFT_OUT.format(1))
+    (tmp_path / "950.d64").write_bytes(HELLO)
+    assert staff.answer(True)["result"][0] == "998 disks put, 1 failed, 1 left out."
+    told = [row[2:8:5] for row in saved_table(staff, "disks-report-of", "Save the report")[1:]]
+    wanted = {str(2000 + at): "done" for at in range(1000)} | {"2007": NO_KIND, "2950": CHANGED}
+    assert (dict(told), len(told)) == (wanted, 1000), "what became of each dump"
+    put = {acc: image.bytes for acc, image in museum.images.items() if acc >= 2000}
+    assert put == {2000 + at: data for at, data in enumerate(dumps) if at not in (7, 950)}
 
 def test_map_shows_each_sector_the_chosen_file_and_faults(staff, choose):
     choose({"damaged.d64": samples.bytes_of("images", "damaged.d64"), "plain.img": WELCOME})

@@ -102,29 +102,29 @@ def test_file_says_since_when_the_journal_has_no_change_that_can_concern_it_and_
 def test_time_goes_back_past_what_was_replaced_where_the_journal_says_that_it_was_the_same_for_them(disk):
     """Cases: when the disk came in; what rule 20 said a month before; whether it was the same for public and staff."""
     put, month, of_deed = disk.door.journals["/journal"], -4e6, "/deeds/9/rules/20"
-    at = lambda far, who, what: f"{when(far + 0.5)} by {who}: {what}"
-    back = at(month, "nobody who is named", f"Put {BY_DEED}; what has replaced it is the same for them")
+    line = lambda far, path, body="", *how: journal_lines(far, START + far, *(how or ("200", "PUT")), path, body=body)
+    by = lambda far, what, who="nobody who is named": f"{when(far + 0.5)} by {who}: {what}"
+    back = by(month, f"Put {BY_DEED}; what has replaced it is the same for them")
     some, of = READ.replace('"public",', ""), lambda words: READ.replace('"all":true', words)
     cases = [(-9, some, 0, 1), (-9, of('"slot":0'), 1, 1), (-9, of('"prefix":"T"'), 0, 0),
              (-9, READ.replace("read", "list"), 0, 0), (-9, READ[:-1] + ',"until":"2099-01-01"}', 0, 0),
              (month - 9, some, 0, 1), (month - 9, of('"slot":0'), 1, 1)]
     # (the page asks once for a month without a file, and for what is older than all that it has read)
-    disk.door.journals["/journal-2023-09"] = journal_lines(2, START + month - 99, "200", "PUT", "/deeds/8")
+    disk.door.journals["/journal-2023-09"] = line(month - 99, "/deeds/8")
     assert disk.load() and disk.begin()
     for far, body, *is_same in cases:
-        older = journal_lines(2, START + month, "200", "PUT", of_deed, body=body)
-        came, is_late = journal_lines(3, START + far, "200", "PUT", TAKEN_IN), far == -9
-        disk.door.journals = {"/journal": came * is_late + put, "/journal-2023-09": came * (not is_late) + older}
-        since = at(0, "Ada", f"Replace {BY_DEED}"), at(-9, "nobody who is named", "taken in") if is_late else back
+        came, is_late = line(far, TAKEN_IN), far == -9
+        older = came * (not is_late) + line(month, of_deed, body)
+        disk.door.journals = {"/journal": came * is_late + put, "/journal-2023-09": older}
+        since = by(0, f"Replace {BY_DEED}", "Ada"), by(-9, "taken in") if is_late else back
         cells = [disk.go("disk/1002")["rows"][0][cell].partition("in the journal since ")[2] for cell in (5, 7)]
         assert cells == [since[one] for one in is_same], body
-    lines = journal_lines(4, START - 5, "200", "PUT", of_deed, body=READ)
-    disk.door.journals["/journal"] = lines + journal_lines(5, START - 1, "502", "DELETE", of_deed) + put
-    assert at(0, "Ada", f"Put {BY_DEED}") in disk.go("disk/1002")["rows"][0][5], "what may have been dropped stood"
+    disk.door.journals["/journal"] = line(-5, of_deed, READ) + line(-1, of_deed, "", "502", "DELETE") + put
+    assert by(0, f"Put {BY_DEED}", "Ada") in disk.go("disk/1002")["rows"][0][5], "what may have been dropped stood"
 
 def test_files_ticked_by_their_shown_names_are_taken_down_and_what_stands_after_a_failure_is_said(museum, disk):
     museums.put_files(museum, 1002, "d64", 9, [("%CCETTER", "SEQ", b"A"), ("-", "DEL", None), ("GUIDE", "SEQ", b"A")])
-    disk.go("disk/1002")
+    assert "Letter" in str(disk.go("disk/1002")["rows"]), "no file can be closed by the name that is shown"
     rules = [("Letter", "10", "0"), ("GUIDE", "20", "2")]
     place = "Rank {0} gives its place in the order: number {1} of {1} takedown{2} of disk 1002."
     places = place.format(10, 1, ""), place.format(20, 2, "s")
@@ -167,4 +167,4 @@ def test_each_number_of_a_disk_leads_to_its_page(museum, disk):
     museum.rules["T1002"] = takedown(1000, 2)
     disk.door.journals = {"/journal": journal_lines(1, START, "200", "PUT", "/images/1002/rules/1000", "Ada")}
     for place, buttons in (("checks", ["Check disk 1002"]), ("takedowns", []), ("eyes", ["Look"]), ("journal", [])):
-        assert "#/disk/1002" in [disk.go(place), *map(disk.push, buttons)][-1]["links"], place
+        assert "#/disk/1002" in [disk.go(place), *map(disk.push, buttons)][-1]["links"], f"{place}: no way to the disk"

@@ -11,8 +11,6 @@ from support.browser import LIMIT, TODAY
 BOTH = ("public", "room")
 HIDDEN = "the file at slot {} closed to the public and the reading room, until further notice."
 PLACE = "Rank {} gives its place in the order: number {} of disk {}."
-LOG = "From which addresses files were fetched before, desk-visits.log on the museum's machine says for 14 days only: "
-LOG += "keep a copy if you need it (OPERATING, Logs)."
 NOW, NOTHING = f"Today, {TODAY}", "Nothing opens, and nothing closes."
 SHUT = "see only that closed files are there, not their names"
 CLOSES = f"Closes for the public and the reading room: 1 file. Now they may read them; then they may {SHUT}."
@@ -32,15 +30,15 @@ ranks = lambda shown: [row[1] for row in shown["rows"]]
 def test_takedowns_are_rehearsed_and_put_each_before_the_others(takedowns):
     guide, rank = "GUIDE (disk 1002, slot 2)", PLACE.format(10, "1 of 1 takedown", 1002)
     words = ["Put takedown 10 of disk 1002?", f"It says: {HIDDEN.format(2)}", rank, NOW, CLOSES, guide]
-    put = "Put: takedown 10 of disk 1002."
-    for is_agreed, said in ((False, [f"Not {put[0].lower()}{put[1:]}"]), (True, [put, LOG])):
+    for is_agreed, said in ((False, "Not put: takedown 10 of disk 1002."), (True, "Put: takedown 10 of disk 1002.")):
         shown = takedowns.take_down("1002", "", "2", *BOTH)
         assert (shown["hint"], shown["sure"]) == (rank, words)
         assert [at for _, at, _ in takedowns.door.visits if "/verdicts/" in at] == [f"/staff/verdicts/{TODAY}/1002"]
         saved = saved_table(takedowns, f"disk-1002-before-a-change-{TODAY}-asked", "Save what stands now, first")
         assert str(saved).count("'read it'") == 6 and "an answer to: “Put takedown 10 of disk 1002?”" in saved[1][1]
         shown = takedowns.answer(is_agreed)
-        assert (shown["result"], len(takedowns.door.sent())) == (said, is_agreed), "who fetched it before is not said"
+        assert (shown["result"][0], len(takedowns.door.sent())) == (said, is_agreed)
+        assert "desk-visits.log" in shown["result"][-1] or not is_agreed, "where it stands who fetched it is not said"
     row = ["1002", "10", "the public and the reading room", "the file at slot 2", SHUT]
     assert [cells[:5] for cells in shown["rows"]] == [row]
     shown = takedowns.take_down("1002", "", "0", "public")

@@ -13,17 +13,17 @@ NOT = f"not in the journal, back to {moment(START).replace('T', ' ')}, where it 
 
 def test_deed_is_put_with_name_and_reason(staff):
     """They go as percent-encoded UTF-8, which may have 1,000 bytes. Without one of them nothing is sent."""
-    rules = "10: all files closed to the public and the reading room, until 2030-01-01"
-    rules += f"20: all files readable for {EVERYBODY}, until further noticeRules"
-    assert staff.read()["rows"][0] == ["7", "A. Curator", "2019-05-04", "3", rules, "Change"]
     for name, reason in (("", "a reason"), ("Ada", " "), ("Ada", "ü" * 167)):
         put_deed(staff.fill("who", name=name, reason=reason))
         assert staff.door.sent() == [], (name, reason)
     shown = put_deed(staff.fill("who", reason="ü" * 166), "31", "E. <b>Müller</b>")
     assert staff.door.sent() == [("PUT", "/deeds/31", "Ada", "%C3%BC" * 166)]
-    assert (shown["result"], shown["stands"]) == (["Put: deed 31."], ["4 deeds."])
-    assert shown["rows"][3] == ["31", "E. <b>Müller</b>", "1999-12-31", "0", "No rule: closed to everybody", "Change"]
     assert staff.one("#who [name=reason]").get_property("value") == "", "a reason goes along with the next change"
+    assert (shown["result"], shown["stands"]) == (["Put: deed 31."], ["4 deeds."])
+    rules = "10: all files closed to the public and the reading room, until 2030-01-01"
+    rules += f"20: all files readable for {EVERYBODY}, until further noticeRules"
+    assert shown["rows"][0] == ["7", "A. Curator", "2019-05-04", "3", rules, "Change"]
+    assert shown["rows"][3] == ["31", "E. <b>Müller</b>", "1999-12-31", "0", "No rule: closed to everybody", "Change"]
     staff.door.before = lost_at(1)
     put_deed(staff)
     assert staff.one("#who [name=reason]").get_property("value") == "a letter of today"

@@ -44,8 +44,9 @@ def test_each_audience_sees_and_counts_what_the_desk_gives_out(museum, staff, da
             may = EFFECTS[effect] + (why and f" ({why})")
             rows.append([line["accession"], line["slot"], may, line[f"{audience}_rule"]])
         shown = look(staff, day, audience, closed=True)
-        summary = "{read} to read, {list} only in the list, {deny} closed.".format_map(counts)
-        assert shown["stands"][0].endswith(summary), "files that the desk gives out to nobody count as readable"
+        said, summary = shown["stands"][0], "{read} to read, {list} only in the list, {deny} closed.".format_map(counts)
+        assert f" {counts['read']} " in said, "files that the desk gives out to nobody count as readable"
+        assert said.endswith(summary)
         assert [[*(row[at] for at in (0, 2, 5)), row[6].split()[0]] for row in shown["rows"]] == rows
         assert len(look(staff, day, audience)["rows"]) == 14 - counts["deny"]
 
@@ -94,14 +95,16 @@ def test_day_that_nobody_typed_is_today_also_where_a_page_stays_open_overnight(m
 
 def test_day_that_is_over_is_said_to_be_by_rules_of_today_and_a_saved_table_says_what_it_has(staff, tmp_path):
     (tmp_path / "about.csv").write_text("name,value\nmuseum,Museum of the River\n")
-    assert staff.load() and staff.begin()
+    assert staff.load() and staff.begin() and look(staff, "1999-01-01", closed=True) and staff.push("Save what is")
+    texts = staff.text("#eyes .stands"), staff.saved("*1999-01-01*.csv").decode()
+    assert [PAST in text for text in texts] == [True, True], "a past day looks known, in the view or in the file"
     for words, count, left in (("1004", 0, 2), ("logbook", 1, 1)):
         shown = look(staff, "1999-01-01", words=words)["stands"][1].removeprefix("Shown: ")
         only = count * ", only of disk 1003, which has 2"
         which = f"{count} of 14 files, found by “{words}”{only}; {left} more, closed to them, left out."
         assert shown[:-10] == f"{which} The desk was asked on {TODAY} at 12:" and shown.endswith(" UTC.")
         heading = f"What the public gets on 1999-01-01, {PAST}"
-        assert staff.texts("#eyes .stands h2") == [heading], "a past day looks known"
+        assert staff.texts("#eyes .stands h2") == [heading]
         name = f"who-sees-what-public{count * '-of-disk-1003'}-1999-01-01-by-the-rules-of-{TODAY}"
         _, saved = saved_table(staff, f"{name}-{count}-of-14-files-asked")
         about = f"{heading}: {shown} It says nothing of what others than the public get. {SINCE} {UNSAID}"
