@@ -53,7 +53,7 @@ function placeWords(name, { scope, rank, replaced }, rule, stand) {
   if (replaced) return `In use: ${words} stands, ${ruleWords(replaced)}. What you put replaces it.`;
   if (name === "rules") return "";
   const [before, meets] = [stand, met(rule, stand)].map((some) => some.filter((one) => one.rank < rank).length);
-  const mind = meets ? ` Mind: ${meets} before it may be for the same files and readers.` : "";
+  const mind = meets ? ` Mind: ${counted(meets, "takedown")} before it may be for the same files and readers.` : "";
   const all = counted(stand.length + 1, "takedown");
   return `Rank ${rank} gives its place in the order: number ${before + 1} of ${all} of disk ${scope}.${mind}`;
 }

@@ -6,7 +6,7 @@ import { element } from "./shared.js";
 import { inParts, save } from "./stream.js";
 
 const clocks = () => `this table (moments: in UTC, or with their distance from it behind them; days of the journal: by \
-the museum's machine; days of rules: by the zone of the desk; day of asking: by this computer, whose zone is \
+the museum's machine; days of rules: by the desk's zone; day of asking: by the computer that saved this, in the zone \
 ${Intl.DateTimeFormat().resolvedOptions().timeZone})`;
 
 export async function saveTable(name, moment, about, heads, items, recordOf) {

@@ -78,8 +78,8 @@ def test_staff_rehearses_puts_and_ends_a_takedown(room, staffs):
     staffs.go("takedowns")
     assert "GUIDE (disk 16, slot 2)" in staffs.take_down("16", "", "2", "public", "room")["sure"]
     assert staffs.answer(True) and effects(room, 16) == ["read"] * 2
-    staffs.of_row("takedown 1000 of disk 16", "Drop")
-    assert staffs.answer(True)["result"] == ["Done: there is no takedown 1000 of disk 16 now."]
+    staffs.of_row("takedown 10 of disk 16", "Drop")
+    assert staffs.answer(True)["result"] == ["Done: there is no takedown 10 of disk 16 now."]
     assert effects(room, 16) == ["read"] * 3
 
 def test_journal_shows_who_changed_what_and_why(room, staffs):

@@ -100,27 +100,25 @@ def test_file_says_since_when_the_journal_has_no_change_that_can_concern_it_and_
     assert "from then on it has no change of the disk" in said and "A day of a rule begins at midnight by" in said
 
 def test_time_goes_back_past_what_was_replaced_where_the_journal_says_that_it_was_the_same_for_them(disk):
-    """Cases: when the disk came in; what rule 20 said a month before; whether it was the same for public and staff."""
-    put, month, of_deed = disk.door.journals["/journal"], -4e6, "/deeds/9/rules/20"
-    line = lambda far, path, body="", *how: journal_lines(far, START + far, *(how or ("200", "PUT")), path, body=body)
-    by = lambda far, what, who="nobody who is named": f"{when(far + 0.5)} by {who}: {what}"
-    back = by(month, f"Put {BY_DEED}; what has replaced it is the same for them")
-    some, of = READ.replace('"public",', ""), lambda words: READ.replace('"all":true', words)
-    cases = [(-9, some, 0, 1), (-9, of('"slot":0'), 1, 1), (-9, of('"prefix":"T"'), 0, 0),
-             (-9, READ.replace("read", "list"), 0, 0), (-9, READ[:-1] + ',"until":"2099-01-01"}', 0, 0),
-             (month - 9, some, 0, 1), (month - 9, of('"slot":0'), 1, 1)]
+    """Cases: when the disk came in; what rule 20 said otherwise a month before; is it the same for public, staff."""
+    put, month, of_deed, nobody = disk.door.journals["/journal"], -4e6, "/deeds/9/rules/20", "nobody who is named"
+    line = lambda far, path, body="": journal_lines(far, START + far, "200", "PUT", path, body=body)
+    ruled, taken = f"{when(0.5)} by Ada: Replace {BY_DEED}", f"{when(-8.5)} by {nobody}: taken in"
+    back = f"{when(month + 0.5)} by {nobody}: Put {BY_DEED}; what has replaced it is the same for them"
+    some, every = ('"public",', ""), '"all":true'
+    cases = [(-9, *some, 0, 1), (-9, every, '"slot":0', 1, 1), (-9, every, '"prefix":"T"', 0, 0),
+             (-9, "read", "list", 0, 0), (-9, '"read"', '"read","until":"2099-01-01"', 0, 0), (month - 9, *some, 0, 1)]
     # (the page asks once for a month without a file, and for what is older than all that it has read)
     disk.door.journals["/journal-2023-09"] = line(month - 99, "/deeds/8")
     assert disk.load() and disk.begin()
-    for far, body, *is_same in cases:
-        came, is_late = line(far, TAKEN_IN), far == -9
-        older = came * (not is_late) + line(month, of_deed, body)
-        disk.door.journals = {"/journal": came * is_late + put, "/journal-2023-09": older}
-        since = by(0, f"Replace {BY_DEED}", "Ada"), by(-9, "taken in") if is_late else back
+    for far, this, other, *is_same in cases:
+        came, is_late, old = line(far, TAKEN_IN), far == -9, line(month, of_deed, READ.replace(this, other))
+        disk.door.journals = {"/journal": came * is_late + put, "/journal-2023-09": came * (not is_late) + old}
         cells = [disk.go("disk/1002")["rows"][0][cell].partition("in the journal since ")[2] for cell in (5, 7)]
-        assert cells == [since[one] for one in is_same], body
-    disk.door.journals["/journal"] = line(-5, of_deed, READ) + line(-1, of_deed, "", "502", "DELETE") + put
-    assert by(0, f"Put {BY_DEED}", "Ada") in disk.go("disk/1002")["rows"][0][5], "what may have been dropped stood"
+        assert cells == [(ruled, taken if is_late else back)[one] for one in is_same], other
+    gone = journal_lines(2, START - 1, "502", "DELETE", of_deed)
+    disk.door.journals["/journal"] = line(-5, of_deed, READ) + gone + put
+    assert f"{when(0.5)} by Ada: Put" in disk.go("disk/1002")["rows"][0][5], "what may have been dropped stood"
 
 def test_files_ticked_by_their_shown_names_are_taken_down_and_what_stands_after_a_failure_is_said(museum, disk):
     museums.put_files(museum, 1002, "d64", 9, [("%CCETTER", "SEQ", b"A"), ("-", "DEL", None), ("GUIDE", "SEQ", b"A")])
@@ -155,13 +153,13 @@ def test_files_ticked_by_their_shown_names_are_taken_down_and_what_stands_after_
     assert [row[5] for row in shown["rows"][:3]] == [CLOSED.format(10), LISTS, CLOSED.format(20)]
     assert "Save the report" not in str(disk.go("disk/1003")["result"]) and disk.go("keys") and disk.go("disk/1002")
     due = [["1002", slot, name, rank, f"the file at slot {slot} {ALWAYS}", "done"] for name, rank, slot in rules]
-    disk.cdp("Emulation.setTimezoneOverride", timezoneId="Asia/Tokyo")
     heads, *rows = saved_table(disk, "disk-1002-report-of", "Save the report")
-    disk.cdp("Emulation.setTimezoneOverride", timezoneId="")
     assert [row[2:8] for row in rows] == due and "of each. It does not say what stands since. Whoever" in rows[0][1]
     assert "desk-visits.log on the museum's machine says for 14" in rows[0][1], "who fetched them before is not said"
-    assert heads[1].endswith("whose zone is Asia/Tokyo)") and heads[3::2][:2] == [
-        "slot (the file's place on its disk, counted from 0)", "rank (a place in the order of rules, lowest first)"]
+    zone = disk.script("return Intl.DateTimeFormat().resolvedOptions().timeZone")
+    assert heads[1].endswith(f"by the computer that saved this, in the zone {zone})"), "in nobody's zone"
+    words = "slot (the file's place on its disk, counted from 0)", "rank (a place in the order of rules, lowest first)"
+    assert (heads[3], heads[5]) == words
 
 def test_each_number_of_a_disk_leads_to_its_page(museum, disk):
     museum.rules["T1002"] = takedown(1000, 2)

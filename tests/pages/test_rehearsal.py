@@ -46,19 +46,16 @@ def test_takedowns_are_rehearsed_and_put_each_before_the_others(takedowns):
     assert ranks(takedowns.answer(True)) == ["10", "20"]
     assert takedowns.door.effects(1002) == {"public": ["deny", "read", "deny"], "room": ["read", "read", "deny"]}
 
-def test_rank_in_use_is_said_to_be_replaced_and_another_comes_after_it_where_none_is_free_before(takedowns):
+def test_rank_in_use_is_said_to_be_replaced_and_one_that_may_decide_before_another_is_named(takedowns):
     shown = takedowns.take_down("1005", "1", "2", *BOTH)
     words = f"In use: takedown 1 of disk 1005 stands, {HIDDEN.format(0)} What you put replaces it."
     assert (shown["hint"], shown["sure"][2:]) == (words, [words, NOW, *TURNS])
     assert shown["sure"][0] == "Replace takedown 1 of disk 1005?" and takedowns.answer(False)
-    shown = takedowns.take_down("1005", "", "2", *BOTH)
-    words = PLACE.format(10, "2 of 2 takedowns", 1005)
-    assert (shown["hint"], shown["sure"][2:]) == (words, [words, NOW, *TURNS[2:]])
-    assert ranks(takedowns.answer(True)) == ["1", "10"]
-    assert takedowns.door.effects(1005) == dict.fromkeys(BOTH, ["deny", "read", "deny"])
-    shown = takedowns.take_down("1005", "", "0", "public")
-    mind = f"{PLACE.format(20, '3 of 3 takedowns', 1005)} Mind: 1 before it may be for the same files and readers."
-    assert shown["hint"] == mind and takedowns.answer(False)
+    words = PLACE.format(100, "2 of 2 takedowns", 1005)
+    words += " Mind: 1 takedown before it may be for the same files and readers."
+    shown = takedowns.put_rule("takedowns", "1005", "", "all", None, "public")
+    assert (shown["hint"], shown["sure"][2]) == (words, words)
+    assert ranks(takedowns.answer(True)) == ["1", "100"]
 
 def test_drop_is_rehearsed_and_done(takedowns):
     shown = takedowns.of_row("takedown 1 of disk 1005", "Drop")
