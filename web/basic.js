@@ -1,9 +1,7 @@
 // Listings of BASIC programs as a 1541 disk keeps them, by the public table of the tokens of BASIC V2.
 import { petsciiSign } from "./names.js";
 
-const FIRST_TOKEN = 0x80;
-const PI = 0xff;
-const QUOTE = 0x22;
+const [FIRST_TOKEN, PI, QUOTE] = [0x80, 0xff, 0x22];
 const TOKENS = (
   "END FOR NEXT DATA INPUT# INPUT DIM READ LET GOTO RUN IF RESTORE GOSUB RETURN REM STOP ON WAIT LOAD SAVE VERIFY " +
   "DEF POKE PRINT# PRINT CONT LIST CLR CMD SYS OPEN CLOSE GET NEW TAB( TO FN SPC( THEN NOT STEP + - * / \u2191 AND " +

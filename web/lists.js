@@ -4,11 +4,9 @@ import { shownName } from "./names.js";
 import { box, cell, element, grouped, table } from "./shared.js";
 
 // Up to how many rows a table is drawn whole, and how many rows a block has.
-const WHOLE = 50;
-const BLOCK = 20;
+const [WHOLE, BLOCK] = [50, 20];
 // How far from the screen blocks are drawn, and how high a row is before one was measured, in pixels.
-const NEAR = 1200;
-const ROW = 40;
+const [NEAR, ROW] = [1200, 40];
 
 // The bodies of a table: a block or a gap, each for the blocks from its first to before its end.
 function bodiesOf(items, rowOf, columns) {

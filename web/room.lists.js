@@ -6,8 +6,7 @@ import { inParts, keeper, readTable } from "./stream.js";
 import { noteOf, titleOf } from "./titles.js";
 
 // How often the page says how far it is, and for how long it keeps a list, in milliseconds.
-const PACE = 500;
-const KEPT = 300000;
+const [PACE, KEPT] = [500, 300000];
 // What the types of files mean, in plain words: those of the 1541, and those that are usual on CP/M.
 const OF_1541 = {
   PRG: "program", SEQ: "text or data", USR: "data for one program", REL: "records",
