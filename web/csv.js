@@ -5,14 +5,14 @@
 function recordAt(text, at, isPlain) {
   const end = text.indexOf("\n", at);
   if (end < 0) return null;
-  const record = [];
-  if (isPlain || !text.slice(at, end).includes('"')) {
-    let from = at;
-    for (let to = text.indexOf(",", at); to >= 0 && to < end; to = text.indexOf(",", from)) {
-      record.push(text.slice(from, to));
+  const [record, line] = [[], text.slice(at, end)];
+  if (isPlain || !line.includes('"')) {
+    let from = 0;
+    for (let to = line.indexOf(","); to >= 0; to = line.indexOf(",", from)) {
+      record.push(line.slice(from, to));
       from = to + 1;
     }
-    record.push(text.slice(from, end));
+    record.push(line.slice(from));
     return { record, end: end + 1 };
   }
   const field = /(?:"((?:[^"]|"")*)"|([^",\n]*))([,\n])/y;

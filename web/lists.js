@@ -44,9 +44,10 @@ function bodiesOf(items, rowOf, columns) {
     const blocks = Array.from({ length: to - from }, (_, at) => block(from + at));
     old.before(...blocks);
     const drawn = blocks.map((one) => one.getBoundingClientRect().height);
-    if (!isMeasured) heights.fill(drawn[0]);
-    heights.splice(from, drawn.length, ...drawn);
-    isMeasured = true;
+    // (what is hidden meanwhile has no height)
+    if (!isMeasured && drawn[0] > 0) heights.fill(drawn[0]);
+    if (drawn[0] > 0) heights.splice(from, drawn.length, ...drawn);
+    isMeasured ||= drawn[0] > 0;
     blocks[0].before(...gap(old.first, from));
     old.replaceWith(...gap(to, old.end));
   };

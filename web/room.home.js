@@ -6,9 +6,7 @@ import { inSight, link, permission, ways } from "./room.parts.js";
 import { box, counted, element, kindWords, loaded, own, part } from "./shared.js";
 import { noteOf } from "./titles.js";
 
-const PAGE = 48;
-const MOST_MATCHES = 5;
-const MOST_TYPES = 9;
+const [PAGE, MOST_MATCHES, MOST_TYPES] = [48, 5, 9];
 // Of up to so many disks that were found the page asks which files are closed.
 const FEW = 6;
 // Up to so many disks the list of all files is read at once, and else when somebody looks for something.

@@ -168,15 +168,17 @@ async function takeDown(records, tools) {
   const commands = records.map((record) => {
     const slot = Number(record[COLUMNS.slot]);
     const rule = { ...ruleIn(part("ticked")), select: { slot } };
-    const { rank, says } = placeOf("takedowns", accession, "", rule, stand);
+    const { rank } = placeOf("takedowns", accession, "", rule, stand);
     stand.push({ ...rule, rank });
     const sent = { method: "PUT", path: RULES.takedowns.path(accession, rank), body: JSON.stringify(rule) };
-    return { scope: accession, rank, slot, rule, says, name: nameOf(record), ...sent };
+    return { scope: accession, rank, slot, rule, name: nameOf(record), ...sent };
   });
   if (commands.some(({ rank }) => rank === null)) return `All ranks of disk ${accession} are in use.`;
   const whom = listed(commands[0].rule.audiences.map((audience) => AUDIENCES[audience]));
   const words = `Take down ${counted(commands.length, "file")} of disk ${accession} for ${whom}?`;
-  const notes = commands.map(({ name, rule, says }) => `${name}: ${ruleWords(rule)}. ${says}`);
+  const beside = (rank) => stand.filter((one) => one.rank !== rank);
+  const saysOf = ({ rank, rule }) => placeOf("takedowns", accession, rank, rule, beside(rank)).says;
+  const notes = commands.map((one) => `${one.name}: ${ruleWords(one.rule)}. ${saysOf(one)}`);
   const asked = { words, notes, commands, days: rehearsalDays(commands[0].rule), isTakedown: true, go: "Take down" };
   asked.first = saveFirst(accession, words);
   if ((await rehearsed(asked, tools)).length === 0) return "Nothing is taken down.";

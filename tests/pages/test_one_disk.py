@@ -124,8 +124,8 @@ def test_files_ticked_by_their_shown_names_are_taken_down_and_what_stands_after_
     museums.put_files(museum, 1002, "d64", 9, [("%CCETTER", "SEQ", b"A"), ("-", "DEL", None), ("GUIDE", "SEQ", b"A")])
     assert "Letter" in str(disk.go("disk/1002")["rows"]), "no file can be closed by the name that is shown"
     rules = [("Letter", "10", "0"), ("GUIDE", "20", "2")]
-    place = "Rank {0} gives its place in the order: number {1} of {1} takedown{2} of disk 1002."
-    places = place.format(10, 1, ""), place.format(20, 2, "s")
+    place = "Rank {0} gives its place in the order: number {1} of 2 takedowns of disk 1002."
+    places = place.format(10, 1), place.format(20, 2)
     notes = [f"{name}: the file at slot {slot} {ALWAYS}. {at}" for (name, _, slot), at in zip(rules, places)]
     for slot in (0, 2):
         disk.set(f"#disk [name=slots][value='{slot}']", True)

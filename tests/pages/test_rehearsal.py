@@ -51,11 +51,11 @@ def test_rank_in_use_is_said_to_be_replaced_and_one_that_may_decide_before_anoth
     words = f"In use: takedown 1 of disk 1005 stands, {HIDDEN.format(0)} What you put replaces it."
     assert (shown["hint"], shown["sure"][2:]) == (words, [words, NOW, *TURNS])
     assert shown["sure"][0] == "Replace takedown 1 of disk 1005?" and takedowns.answer(False)
-    words = PLACE.format(100, "2 of 2 takedowns", 1005)
+    words = PLACE.format(2, "2 of 2 takedowns", 1005)
     words += " Mind: 1 takedown before it may be for the same files and readers."
     shown = takedowns.put_rule("takedowns", "1005", "", "all", None, "public")
     assert (shown["hint"], shown["sure"][2]) == (words, words)
-    assert ranks(takedowns.answer(True)) == ["1", "100"]
+    assert ranks(takedowns.answer(True)) == ["1", "2"]
 
 def test_drop_is_rehearsed_and_done(takedowns):
     shown = takedowns.of_row("takedown 1 of disk 1005", "Drop")
@@ -135,7 +135,7 @@ def test_free_rank_is_before_those_that_may_be_for_the_same_files_and_readers(mu
     wanted = [({}, 3, 10), ({10: 1}, 3, 20), ({10: 1, 30: 2}, 3, 20), ({990: 1, 1000: 2}, 3, 10), (fifty, 51, 510),
         ({}, None, 100), ({100: None}, 3, 90), ({90: 3, 100: None}, 4, 80), ({90: 3, 100: None}, None, 80),
         ({200: 1}, None, 100), ({10: 3}, 3, 9), ({9: 3, 10: None}, 4, 8), (fifty, None, 9), (fifty, 5, 49),
-        ({1: None}, 3, 10), ({1: 2}, None, 100), (whole, 3, None), ({1: None, 9999: 3}, 3, 10)]
+        ({1: None}, 3, 2), ({1: 2}, None, 2), (whole, 3, None), ({1: 3, 50: None}, None, 2)]
     of = lambda slot: {"audiences": ["public"], "select": {"all": True} if slot is None else {"slot": slot}}
     free = """return import("/staff.ranks.js").then(({ placeOf }) =>
         arguments[0].map(([stand, rule]) => placeOf("takedowns", 7, "", rule, stand).rank));"""
