@@ -1,13 +1,13 @@
 -- An entry is put at the end of a history.
-use Rattle.std.proofs.Common.{◌≡◌, ◌∙◌, ◌+◌, inl, ℕ, Bool, true, false, IsTrue, IsUtf8, Err, List, [], ◌∷◌, ◌++◌, ap, arith, length, refl, subst, sym}
+use Rattle.std.proofs.Common.{◌≡◌, ◌+◌, inl, ℕ, Bool, true, false, IsTrue, IsUtf8, Err, List, [], ◌∷◌, ◌++◌, arith, length, refl}
 use Rattle.sqlite.specs.Held.{Held}
 use Rattle.sqlite.specs.Store.{Ghosts}
 use Rattle.rd_tables.proofs.ConnectionLaws.{lasts_still}
 use Rattle.rd_chain.specs.Held.{Appends, IsAtRest}
 use Rattle.rd_history.specs.Entries.{HasDigests, IsEntry}
-use Rattle.rd_history.specs.Histories.{IsAsked, MayCome, changes_of}
+use Rattle.rd_history.specs.Histories.{IsAsked, MayCome}
 use Rattle.rd_history.specs.Lines.{line_of}
-use Rattle.rd_history.specs.Stages.{EndsSo, Follows, Leads, START, Steps}
+use Rattle.rd_history.specs.Stages.{EndsSo, Follows, Leads, START}
 use Rattle.rd_history.specs.declared.entry.Change.{Change}
 use Rattle.rd_history.specs.declared.entry.Change.TheVariants.{Begin, Void}
 use Rattle.rd_history.specs.declared.entry.Entry.{Entry}

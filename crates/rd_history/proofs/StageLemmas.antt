@@ -2,7 +2,6 @@
 use Rattle.std.proofs.Common.{◌≡◌, ◌≢◌, ◌∙◌, ◌⊎◌, ◌+◌, ◌≤◌, inl, inr, ℕ, zero, suc, Bool, true, false, true≢false, List, [], ◌∷◌, ◌++◌, ap, arith, length, map, refl, subst, sym, IsUtf8, append_assoc, append-nil, flat_map, length-append}
 use Rattle.std.specs.List.{AllByRecursion}
 use Rattle.std.proofs.lemmas.List.Concat.{flat_map-append}
-use Rattle.rd_history.specs.Entries.{HasDigests, IsEntry}
 use Rattle.rd_history.specs.Histories.{AreLinesOf, AreNumbered, AreParts, IsHistory, IsPart, IsAsked, IsPut, IsTail, MayBeTakenBack, MayCome, changes_of}
 use Rattle.rd_history.specs.Laws.{ChangesMayCome}
 use Rattle.rd_history.specs.Lines.{line_of}
@@ -11,7 +10,7 @@ use Rattle.rd_history.specs.Stages.{Arrives, EndsSo, Follows, IsListedOrAlone, L
 use Rattle.rd_history.specs.declared.entry.TheConstants.{LAST_NUMBER}
 use Rattle.rd_history.specs.declared.entry.Cause.TheVariants.{Lost}
 use Rattle.rd_history.specs.declared.entry.Change.{Change}
-use Rattle.rd_history.specs.declared.entry.Change.TheVariants.{Begin, Deed, Image, Rule, DropRule, Key, DropKey, Void}
+use Rattle.rd_history.specs.declared.entry.Change.TheVariants.{Begin, DropRule, DropKey, Void}
 use Rattle.rd_history.specs.declared.entry.Entry.{Entry}
 use Rattle.rd_history.specs.declared.stage.Stage.{Stage}
 use Rattle.rd_history.proofs.LineEntries.{lines_are_entries}

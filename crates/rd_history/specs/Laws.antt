@@ -1,4 +1,4 @@
--- Laws of lines, and of what a list of entries tells.
+-- Laws of lines, of histories, and of what a list of entries tells.
 use Rattle.std.specs.Prelude.{◌≡◌, ℕ, List, [], ◌∷◌, ◌++◌, map}
 use Rattle.rd_history.specs.Entries.{HasDigests, IsEntry}
 use Rattle.rd_history.specs.Histories.{IsAsked, MayCome}

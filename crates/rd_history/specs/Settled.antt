@@ -1,5 +1,5 @@
 -- Whether a desk stands as a history tells.
-use Rattle.std.specs.Prelude.{◌≡◌, ◌⊎◌, ◌+◌, ℕ, List, [], ◌∷◌, ◌++◌, IsSome, None, OnOk, Option, Result, Some, length, option_map}
+use Rattle.std.specs.Prelude.{◌≡◌, ◌⊎◌, ◌+◌, ℕ, List, [], ◌∷◌, ◌++◌, IsSome, None, OnOk, Result, Some, length, option_map}
 use Rattle.std.specs.FinMap.{get}
 use Rattle.sqlite.specs.Held.{Held}
 use Rattle.sqlite.specs.Store.{Ghosts}

@@ -1,4 +1,4 @@
-//! Laws of lines and entries. No code calls them.
+//! Laws of lines, of entries and of histories. No code calls them, but whoever puts an entry calls `changes_may_come`.
 
 ghost use Rattle.rd_history.specs.Laws.{BasesForget, BasesTell, ChangesMayCome, LinesAreEntries, VoidsTakeBack};
 

@@ -1,5 +1,5 @@
 //! The history of a desk: what was changed, who asked it and when, one entry for each change; the line of
-//! each; what a list of entries tells; and a history in a file.
+//! each; what a list of entries tells; a history in a file, and whether a store stands as it tells.
 #![tactic(auto)]
 
 mod change;

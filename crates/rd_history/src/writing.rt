@@ -246,6 +246,7 @@ pub fn line(alloc: Global, entry: &Entry) -> Result<Text, NoMemory>
 {
     let value = entry_value(alloc, entry)?;
     let text = value.to_string(alloc)?;
+    // (what a `String` holds is UTF-8)
     let _utf8 = text.as_str().as_bytes();
     Ok(Text::of(text))
 }

@@ -1,4 +1,4 @@
-use Rattle.std.proofs.Common.{◌≡◌, ◌∙◌, Bool, MatchBool, None, Ok, Option, Some, ap, false, rules, subst, sym, true}
+use Rattle.std.proofs.Common.{◌≡◌, ◌∙◌, Bool, MatchBool, None, Ok, Option, Some, ap, false, subst, sym, true}
 use Rattle.rd_store.proofs.CopyLemmas.{keeps_here}
 use Rattle.rd_store.specs.Held.{Reads, desk}
 use Rattle.rd_store.specs.declared.faults.StoreFault.{StoreFault}

@@ -1,5 +1,5 @@
 use Rattle.std.proofs.Common.{◌≡◌, ap, rules}
-use Rattle.rd_holdings.specs.State.{Terms, terms_of}
+use Rattle.rd_holdings.specs.State.{Terms}
 use Rattle.rd_history.proofs.settling.same_terms.Goals as goal
 
 pub returns : goal.returns

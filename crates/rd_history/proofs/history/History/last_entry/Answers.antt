@@ -1,5 +1,4 @@
-use Rattle.std.proofs.Common.{◌≡◌, ◌∙◌, ◌-◌, ◌∷◌, [], arith, drop, length, map, subst, sym, take}
-use Rattle.rd_tables.specs.Connections.{IsOpen}
+use Rattle.std.proofs.Common.{◌≡◌, ◌∙◌, ◌-◌, [], arith, drop, length, map, subst, sym, take}
 use Rattle.rd_chain.proofs.Reading.{lines_read}
 use Rattle.rd_chain.specs.Held.{lines}
 use Rattle.rd_chain.specs.Rows.{MOST_READ}

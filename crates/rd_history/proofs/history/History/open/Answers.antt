@@ -1,7 +1,7 @@
 use Rattle.std.proofs.Common.{◌≡◌, Bool, Err, Ok, Result, subst, sym}
 use Rattle.rd_chain.specs.Held.{IsNotOpened, lines}
 use Rattle.rd_chain.specs.declared.faults.OpenFault.{OpenFault}
-use Rattle.rd_chain.specs.declared.faults.OpenFault.TheVariants.{Broken, Sql}
+use Rattle.rd_chain.specs.declared.faults.OpenFault.TheVariants.{Sql}
 use Rattle.rd_history.specs.Histories.{HoldsHistory}
 use Rattle.rd_history.proofs.Judging.{opened_then, refused_then}
 use Rattle.rd_history.proofs.StageLemmas.{so_history}
