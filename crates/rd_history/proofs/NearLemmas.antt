@@ -18,7 +18,7 @@ use Rattle.rd_history.specs.declared.entry.Entry.{Entry}
 use Rattle.rd_history.proofs.LineEntries.{lines_are_entries}
 use Rattle.rd_chain.specs.declared.read.SummedLine.{SummedLine}
 use Rattle.rd_history.specs.Stages.{Leads, START, Steps, text_of}
-use Rattle.rd_history.proofs.SoLemmas.{changed_so, same_in, so_kept, stands_after}
+use Rattle.rd_history.proofs.SoLemmas.{same_in, so_kept, stands_after, undone}
 use Rattle.rd_history.proofs.StageLemmas.{changes_come, part_alone, parts_more, path_split}
 use Rattle.rd_history.proofs.ToldLemmas.{voids_take_back}
 
@@ -118,7 +118,7 @@ module _ (desk : Desk) (entries : List Entry) (near : StandsNear desk entries) w
     stands_if_taken_back void cause is never =
         let same : standing_after (entries ++ void ∷ []) ≡ standing_after front = ap (λ es. standing_after (es ++ void ∷ [])) are ∙ ap standing_after (append_assoc front (last ∷ []) (void ∷ [])) ∙ voids_take_back front last void cause asked is in
         subst (StandsAs desk) (sym same) (elim near [
-          | inl stands ↦ absurd (never (changed_so last.change desk (standing_after front) (subst (StandsAs desk) told stands)))
+          | inl stands ↦ undone last.change desk (standing_after front) (subst (StandsAs desk) told stands) never
           | inr before ↦ before_same before
         ])
 

@@ -68,23 +68,18 @@ module _ (desk : Desk) (band : Band) (scope rank : ℕ) (rules : List RuleOf) (a
 
 -- ---- what stands, and a change that is so
 
-some_of : (found : Option ImageRow) (deposit : Deposit) → option_map deposit_of found ≡ Some deposit → IsSome found
-some_of (Some image) deposit is = refl
-some_of None deposit is = absurd cc
-
-image_kept : (desk : Desk) (now : Standing) (acc : ℕ) (deposit : Deposit) → StandsAs desk now → IsSome (get desk.images acc) → StandsAs desk (put_or_kept (get now.images acc) acc deposit now)
-image_kept desk now acc deposit stands so = go (get desk.images acc) so (stands.images acc)
-  where
-    go : (found : Option ImageRow) → IsSome found → option_map deposit_of found ≡ get now.images acc → StandsAs desk (put_or_kept (get now.images acc) acc deposit now)
-    go (Some image) some is = subst (λ f. StandsAs desk (put_or_kept f acc deposit now)) is stands
-    go None some is = absurd (true≢false (sym some))
+-- an image that stands is kept
+image_kept : (desk : Desk) (now : Standing) (acc : ℕ) (deposit standing : Deposit) → get now.images acc ≡ Some standing → StandsAs desk now → StandsAs desk (put_or_kept (get now.images acc) acc deposit now)
+image_kept desk now acc deposit standing is stands = subst (λ f. StandsAs desk (put_or_kept f acc deposit now)) (sym is) stands
 
 -- such a change leaves what stands
 pub so_kept : (change : Change) (desk : Desk) (now : Standing) → StandsAs desk now → IsSo change desk → StandsAs desk (changed change now)
 so_kept (Deed num donor signed) desk now stands so =
     let row : DeedRow = record { donor = donor; signed = signed } in
     record { deeds = stands.deeds ∙ sym (insert_kept nat_cmp number_order.total number_order.same now.deeds num row (subst (λ m. get m num ≡ Some row) stands.deeds so)); images = stands.images; rules = stands.rules; keys = stands.keys }
-so_kept (Image acc kind deed digest) desk now stands so = image_kept desk now acc (record { kind = kind; deed = deed; digest = digest }) stands so
+so_kept (Image acc kind deed digest) desk now stands so =
+    let deposit : Deposit = record { kind = kind; deed = deed; digest = digest } in
+    image_kept desk now acc deposit deposit (sym (stands.images acc) ∙ so) stands
 so_kept (Rule rule) desk now stands so = record {
   deeds = stands.deeds;
   images = stands.images;
@@ -108,23 +103,23 @@ so_kept (DropKey digest) desk now stands so = record {
 }
 so_kept other desk now stands so = stands
 
-image_so : (desk : Desk) (now : Standing) (acc : ℕ) (deposit : Deposit) (found : Option Deposit) → get now.images acc ≡ found → option_map deposit_of (get desk.images acc) ≡ get (put_or_kept found acc deposit now).images acc → IsSome (get desk.images acc)
-image_so desk now acc deposit None is stands = some_of (get desk.images acc) deposit (stands ∙ get_inserted nat_cmp number_order.total now.images acc deposit)
-image_so desk now acc deposit (Some standing) is stands = some_of (get desk.images acc) standing (stands ∙ is)
+-- what is not so was not carried out, or changed nothing
+image_undone : (desk : Desk) (now : Standing) (acc : ℕ) (deposit : Deposit) (found : Option Deposit) → get now.images acc ≡ found → StandsAs desk (put_or_kept found acc deposit now) → option_map deposit_of (get desk.images acc) ≢ Some deposit → StandsAs desk now
+image_undone desk now acc deposit None is stands never = absurd (never (stands.images acc ∙ get_inserted nat_cmp number_order.total now.images acc deposit))
+image_undone desk now acc deposit (Some standing) is stands never = stands
 
--- once it is carried out, it is so
-pub changed_so : (change : Change) (desk : Desk) (now : Standing) → StandsAs desk (changed change now) → IsSo change desk
-changed_so (Deed num donor signed) desk now stands =
+pub undone : (change : Change) (desk : Desk) (now : Standing) → StandsAs desk (changed change now) → ¬ IsSo change desk → StandsAs desk now
+undone (Deed num donor signed) desk now stands never =
     let row : DeedRow = record { donor = donor; signed = signed } in
-    subst (λ m. get m num ≡ Some row) (sym stands.deeds) (get_inserted nat_cmp number_order.total now.deeds num row)
-changed_so (Image acc kind deed digest) desk now stands = image_so desk now acc (record { kind = kind; deed = deed; digest = digest }) (get now.images acc) refl (stands.images acc)
-changed_so (Rule rule) desk now stands = subst (λ m. get m (place_of rule) ≡ Some (terms_of rule)) (sym stands.rules) (get_inserted place_cmp place_order.total now.rules (place_of rule) (terms_of rule))
-changed_so (DropRule band scope rank) desk now stands =
+    absurd (never (subst (λ m. get m num ≡ Some row) (sym stands.deeds) (get_inserted nat_cmp number_order.total now.deeds num row)))
+undone (Image acc kind deed digest) desk now stands never = image_undone desk now acc (record { kind = kind; deed = deed; digest = digest }) (get now.images acc) refl stands never
+undone (Rule rule) desk now stands never = absurd (never (subst (λ m. get m (place_of rule) ≡ Some (terms_of rule)) (sym stands.rules) (get_inserted place_cmp place_order.total now.rules (place_of rule) (terms_of rule))))
+undone (DropRule band scope rank) desk now stands never =
     let place : Place = record { band = band; scope = scope; rank = rank } in
-    subst (λ m. get m place ≡ None) (sym stands.rules) (get_removed place_cmp place_order.total now.rules place)
-changed_so (Key digest audience) desk now stands = subst (λ m. get m digest ≡ Some audience) (sym stands.keys) (get_inserted digest_cmp digest_order.total now.keys digest audience)
-changed_so (DropKey digest) desk now stands = subst (λ m. get m digest ≡ None) (sym stands.keys) (get_removed digest_cmp digest_order.total now.keys digest)
-changed_so other desk now stands = tt
+    absurd (never (subst (λ m. get m place ≡ None) (sym stands.rules) (get_removed place_cmp place_order.total now.rules place)))
+undone (Key digest audience) desk now stands never = absurd (never (subst (λ m. get m digest ≡ Some audience) (sym stands.keys) (get_inserted digest_cmp digest_order.total now.keys digest audience)))
+undone (DropKey digest) desk now stands never = absurd (never (subst (λ m. get m digest ≡ None) (sym stands.keys) (get_removed digest_cmp digest_order.total now.keys digest)))
+undone other desk now stands never = absurd (never tt)
 
 stepped : (change : Change) (at : Standing × Standing) → IsAsked change → (step change at).1 ≡ changed change at.1
 stepped (Begin count) at may = absurd may

@@ -1,5 +1,5 @@
 -- Whether a desk stands as a history tells.
-use Rattle.std.specs.Prelude.{◌≡◌, ◌⊎◌, ◌+◌, ℕ, List, [], ◌∷◌, ◌++◌, IsSome, None, OnOk, Result, Some, length, option_map}
+use Rattle.std.specs.Prelude.{◌≡◌, ◌⊎◌, ◌+◌, ℕ, List, [], ◌∷◌, ◌++◌, None, OnOk, Result, Some, length, option_map}
 use Rattle.std.specs.FinMap.{get}
 use Rattle.sqlite.specs.Held.{Held}
 use Rattle.sqlite.specs.Store.{Ghosts}
@@ -45,10 +45,11 @@ StandsNear desk entries = StandsAs desk (standing_after entries) ⊎ StandsBefor
 abbrev pub IsTold : Desk → List (List ℕ) → Type 0
 IsTold desk lines = (entries : List Entry) × AreLinesOf entries lines × StandsAs desk (standing_after entries)
 
--- what a change asks is so: what it puts stands, an image at the accession whichever it is, and what it drops does not
+-- what a change asks is so: what it puts stands, an image by its kind, its deed and its digest, and what it drops does not;
+-- a change that no request asks is so
 abbrev pub IsSo : Change → Desk → Type 0
 IsSo (Deed num donor signed) desk = get desk.deeds num ≡ Some (record { donor = donor; signed = signed })
-IsSo (Image acc kind deed digest) desk = IsSome (get desk.images acc)
+IsSo (Image acc kind deed digest) desk = option_map deposit_of (get desk.images acc) ≡ Some (record { kind = kind; deed = deed; digest = digest })
 IsSo (Rule rule) desk = get desk.rules (place_of rule) ≡ Some (terms_of rule)
 IsSo (DropRule band scope rank) desk = get desk.rules (record { band = band; scope = scope; rank = rank }) ≡ None
 IsSo (Key digest audience) desk = get desk.keys digest ≡ Some audience

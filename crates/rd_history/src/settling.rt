@@ -18,7 +18,7 @@ use rd_store::{Store, StoreFault};
 use sqlite::Alter;
 use std::alloc::Global;
 
-/// It is not known whether the last change of a history stands: a database failed, or memory ran out.
+/// It is not known that a store stands as its history tells: a database failed, memory ran out, or the history is full.
 #[derive(Clone, Copy, Debug, PartialEq, Eq)]
 pub struct Unsettled;
 
@@ -73,7 +73,17 @@ fn is_so<S: Alter>(alloc: Global, store: &mut Store<S>, change: &Change) -> Resu
             Some(deed) => Ok(deed.signed == *signed && deed.donor.as_str() == donor.as_str()),
             None => Ok(false),
         },
-        Change::Image { acc, .. } => Ok(store.accession(*acc)?.is_some()),
+        Change::Image {
+            acc,
+            kind,
+            deed,
+            digest,
+        } => match store.image(alloc, *acc)? {
+            Some(image) => Ok(
+                image.kind == *kind && image.deed == *deed && image.digest == *digest,
+            ),
+            None => Ok(false),
+        },
         Change::Rule(rule) => {
             let rules = store.rules_at(alloc, rule.band, rule.scope)?;
             match at_rank(&rules, rule.rank) {
@@ -135,9 +145,11 @@ fn take_back<H: Alter>(
 }
 
 /// Takes the last entry of a history back, as found undone, if it is a change alone that does not stand in the store. A
-/// change that was asked is never carried out here.
+/// change that was asked is never carried out here. The history must be that of the store: of another store nothing is
+/// promised, and the last entry may be taken back.
 ///
-/// It fails with `Unsettled` if the store or the history fails, or if memory runs out. Nothing has changed then.
+/// It fails with `Unsettled` if the store or the history fails, or if memory runs out. Nothing has changed then, unless a
+/// fault has shut the connection of the history.
 pub fn settle<S: Alter, H: Alter>(
     alloc: Global,
     moment: i64,

@@ -1,8 +1,10 @@
 //! Histories in memory: which lines are opened as one, and that what was put stands when it is opened again.
 
-use crate::{Cause, Change, Entry, History, changes_may_come};
+use crate::{Cause, Change, Entry, History, changes_may_come, settle};
 use rd_chain::{Chain, OpenFault, Refused};
 use rd_geometry::Text;
+use rd_policy::Band;
+use rd_store::Store;
 use sqlite::{Connection, MemStore};
 use std::alloc::{AllocError, Global};
 use std::test::Fail;
@@ -16,6 +18,8 @@ const TWO_STAND: &str = r#"{"begin":2}"#;
 const DEED: &str = r#"{"deed":{"deed":7,"donor":"A. Curator","signed":"2019-05-04"}}"#;
 
 const DROP: &str = r#"{"drop_rule":{"deed":7,"rank":10}}"#;
+
+const DIGEST: &str = "2222222222222222222222222222222222222222222222222222222222222222";
 
 const VOID: &str = r#"{"void":"conflict"}"#;
 
@@ -164,17 +168,6 @@ fn more_lines_than_a_page(rt: HostRuntime) -> Result<(), Fail> {
     Ok(())
 }
 
-fn entry_of(alloc: Global, change: Change) -> Entry {
-    Entry {
-        badge: None,
-        change,
-        moment: 0,
-        note: Text::of(String::new(alloc)),
-        number: 1,
-        staff: Text::of(String::new(alloc)),
-    }
-}
-
 /// A history that was opened again, if it has so many entries, of which the last may be taken back or not.
 fn again(
     alloc: Global,
@@ -196,16 +189,98 @@ fn what_is_put_stands_again(rt: HostRuntime) -> Result<(), Fail> {
         return Err(Fail::new("no history"));
     };
     let mut history = again(alloc, history, 0, false)?;
-    let put = history.append(alloc, entry_of(alloc, Change::DropKey { digest: [7; 32] }));
-    assert!(rt; put.is_ok());
+    let entry = Entry {
+        badge: None,
+        change: Change::DropRule {
+            band: Band::Deed,
+            scope: 7,
+            rank: 10,
+        },
+        moment: 0,
+        note: Text::of(String::new(alloc)),
+        number: 1,
+        staff: Text::of(String::new(alloc)),
+    };
+    assert!(rt; history.append(alloc, entry).is_ok());
     let mut history = again(alloc, history, 1, true)?;
     let Ok(Some(last)) = history.last_entry(alloc) else {
         return Err(Fail::new("no last entry"));
     };
-    assert!(rt; matches!(last.change, Change::DropKey { digest: [7, ..] }));
-    assert!(rt; history.ends_in_change());
-    let taken_back = history.append(alloc, entry_of(alloc, Change::Void(Cause::Lost)));
-    assert!(rt; taken_back.is_ok());
-    let _ = again(alloc, history, 2, false)?;
+    assert!(rt;
+        matches!(
+            last.change,
+            Change::DropRule {
+                scope: 7,
+                rank: 10,
+                ..
+            }
+        )
+    );
+    Ok(())
+}
+
+/// A case, the change of the last entry, and whether a store that has one key, of the staff, has it taken back.
+const LAST: [(&str, &str, bool); 5] = [
+    (
+        "a key that stands",
+        r#"{"key":{"audience":"staff","digest":"DIGEST"}}"#,
+        false,
+    ),
+    (
+        "a key of another audience",
+        r#"{"key":{"audience":"room","digest":"DIGEST"}}"#,
+        true,
+    ),
+    (
+        "a key that was not dropped",
+        r#"{"drop_key":{"digest":"DIGEST"}}"#,
+        true,
+    ),
+    ("a deed that is not there", DEED, true),
+    ("a rule that is not there is dropped", DROP, false),
+];
+
+fn new_store(alloc: Global) -> Result<Store<MemStore>, Fail> {
+    let Ok(conn) = Connection::open_in_memory(alloc) else {
+        return Err(Fail::new("no connection"));
+    };
+    match Store::create(conn, &[0x22; 32]) {
+        Ok(store) => Ok(store),
+        Err(
+            rd_store::Refused {
+                fault: _,
+                conn: _conn,
+            },
+        ) => Err(Fail::new("no store")),
+    }
+}
+
+#[test]
+fn the_last_change_is_taken_back_where_it_does_not_stand(rt: HostRuntime) -> Result<(), Fail> {
+    let (alloc, mut store) = (rt.alloc(), new_store(rt.alloc())?);
+    for (case, change, is_lost) in LAST {
+        let Ok(change) = change.replace(alloc, "DIGEST", DIGEST) else {
+            return Err(Fail::new("no change"));
+        };
+        let chain = chain_of(alloc, &[change.as_str()], 1)?;
+        let Ok(mut history) = opened(alloc, chain.into_connection()) else {
+            return Err(Fail::new(case));
+        };
+        assert!(rt;
+            settle(alloc, 5, &mut store, &mut history).is_ok(),
+            "{case}"
+        );
+        assert_eq!(rt; history.last() == 2, is_lost, "{case}");
+        let Ok(Some(last)) = history.last_entry(alloc) else {
+            return Err(Fail::new(case));
+        };
+        let is_void = matches!(last.change, Change::Void(Cause::Lost)) && last.moment == 5;
+        assert_eq!(rt; is_void, is_lost, "{case}");
+        assert!(rt;
+            settle(alloc, 6, &mut store, &mut history).is_ok(),
+            "{case}: again"
+        );
+        assert_eq!(rt; history.last() == 2, is_lost, "{case}: again");
+    }
     Ok(())
 }
