@@ -14,7 +14,7 @@ use Rattle.rd_protocol.specs.Texts.{UNAVAILABLE, reply_of}
 use Rattle.rd_protocol.specs.declared.refusal.Refusal.TheVariants.{StaffOnly}
 use Rattle.rd_protocol.specs.declared.request.Request.{Request}
 use Rattle.rd_protocol.specs.declared.request.What.{What}
-use Rattle.rd_protocol.specs.declared.request.What.TheVariants.{Images, Listing, Bytes, Catalogue, Survey, Deeds, Takedowns, Keys, Checks, Verdicts, VerdictsOf, RehearseRule, RehearseDrop}
+use Rattle.rd_protocol.specs.declared.request.What.TheVariants.{Images, Listing, Bytes, Catalogue, Survey, Deeds, Takedowns, Keys, Checks, Today, Verdicts, VerdictsOf, RehearseRule, RehearseDrop}
 use Rattle.rd_protocol.specs.declared.response.Reply.{Reply}
 use Rattle.rd_protocol.specs.declared.response.Response.{Response}
 use Rattle.rd_protocol.specs.declared.response.Response.TheVariants as response
@@ -48,6 +48,8 @@ changes_nothing old audience day file (response.Keys lines) Keys other tells = r
 changes_nothing old audience day file (response.Keys lines) what other tells = absurd tells
 changes_nothing old audience day file (response.Checks lines) Checks other tells = refl
 changes_nothing old audience day file (response.Checks lines) what other tells = absurd tells
+changes_nothing old audience day file (response.Today told) Today other tells = refl
+changes_nothing old audience day file (response.Today told) what other tells = absurd tells
 changes_nothing old audience day file (response.Verdicts all) (Verdicts on) other tells = refl
 changes_nothing old audience day file (response.Verdicts all) (VerdictsOf on acc) other tells = refl
 changes_nothing old audience day file (response.Verdicts all) what other tells = absurd tells

@@ -51,6 +51,7 @@ pub(crate) fn answer<S: Alter>(
         What::Takedowns => takedowns(store, alloc),
         What::Keys => keys(store, alloc),
         What::Checks => checks(store, alloc),
+        What::Today => Ok(Response::Today(caller.day)),
         What::Verdicts(day) => verdicts(store, alloc, *day),
         What::VerdictsOf(day, acc) => verdicts_of_one(store, alloc, *day, *acc),
         What::RehearseRule(day, rule) => rehearse_rule(store, alloc, *day, rule),

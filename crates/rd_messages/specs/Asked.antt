@@ -41,6 +41,7 @@ asked_by_path enquiry.Deeds values = what.Deeds
 asked_by_path enquiry.Takedowns values = what.Takedowns
 asked_by_path enquiry.Keys values = what.Keys
 asked_by_path enquiry.Checks values = what.Checks
+asked_by_path enquiry.Today values = what.Today
 asked_by_path enquiry.Verdicts values = what.Verdicts values.day
 asked_by_path enquiry.VerdictsOf values = what.VerdictsOf values.day values.acc
 

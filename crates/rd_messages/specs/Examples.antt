@@ -14,7 +14,7 @@ use Rattle.rd_messages.specs.PathDays.{day_found, day_of_date}
 use Rattle.rd_messages.specs.PathValues.{◌>>=◌, values_in}
 use Rattle.rd_messages.specs.Routes.{matched, route_of}
 use Rattle.rd_messages.specs.Table.{all_insert, requests, router_rows}
-use Rattle.rd_messages.specs.declared.enquiry.Enquiry.TheVariants.{Bytes, Survey, Check, Catalogue, Deeds, Takedowns, Keys, Checks, Verdicts, VerdictsOf}
+use Rattle.rd_messages.specs.declared.enquiry.Enquiry.TheVariants.{Bytes, Survey, Check, Catalogue, Deeds, Takedowns, Keys, Checks, Today, Verdicts, VerdictsOf}
 use Rattle.rd_messages.specs.declared.method.Method.TheVariants as method
 use Rattle.rd_messages.specs.declared.method.Methods.{Methods}
 use Rattle.rd_messages.specs.declared.method.Methods.TheVariants.{Get, Post, Put, PutOrDelete}
@@ -69,9 +69,9 @@ pub enquiries_routed : map route_of (codes "/images/12/survey" ∷ codes "/image
 unfolding matched router_rows matchit_on_literals
 enquiries_routed = refl
 
--- the deeds, the takedowns, the desk keys and the checks
-pub lists_routed : map route_of (codes "/staff/deeds" ∷ codes "/staff/takedowns" ∷ codes "/staff/keys" ∷ codes "/staff/checks" ∷ [])
-    ≡ map (λ enquiry. named Get (ByPath enquiry) no_values) (Deeds ∷ Takedowns ∷ Keys ∷ Checks ∷ [])
+-- the deeds, the takedowns, the desk keys, the checks and the day
+pub lists_routed : map route_of (codes "/staff/deeds" ∷ codes "/staff/takedowns" ∷ codes "/staff/keys" ∷ codes "/staff/checks" ∷ codes "/staff/today" ∷ [])
+    ≡ map (λ enquiry. named Get (ByPath enquiry) no_values) (Deeds ∷ Takedowns ∷ Keys ∷ Checks ∷ Today ∷ [])
 unfolding matched router_rows matchit_on_literals
 lists_routed = refl
 

@@ -8,7 +8,7 @@ use Rattle.matchit.specs.declared.error.InsertError.{InsertError}
 use Rattle.rd_policy.specs.declared.rule.Band.TheVariants as band
 use Rattle.rd_messages.specs.declared.method.Methods.{Methods}
 use Rattle.rd_messages.specs.declared.method.Methods.TheVariants.{Get, Post, Put, PutOrDelete}
-use Rattle.rd_messages.specs.declared.enquiry.Enquiry.TheVariants.{Images, Listing, Bytes, Survey, Check, Catalogue, Deeds, Takedowns, Keys, Checks, Verdicts, VerdictsOf}
+use Rattle.rd_messages.specs.declared.enquiry.Enquiry.TheVariants.{Images, Listing, Bytes, Survey, Check, Catalogue, Deeds, Takedowns, Keys, Checks, Today, Verdicts, VerdictsOf}
 use Rattle.rd_messages.specs.declared.table.Served.{Served}
 use Rattle.rd_messages.specs.declared.table.Subject.{Subject}
 use Rattle.rd_messages.specs.declared.table.Subject.TheVariants.{ByPath, Image, Deed, Rule, Badge, Rehearsal}
@@ -32,6 +32,7 @@ requests =
     ∷ (codes "/staff/takedowns", Get, ByPath Takedowns)
     ∷ (codes "/staff/keys", Get, ByPath Keys)
     ∷ (codes "/staff/checks", Get, ByPath Checks)
+    ∷ (codes "/staff/today", Get, ByPath Today)
     ∷ (codes "/staff/verdicts/{date}", Get, ByPath Verdicts)
     ∷ (codes "/staff/verdicts/{date}/{acc}", Get, ByPath VerdictsOf)
     ∷ (codes "/staff/rehearsals/{date}/deeds/{deed}/rules/{rank}", PutOrDelete, Rehearsal band.Deed)

@@ -18,6 +18,7 @@ pub(crate) enum Enquiry {
     Takedowns,
     Keys,
     Checks,
+    Today,
     Verdicts,
     VerdictsOf,
 }
@@ -40,6 +41,7 @@ impl Enquiry {
             Enquiry::Takedowns => What::Takedowns,
             Enquiry::Keys => What::Keys,
             Enquiry::Checks => What::Checks,
+            Enquiry::Today => What::Today,
             Enquiry::Verdicts => What::Verdicts(values.day),
             Enquiry::VerdictsOf => What::VerdictsOf(values.day, values.acc),
         }

@@ -41,7 +41,7 @@ pub(crate) struct Served {
 
 /// Each row: its paths, where a name in braces stands for a part that writes the value of this
 /// name, the methods, and what they are about.
-const TABLE: [(&str, Methods, Subject); 19] = [
+const TABLE: [(&str, Methods, Subject); 20] = [
     ("/images", Get, ByPath(Images)),
     ("/images/{acc}", Get, ByPath(Listing)),
     ("/images/{acc}/files/{slot}", Get, ByPath(Bytes)),
@@ -61,6 +61,7 @@ const TABLE: [(&str, Methods, Subject); 19] = [
     ("/staff/takedowns", Get, ByPath(Takedowns)),
     ("/staff/keys", Get, ByPath(Keys)),
     ("/staff/checks", Get, ByPath(Checks)),
+    ("/staff/today", Get, ByPath(Today)),
     ("/staff/verdicts/{date}", Get, ByPath(Verdicts)),
     ("/staff/verdicts/{date}/{acc}", Get, ByPath(VerdictsOf)),
     (

@@ -15,7 +15,7 @@ use Rattle.rd_protocol.specs.Requests.{IsForStaff}
 use Rattle.rd_protocol.specs.declared.refusal.Refusal.TheVariants.{DigestDiffers}
 use Rattle.rd_protocol.specs.declared.request.Request.{Request}
 use Rattle.rd_protocol.specs.declared.request.What.{What}
-use Rattle.rd_protocol.specs.declared.request.What.TheVariants.{Survey, Check, Deeds, Takedowns, Keys, Checks, Verdicts, VerdictsOf, RehearseRule, RehearseDrop, PutImage, PutDeed, PutRule, DropRule, PutKey, DropKey, Unread}
+use Rattle.rd_protocol.specs.declared.request.What.TheVariants.{Survey, Check, Deeds, Takedowns, Keys, Checks, Today, Verdicts, VerdictsOf, RehearseRule, RehearseDrop, PutImage, PutDeed, PutRule, DropRule, PutKey, DropKey, Unread}
 use Rattle.rd_protocol.proofs.StaffRefusals.{command_accepted, has_accession, has_deed, not_none}
 use Rattle.rd_holdings.proofs.Maps.{get_inserted, get_removed, remove_kept}
 
@@ -78,6 +78,7 @@ module _ (day : ℤ) (desk : Desk) (badge : Option (List ℕ)) (staff : audience
   left_what Takedowns command read same_digest left = inl refl
   left_what Keys command read same_digest left = inl refl
   left_what Checks command read same_digest left = inl refl
+  left_what Today command read same_digest left = inl refl
   left_what (Verdicts on) command read same_digest left = inl refl
   left_what (VerdictsOf on acc) command read same_digest left = inl refl
   left_what (RehearseRule on rule) command read same_digest left = inl refl

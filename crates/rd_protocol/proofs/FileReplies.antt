@@ -22,7 +22,7 @@ use Rattle.rd_protocol.specs.declared.request.Request.{Request}
 use Rattle.rd_protocol.specs.declared.request.What.{What}
 use Rattle.rd_protocol.specs.declared.request.What.TheVariants.{Bytes, Catalogue, Images, Unread}
 use Rattle.rd_protocol.specs.declared.response.Response.{Response}
-use Rattle.rd_protocol.specs.declared.response.Response.TheVariants.{Refused, Done, Images as Told, Listed, File, Catalogue as Catalogued, Surveyed, Checked, Deeds, Takedowns, Keys, Checks, Verdicts, Rehearsed}
+use Rattle.rd_protocol.specs.declared.response.Response.TheVariants.{Refused, Done, Images as Told, Listed, File, Catalogue as Catalogued, Surveyed, Checked, Deeds, Takedowns, Keys, Checks, Today, Verdicts, Rehearsed}
 use Rattle.rd_protocol.proofs.RefusalOrder.{to_6, to_7, to_8, to_9, to_10, to_11, to_12, to_13, to_14, to_15, to_16, accepted}
 
 pub if_ok : {T X : Type 0} → (r : Result T X) → (P Q : T → Type 0) → ((value : T) → P value → Q value) → IfOk r P → IfOk r Q
@@ -199,6 +199,7 @@ module _ (desk : Desk) (day : ℤ) (badge : Option (List ℕ)) (audience : Audie
   read_answered (Takedowns lines) none = absurd none
   read_answered (Keys lines) none = absurd none
   read_answered (Checks lines) none = absurd none
+  read_answered (Today told) none = absurd none
   read_answered (Verdicts all) none = absurd none
   read_answered (Rehearsed differences) none = absurd none
 

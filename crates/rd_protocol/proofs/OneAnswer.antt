@@ -30,7 +30,7 @@ use Rattle.rd_protocol.specs.declared.refusal.Refusal.{Refusal}
 use Rattle.rd_protocol.specs.declared.refusal.Refusal.TheVariants.{UnknownKey, StaffOnly, BadBody, NoAccession, NoFile, NoDeed, Denied, ListedOnly, Faulty, WrongSize, DigestDiffers, Conflict}
 use Rattle.rd_protocol.specs.declared.request.Request.{Request}
 use Rattle.rd_protocol.specs.declared.request.What.{What}
-use Rattle.rd_protocol.specs.declared.request.What.TheVariants.{Images, Listing, Bytes, Catalogue, Survey, Check, Deeds, Takedowns, Keys, Checks, Verdicts, VerdictsOf, RehearseRule, RehearseDrop, PutRule, DropRule}
+use Rattle.rd_protocol.specs.declared.request.What.TheVariants.{Images, Listing, Bytes, Catalogue, Survey, Check, Deeds, Takedowns, Keys, Checks, Today, Verdicts, VerdictsOf, RehearseRule, RehearseDrop, PutRule, DropRule}
 use Rattle.rd_protocol.specs.declared.response.ImageLine.{ImageLine}
 use Rattle.rd_protocol.specs.declared.response.Line.{Line}
 use Rattle.rd_protocol.specs.declared.response.Listing.{Listing as Lines}
@@ -39,7 +39,7 @@ use Rattle.rd_protocol.specs.declared.response.Response.TheVariants as response
 use Rattle.rd_protocol.proofs.AscendingLists.{one_list}
 use Rattle.rd_protocol.proofs.OneReport.{one_survey}
 use Rattle.rd_protocol.proofs.VerdictLemmas.{one_each, one_rehearsal, one_verdicts}
-use Rattle.rd_protocol.proofs.ReplyBodies.{told_bytes, told_catalogue, told_check, told_checks, told_deeds, told_done, told_images, told_keys, told_takedowns, told_verdicts, told_verdicts_of, rehearsed_rule, rehearsed_drop, told_listing, told_survey}
+use Rattle.rd_protocol.proofs.ReplyBodies.{told_bytes, told_catalogue, told_check, told_checks, told_deeds, told_done, told_images, told_keys, told_takedowns, told_today, told_verdicts, told_verdicts_of, rehearsed_rule, rehearsed_drop, told_listing, told_survey}
 
 -- ---- the file that is asked for
 
@@ -218,6 +218,7 @@ module _ (desk : Desk) (day : ℤ) (badge : Option (List ℕ)) where
     one_told Takedowns asked accepted first second = told_takedowns desk audience day file one first ∙ sym (told_takedowns desk audience day file other second)
     one_told Keys asked accepted first second = told_keys desk audience day file one first ∙ sym (told_keys desk audience day file other second)
     one_told Checks asked accepted first second = told_checks desk audience day file one first ∙ sym (told_checks desk audience day file other second)
+    one_told Today asked accepted first second = told_today desk audience day file one first ∙ sym (told_today desk audience day file other second)
     one_told (Verdicts on) asked accepted first second =
         let a = told_verdicts desk audience day file on one first in
         let b = told_verdicts desk audience day file on other second in

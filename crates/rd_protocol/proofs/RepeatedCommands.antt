@@ -13,7 +13,7 @@ use Rattle.rd_protocol.specs.Requests.{IsForStaff}
 use Rattle.rd_protocol.specs.declared.refusal.Refusal.TheVariants.{UnknownKey, StaffOnly, BadBody, NoAccession, NoFile, NoDeed, WrongSize, DigestDiffers, Conflict}
 use Rattle.rd_protocol.specs.declared.request.Request.{Request}
 use Rattle.rd_protocol.specs.declared.request.What.{What}
-use Rattle.rd_protocol.specs.declared.request.What.TheVariants.{Images, Listing, Bytes, Catalogue, Survey, Check, Deeds, Takedowns, Keys, Checks, Verdicts, VerdictsOf, RehearseRule, RehearseDrop, PutImage, PutDeed, PutRule, DropRule, PutKey, DropKey}
+use Rattle.rd_protocol.specs.declared.request.What.TheVariants.{Images, Listing, Bytes, Catalogue, Survey, Check, Deeds, Takedowns, Keys, Checks, Today, Verdicts, VerdictsOf, RehearseRule, RehearseDrop, PutImage, PutDeed, PutRule, DropRule, PutKey, DropKey}
 use Rattle.rd_protocol.specs.declared.response.Response.{Response}
 use Rattle.rd_protocol.specs.declared.response.Response.TheVariants as response
 use Rattle.rd_protocol.proofs.StaffRefusals.{no_file}
@@ -109,6 +109,8 @@ module _ (day : ℤ) where
   told_again desk audience file Keys other command described = absurd described
   told_again desk audience file Checks (response.Checks lines) command described = described
   told_again desk audience file Checks other command described = absurd described
+  told_again desk audience file Today (response.Today told) command described = described
+  told_again desk audience file Today other command described = absurd described
   told_again desk audience file (Verdicts on) (response.Verdicts all) command described = described
   told_again desk audience file (Verdicts on) other command described = absurd described
   told_again desk audience file (VerdictsOf on acc) (response.Verdicts all) command described = described

@@ -18,7 +18,7 @@ use Rattle.rd_protocol.specs.declared.response.Difference.{Difference}
 use Rattle.rd_protocol.specs.declared.response.Verdicts.{Verdicts as Each}
 use Rattle.rd_protocol.specs.StaffLists.{check_lines, deed_lines, key_lines, takedown_lines}
 use Rattle.rd_protocol.specs.declared.request.What.{What}
-use Rattle.rd_protocol.specs.declared.request.What.TheVariants.{Images, Listing, Bytes, Catalogue, Survey, Check, Deeds, Takedowns, Keys, Checks, Verdicts, VerdictsOf, RehearseRule, RehearseDrop, PutRule, DropRule}
+use Rattle.rd_protocol.specs.declared.request.What.TheVariants.{Images, Listing, Bytes, Catalogue, Survey, Check, Deeds, Takedowns, Keys, Checks, Today, Verdicts, VerdictsOf, RehearseRule, RehearseDrop, PutRule, DropRule}
 use Rattle.rd_protocol.specs.declared.response.ImageLine.{ImageLine}
 use Rattle.rd_protocol.specs.declared.response.Listing.{Listing as Lines}
 use Rattle.rd_protocol.specs.declared.response.Response.{Response}
@@ -41,6 +41,7 @@ module _ (desk : Desk) (audience : Audience) (day : ℤ) (file : Option JudgedFi
   told_done (response.Takedowns lines) Takedowns command described = absurd command
   told_done (response.Keys lines) Keys command described = absurd command
   told_done (response.Checks lines) Checks command described = absurd command
+  told_done (response.Today told) Today command described = absurd command
   told_done (response.Verdicts all) (Verdicts on) command described = absurd command
   told_done (response.Verdicts all) (VerdictsOf on acc) command described = absurd command
   told_done (response.Rehearsed differences) (RehearseRule on rule) command described = absurd command
@@ -88,6 +89,10 @@ module _ (desk : Desk) (audience : Audience) (day : ℤ) (file : Option JudgedFi
   pub told_checks : (answer : Response) → Told answer Checks → answer ≡ response.Checks (check_lines desk)
   told_checks (response.Checks lines) described = ap response.Checks described
   told_checks other described = absurd described
+
+  pub told_today : (answer : Response) → Told answer Today → answer ≡ response.Today day
+  told_today (response.Today told) described = ap response.Today described
+  told_today other described = absurd described
 
   pub told_verdicts : (on : ℤ) (answer : Response) → Told answer (Verdicts on) → (all : List Each) × (answer ≡ response.Verdicts all) × AreVerdicts desk on all
   told_verdicts on (response.Verdicts all) described = (all, refl, described)

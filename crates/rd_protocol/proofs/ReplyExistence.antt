@@ -42,7 +42,7 @@ use Rattle.rd_protocol.specs.declared.refusal.Refusal.{Refusal}
 use Rattle.rd_protocol.specs.declared.refusal.Refusal.TheVariants.{UnknownKey, StaffOnly, BadBody, NoAccession, NoFile, NoDeed, Denied, ListedOnly, Faulty, WrongSize, DigestDiffers, Conflict}
 use Rattle.rd_protocol.specs.declared.request.Request.{Request}
 use Rattle.rd_protocol.specs.declared.request.What.{What}
-use Rattle.rd_protocol.specs.declared.request.What.TheVariants.{Images, Listing, Bytes, Catalogue, Survey, Check, Deeds, Takedowns, Keys, Checks, Verdicts, VerdictsOf, RehearseRule, RehearseDrop, PutImage, PutRule, DropRule, PutKey, DropKey, Unread}
+use Rattle.rd_protocol.specs.declared.request.What.TheVariants.{Images, Listing, Bytes, Catalogue, Survey, Check, Deeds, Takedowns, Keys, Checks, Today, Verdicts, VerdictsOf, RehearseRule, RehearseDrop, PutImage, PutRule, DropRule, PutKey, DropKey, Unread}
 use Rattle.rd_protocol.specs.declared.response.ImageLine.{ImageLine}
 use Rattle.rd_protocol.specs.declared.response.Line.{Line}
 use Rattle.rd_protocol.specs.declared.response.Listing.{Listing as Lines}
@@ -461,6 +461,7 @@ module _ (desk : Desk) (bytes : HoldsBytes desk) (audience : Audience) (day : â„
       told_to Takedowns asked accepted caller = (response.Takedowns (takedown_lines desk), refl)
       told_to Keys asked accepted caller = (response.Keys (key_lines desk), refl)
       told_to Checks asked accepted caller = (response.Checks (check_lines desk), refl)
+      told_to Today asked accepted caller = (response.Today day, refl)
       told_to (Verdicts on) asked accepted caller = let all = verdicts_said desk on bytes in (response.Verdicts all.0, all.1)
       told_to (VerdictsOf on acc) asked accepted caller =
           let image = standing_at (VerdictsOf on acc) acc refl accepted in

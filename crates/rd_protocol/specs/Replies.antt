@@ -22,7 +22,7 @@ use Rattle.rd_protocol.specs.Verdicts.{AreVerdicts, AreVerdictsOf}
 use Rattle.rd_protocol.specs.declared.refusal.Refusal.{Refusal}
 use Rattle.rd_protocol.specs.declared.request.Request.{Request}
 use Rattle.rd_protocol.specs.declared.request.What.{What}
-use Rattle.rd_protocol.specs.declared.request.What.TheVariants.{Images, Listing, Bytes, Catalogue, Survey, Check, Deeds, Takedowns, Keys, Checks, Verdicts, VerdictsOf, RehearseRule, RehearseDrop, PutImage, PutDeed, PutRule, DropRule, PutKey, DropKey}
+use Rattle.rd_protocol.specs.declared.request.What.TheVariants.{Images, Listing, Bytes, Catalogue, Survey, Check, Deeds, Takedowns, Keys, Checks, Today, Verdicts, VerdictsOf, RehearseRule, RehearseDrop, PutImage, PutDeed, PutRule, DropRule, PutKey, DropKey}
 use Rattle.rd_protocol.specs.declared.response.ImageLine.{ImageLine}
 use Rattle.rd_protocol.specs.declared.response.Line.{Line}
 use Rattle.rd_protocol.specs.declared.response.Listing.{Listing as Lines}
@@ -150,6 +150,7 @@ Tells desk audience day file (response.Deeds lines) Deeds = lines ≡ deed_lines
 Tells desk audience day file (response.Takedowns lines) Takedowns = lines ≡ takedown_lines desk
 Tells desk audience day file (response.Keys lines) Keys = lines ≡ key_lines desk
 Tells desk audience day file (response.Checks lines) Checks = lines ≡ check_lines desk
+Tells desk audience day file (response.Today told) Today = told ≡ day
 Tells desk audience day file (response.Verdicts verdicts) (Verdicts on) = AreVerdicts desk on verdicts
 Tells desk audience day file (response.Verdicts verdicts) (VerdictsOf on acc) = AreVerdictsOf desk on (acc ∷ []) verdicts
 Tells desk audience day file (response.Rehearsed differences) (RehearseRule on rule) = IsRehearsal desk (carried_out day (PutRule rule) desk) on differences

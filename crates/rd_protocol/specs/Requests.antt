@@ -7,7 +7,7 @@ use Rattle.rd_policy.specs.Rules.{IsScope, IsRank, IsRule}
 use Rattle.rd_policy.specs.declared.audience.Audience.TheVariants.{Public}
 use Rattle.rd_holdings.specs.Lawful.{IsDeed}
 use Rattle.rd_protocol.specs.declared.request.What.{What}
-use Rattle.rd_protocol.specs.declared.request.What.TheVariants.{Images, Listing, Bytes, Catalogue, Survey, Check, Deeds, Takedowns, Keys, Checks, Verdicts, VerdictsOf, RehearseRule, RehearseDrop, PutImage, PutDeed, PutRule, DropRule, PutKey, DropKey, Unread}
+use Rattle.rd_protocol.specs.declared.request.What.TheVariants.{Images, Listing, Bytes, Catalogue, Survey, Check, Deeds, Takedowns, Keys, Checks, Today, Verdicts, VerdictsOf, RehearseRule, RehearseDrop, PutImage, PutDeed, PutRule, DropRule, PutKey, DropKey, Unread}
 
 -- each value is within its limits; a digest and the bytes of an image may be any
 abbrev pub IsRequest : What → Type 0
@@ -21,6 +21,7 @@ IsRequest Deeds = Unit {0}
 IsRequest Takedowns = Unit {0}
 IsRequest Keys = Unit {0}
 IsRequest Checks = Unit {0}
+IsRequest Today = Unit {0}
 IsRequest (Verdicts on) = IsDay on
 IsRequest (VerdictsOf on acc) = IsDay on × IsScope acc
 IsRequest (RehearseRule on rule) = IsDay on × IsRule rule

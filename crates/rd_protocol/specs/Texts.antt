@@ -37,7 +37,7 @@ use Rattle.rd_protocol.specs.declared.response.Line.{Line}
 use Rattle.rd_protocol.specs.declared.response.Listing.{Listing}
 use Rattle.rd_protocol.specs.declared.response.Reply.{Reply}
 use Rattle.rd_protocol.specs.declared.response.Response.{Response}
-use Rattle.rd_protocol.specs.declared.response.Response.TheVariants.{Refused, Done, Images, Listed, File, Catalogue, Surveyed, Checked, Deeds, Takedowns, Keys, Checks, Verdicts, Rehearsed}
+use Rattle.rd_protocol.specs.declared.response.Response.TheVariants.{Refused, Done, Images, Listed, File, Catalogue, Surveyed, Checked, Deeds, Takedowns, Keys, Checks, Today, Verdicts, Rehearsed}
 use Rattle.rd_protocol.specs.declared.response.Survey.{Survey}
 
 -- ---- values
@@ -239,6 +239,10 @@ check_data line =
     (member (codes "day") (day_or_null (option_map (λ last. last.day) line.last))
     (member (codes "outcome") (text_or_null (option_map (λ last. outcome_word last.outcome) line.last)) no_members)))
 
+-- a day, by its date
+abbrev pub day_data : ℤ → Data
+day_data day = one_member (codes "day") (string (day_text day))
+
 -- an object whose one member is a list
 abbrev pub list_data : {A : Type 0} → List ℕ → (A → Data) → List A → Data
 list_data key value lines = one_member key (array (items_of (map value lines)))
@@ -267,6 +271,7 @@ reply_of (Deeds lines) = in_json 200 (list_data (codes "deeds") deed_data lines)
 reply_of (Takedowns lines) = in_json 200 (list_data (codes "takedowns") takedown_data lines)
 reply_of (Keys lines) = in_json 200 (list_data (codes "keys") key_data lines)
 reply_of (Checks lines) = in_json 200 (list_data (codes "checks") check_data lines)
+reply_of (Today day) = in_json 200 (day_data day)
 reply_of (Verdicts verdicts) = record { status = 200; form = Csv; body = held (verdicts_text verdicts) }
 reply_of (Rehearsed differences) = record { status = 200; form = Csv; body = held (differences_text differences) }
 

@@ -7,7 +7,7 @@ ghost use Rattle.serde_json.specs.Written.{has_float};
 ghost use Rattle.rd_volume.specs.Words.{words_of};
 ghost use Rattle.rd_protocol.specs.Lent.{held};
 ghost use Rattle.rd_protocol.specs.Refusals.{name_of};
-ghost use Rattle.rd_protocol.specs.Texts.{DONE, UNAVAILABLE, counts_data, detail_of, error_data, in_json, map_data, outcome_data, reply_of, rule_member, survey_data, surveyed_data, texts};
+ghost use Rattle.rd_protocol.specs.Texts.{DONE, UNAVAILABLE, counts_data, day_data, detail_of, error_data, in_json, map_data, outcome_data, reply_of, rule_member, survey_data, surveyed_data, texts};
 
 use crate::body::Body;
 use crate::catalogue::table;
@@ -15,7 +15,7 @@ use crate::listings::listing_reply;
 use crate::lists::images_reply;
 use crate::refusal::Refusal;
 use crate::response::{Form, Reply, Response, Survey};
-use crate::staff_lists::list_reply;
+use crate::staff_lists::{date, list_reply};
 use crate::verdicts::{differences_table, verdicts_table};
 use rd_geometry::{Kind, NoMemory, Text};
 use rd_holdings::Outcome;
@@ -131,6 +131,12 @@ fn surveyed_value(alloc: Global, survey: &Survey) -> Result<Value, AllocError>
     survey_value(alloc, survey.kind.word(), directory, map, survey)
 }
 
+fn day_value(alloc: Global, day: i32) -> Result<Value, AllocError>
+    ensures { IfOk result (λ value. view value ≡ day_data day) }
+{
+    json!(in alloc; {"day": date(alloc, day)?.as_str()})
+}
+
 fn json_reply(alloc: Global, status: u16, value: &Value) -> Result<Reply, NoMemory>
     requires { has_float (view value.now) ≡ false }
     ensures { IfOk result (λ reply. reply ≡ in_json status (view value.now)) }
@@ -219,6 +225,7 @@ pub fn reply_to(alloc: Global, answer: Response) -> Result<Reply, NoMemory>
         Response::Takedowns(lines) => list_reply(alloc, "takedowns", lines.as_slice()),
         Response::Keys(lines) => list_reply(alloc, "keys", lines.as_slice()),
         Response::Checks(lines) => list_reply(alloc, "checks", lines.as_slice()),
+        Response::Today(day) => json_reply(alloc, 200, &day_value(alloc, day)?),
         Response::Verdicts(verdicts) => Ok(Reply {
             status: 200,
             form: Form::Csv,

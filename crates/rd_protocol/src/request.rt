@@ -39,6 +39,8 @@ pub enum What {
     Keys,
     /// All accessions, each with what its latest check found.
     Checks,
+    /// Which day it is by the desk's clock.
+    Today,
     /// The verdicts on each file for each audience on a day of the years 1 to 9999, counted from 1970-01-01.
     Verdicts(i32),
     /// The verdicts on each file of one accession, 1 to 999,999, on a day, counted as for `Verdicts`.
@@ -135,6 +137,7 @@ impl Request {
             | What::Takedowns
             | What::Keys
             | What::Checks
+            | What::Today
             | What::DropKey { .. }
             | What::Unread => true,
             What::Listing(acc) | What::Survey(acc) | What::Check(acc) => is_scope(*acc),

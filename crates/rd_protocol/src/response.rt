@@ -55,6 +55,8 @@ pub enum Response {
     Keys(Items<KeyLine>),
     /// All accessions by ascending number, each with its latest check.
     Checks(Items<CheckLine>),
+    /// The day of the request, of the years 1 to 9999, counted from 1970-01-01.
+    Today(i32),
     /// All accessions by ascending number, each with the verdicts on its files.
     Verdicts(Items<Verdicts>),
     /// The files whose effect for an audience would be another, by accession, slot and audience.

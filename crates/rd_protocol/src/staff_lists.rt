@@ -31,7 +31,7 @@ pub(crate) trait ListItem {
 }
 
 /// The date of a day. It fails also where the day has none.
-fn date(alloc: Global, day: i32) -> Result<Text, NoMemory>
+pub(crate) fn date(alloc: Global, day: i32) -> Result<Text, NoMemory>
     ensures { IfOk result (λ text. text ≡ day_text day) }
 {
     if !is_day(day) {

@@ -226,6 +226,10 @@ module _ (desk other : Desk) (like : IsDescribedLike desk other) (day : ℤ) whe
   same_checks (response.Checks lines) is = is ∙ checks_same desk other like
   same_checks answer is = absurd is
 
+  same_today : (answer : Response) → Same question.Today answer
+  same_today (response.Today told) is = is
+  same_today answer is = absurd is
+
   same_verdicts : (on : ℤ) (answer : Response) → Same (question.Verdicts on) answer
   same_verdicts on (response.Verdicts verdicts) is = verdicts_same desk other like on verdicts is
   same_verdicts on answer is = absurd is
@@ -251,6 +255,7 @@ module _ (desk other : Desk) (like : IsDescribedLike desk other) (day : ℤ) whe
   same_answer question.Takedowns asked answer = same_takedowns answer
   same_answer question.Keys asked answer = same_keys answer
   same_answer question.Checks asked answer = same_checks answer
+  same_answer question.Today asked answer = same_today answer
   same_answer (question.Verdicts on) asked answer = same_verdicts on answer
   same_answer (question.VerdictsOf on acc) asked answer = same_verdicts_of on acc answer
   same_answer (question.RehearseRule on rule) asked answer = same_rehearsed_rule on rule answer

@@ -9,7 +9,7 @@ use Rattle.rd_volume.specs.declared.found.Found.{Found}
 use Rattle.rd_protocol.specs.Replies.{Tells}
 use Rattle.rd_holdings.specs.State.{Desk}
 use Rattle.rd_protocol.specs.declared.request.What.{What}
-use Rattle.rd_protocol.specs.declared.request.What.TheVariants.{Checks, Deeds, Keys, RehearseDrop, RehearseRule, Takedowns, Verdicts, VerdictsOf}
+use Rattle.rd_protocol.specs.declared.request.What.TheVariants.{Checks, Deeds, Keys, RehearseDrop, RehearseRule, Takedowns, Today, Verdicts, VerdictsOf}
 use Rattle.rd_protocol.specs.declared.response.Response.{Response}
 use Rattle.rd_holdings.specs.declared.rows.ImageRow.{ImageRow}
 
@@ -43,12 +43,13 @@ pub record IsDescribedLike (desk other : Desk) : Type 0 where
 
 -- ---- what is said to the staff
 
--- a question of the staff for deeds, takedowns, keys, checks or verdicts, or a rehearsal
+-- a question of the staff for deeds, takedowns, keys, checks, the day or verdicts, or a rehearsal
 abbrev pub IsStaffQuestion : What → Type 0
 IsStaffQuestion Deeds = Unit {0}
 IsStaffQuestion Takedowns = Unit {0}
 IsStaffQuestion Keys = Unit {0}
 IsStaffQuestion Checks = Unit {0}
+IsStaffQuestion Today = Unit {0}
 IsStaffQuestion (Verdicts on) = Unit {0}
 IsStaffQuestion (VerdictsOf on acc) = Unit {0}
 IsStaffQuestion (RehearseRule on rule) = Unit {0}

@@ -97,6 +97,14 @@ impl Rulebook {
         self.rules.as_slice()
     }
 
+    /// All rules, in the same order.
+    pub fn into_rules(self) -> Vec<Rule>
+        ensures { result.items ≡ self }
+    {
+        let Rulebook { rules } = self;
+        rules
+    }
+
     /// The rules for the files of an accession under a deed: the takedowns of the accession, and the rules of the deed,
     /// each by rank. Takedowns decide before the rules of a deed.
     pub fn under(&self, acc: u32, deed: u32) -> (&[Rule], &[Rule])
