@@ -19,7 +19,7 @@ use Rattle.rd_protocol.specs.declared.response.TakedownLine.{TakedownLine}
 use Rattle.rd_holdings.specs.declared.rows.DeedRow.{DeedRow}
 use Rattle.rd_protocol.specs.Judged.{IsAccepted}
 use Rattle.rd_protocol.specs.declared.request.What.{What}
-use Rattle.rd_protocol.specs.declared.request.What.TheVariants.{Deeds, Keys}
+use Rattle.rd_protocol.specs.declared.request.What.TheVariants.{Deeds, Keys, Today}
 use Rattle.rd_protocol.specs.declared.response.Response.{Response}
 use Rattle.rd_holdings.specs.declared.rows.Accession.{Accession}
 use Rattle.rd_holdings.specs.declared.rows.ImageRow.{ImageRow}
@@ -43,6 +43,9 @@ keys_accepted d badge known = command_accepted d (record { badge = badge; what =
 
 pub deeds_accepted : (d : Desk) → ForEachCaller d Staff Deeds (λ request. IsAccepted d request None)
 deeds_accepted d badge known = command_accepted d (record { badge = badge; what = Deeds }) tt (λ e. cc) known (λ h. h) (λ h. h) (λ h. h) (λ h. h) (λ h. h)
+
+pub today_accepted : (d : Desk) → ForEachCaller d Staff Today (λ request. IsAccepted d request None)
+today_accepted d badge known = command_accepted d (record { badge = badge; what = Today }) tt (λ e. cc) known (λ h. h) (λ h. h) (λ h. h) (λ h. h) (λ h. h)
 
 pass_alike : (num : ℕ) (es : List (ℕ × ImageRow)) → length (filter (λ (e : ℕ × Accession). e.1.deed == num) (map registered es)) ≡ length (filter (λ (e : ℕ × ImageRow). e.1.deed == num) es)
 pass_alike num [] = refl

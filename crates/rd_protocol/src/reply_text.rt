@@ -131,10 +131,11 @@ fn surveyed_value(alloc: Global, survey: &Survey) -> Result<Value, AllocError>
     survey_value(alloc, survey.kind.word(), directory, map, survey)
 }
 
-fn day_value(alloc: Global, day: i32) -> Result<Value, AllocError>
+fn day_value(alloc: Global, day: i32) -> Result<Value, NoMemory>
     ensures { IfOk result (λ value. view value ≡ day_data day) }
 {
-    json!(in alloc; {"day": date(alloc, day)?.as_str()})
+    let date = date(alloc, day)?;
+    Ok(json!(in alloc; {"day": date.as_str()})?)
 }
 
 fn json_reply(alloc: Global, status: u16, value: &Value) -> Result<Reply, NoMemory>

@@ -1,7 +1,10 @@
-use Rattle.std.proofs.Common.{◌∙◌, FitsSigned, ap, rules, subst, sym, w32}
+use Rattle.std.proofs.Common.{◌∙◌, FitsSigned, ap, inl, refl, rules, subst, sym, w32}
 use Rattle.std.proofs.lemmas.Int.{to_z-of_z}
 use Rattle.rd_desk.specs.Calls.{IsResponseAfter, MakesOneChange}
-use Rattle.rd_protocol.specs.declared.request.What.TheVariants.{PutDeed, RehearseDrop, RehearseRule, Verdicts, VerdictsOf}
+use Rattle.rd_protocol.specs.declared.request.What.TheVariants.{PutDeed, RehearseDrop, RehearseRule, Today, Verdicts, VerdictsOf}
+use Rattle.rd_store.proofs.Laws.{lasts_still}
+use Rattle.rd_store.specs.Held.{desk}
+use Rattle.rd_desk.proofs.ListLemmas.{today_accepted}
 use Rattle.rd_desk.proofs.OneChange.{change_alone, no_call, reads_alone}
 use Rattle.rd_desk.proofs.ResponseLemmas.{does_carry, does_read}
 use Rattle.rd_desk.proofs.answers.answer.Goals as goal
@@ -68,6 +71,22 @@ returns-in-Checks-clause-does g c =
 
 pub returns-in-Checks-clause-one_change : goal.returns-in-Checks-clause-one_change
 returns-in-Checks-clause-one_change g c = reads_alone g.S.Store c.args.caller.now.day _ _ c.args.store.now c.checks.new.store c.checks.ensures.keeps
+
+pub returns-in-Today-clause-does : goal.returns-in-Today-clause-does
+returns-in-Today-clause-does g c =
+    let fits : FitsSigned w32 c.args.caller.now.day = search rules in
+    let store = c.args.store.now in
+    let rests = c.between_calls.ensures in
+    does_carry g.S.Store store store c.args.caller.now.audience c.args.caller.now.day c.args.what.now Today (sym c.in-Today.is) _ tt (record {
+      lasts = lasts_still g.S.Store store;
+      judged = λ o. (today_accepted (desk g.S.Store store), to_z-of_z w32 c.args.caller.now.day fits, refl);
+      stays_open = λ o clean. o;
+      crash = λ o clean left may. inl (rests.leaves o left may);
+      durable = rests.leaves;
+    })
+
+pub returns-in-Today-clause-one_change : goal.returns-in-Today-clause-one_change
+returns-in-Today-clause-one_change g c = no_call g.S.Store c.args.caller.now.day _ _ c.args.store.now c.between_calls.ensures
 
 pub returns-in-Verdicts-clause-does : goal.returns-in-Verdicts-clause-does
 returns-in-Verdicts-clause-does g c =
