@@ -46,9 +46,9 @@ fn response_to<S: Alter>(
     answer(store, alloc, &Caller { audience, day }, &request.what)
 }
 
-/// The reply that gives an answer; if there is no answer, or no memory for the reply, it says that
+/// The reply that gives an answer of `Desk::respond`; if there is no answer, or no memory for the reply, it says that
 /// the desk is unavailable.
-fn reply_with(alloc: Global, answer: Result<Response, Unavailable>) -> Reply
+pub fn reply_with(alloc: Global, answer: Result<Response, Unavailable>) -> Reply
     ensures { IsWritten answer result }
 {
     match answer {
@@ -65,7 +65,8 @@ fn reply_with(alloc: Global, answer: Result<Response, Unavailable>) -> Reply
 /// The desk over its store, and the zone of its clocks.
 #[derive(Drop)]
 pub struct Desk<S: Alter> {
-    store: Store<S>,
+    /// Its store, whose every call is one that the desk may make.
+    pub store: Store<S>,
     zone: Zone,
 }
 

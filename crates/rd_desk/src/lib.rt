@@ -15,7 +15,7 @@ mod verdicts;
 mod would_take;
 
 pub use asking::Unavailable;
-pub use desk::Desk;
+pub use desk::{Desk, reply_with};
 pub use rd_geometry::{Items, Kind, NoMemory, Text};
 pub use rd_protocol::{
     Body, BodyPieces, Contents, Form, ImageLine, Line, Listing, Refusal, Reply, Request, Response,
