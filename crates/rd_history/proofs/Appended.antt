@@ -1,9 +1,11 @@
 -- An entry is put at the end of a history.
-use Rattle.std.proofs.Common.{◌≡◌, ◌+◌, inl, ℕ, Bool, true, false, IsTrue, IsUtf8, Err, List, [], ◌∷◌, ◌++◌, arith, length, refl}
+use Rattle.std.proofs.Common.{◌≡◌, ◌∙◌, ◌⊎◌, ◌+◌, inl, ℕ, Bool, true, false, IsTrue, IsErr, IsUtf8, Err, Ok, Result, List, [], ◌∷◌, ◌++◌, ap, arith, length, refl, subst, sym, true≢false}
 use Rattle.sqlite.specs.Held.{Held}
 use Rattle.sqlite.specs.Store.{Ghosts}
 use Rattle.rd_tables.proofs.ConnectionLaws.{lasts_still}
-use Rattle.rd_chain.specs.Held.{Appends, IsAtRest}
+use Rattle.sqlite.specs.Tree.{Trees}
+use Rattle.rd_tables.specs.Connections.{IsOpen}
+use Rattle.rd_chain.specs.Held.{Appends, IsAtRest, IsLeft, lines}
 use Rattle.rd_history.specs.Entries.{HasDigests, IsEntry}
 use Rattle.rd_history.specs.Histories.{IsAsked, MayCome}
 use Rattle.rd_history.specs.Lines.{line_of}
@@ -53,3 +55,29 @@ ends_more these ends flag entry so comes within digests number text is may =
       whole = on.2;
       ends = flag_is entry.change so.end next flag on.1.1 so.whole is may;
     }
+
+-- lines were put, told in another way
+module _ {S : Type 0} (g : Ghosts S) (old new : Held S) (more other : List (List ℕ)) (same : IsOpen g old → more ≡ other) where
+  left_as : (left : Trees) → IsOpen g old → IsLeft (lines g old) left ⊎ IsLeft (lines g old ++ more) left → IsLeft (lines g old) left ⊎ IsLeft (lines g old ++ other) left
+  left_as left was = subst (λ l. IsLeft (lines g old) left ⊎ IsLeft (lines g old ++ l) left) (same was)
+
+  pub appended_ok : {X Y : Type 0} (done : Unit {0}) → Appends {X = X} g old new more (Ok done) → Appends {X = Y} g old new other (Ok done)
+  appended_ok done appends = record {
+    lasts = appends.lasts;
+    ok = λ o. appends.ok o ∙ ap (λ l. lines g old ++ l) (same (appends.lasts.was_open o));
+    err = λ o. tt;
+    ends_open = appends.ends_open;
+    crash = λ was clean left may. left_as left was (appends.crash was clean left may);
+    durable = appends.durable;
+  }
+
+  pub appended_err : {X Y : Type 0} (fault : X) (told : Result (Unit {0}) Y) → IsErr told → Appends {T = Unit {0}} g old new more (Err fault) → Appends g old new other told
+  appended_err fault (Ok done) failed appends = absurd (true≢false (sym failed))
+  appended_err fault (Err other) failed appends = record {
+    lasts = appends.lasts;
+    ok = λ o. tt;
+    err = appends.err;
+    ends_open = λ clean. tt;
+    crash = λ was clean left may. left_as left was (appends.crash was clean left may);
+    durable = appends.durable;
+  }

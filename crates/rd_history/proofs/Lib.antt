@@ -9,3 +9,4 @@ pub mod Judging
 pub mod Appended
 pub mod SoLemmas
 pub mod NearLemmas
+pub mod BaseLines

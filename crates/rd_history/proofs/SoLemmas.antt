@@ -1,5 +1,6 @@
 -- What a change asks is so in a desk, or is not.
-use Rattle.std.proofs.Common.{◌≡◌, ◌≢◌, ◌∙◌, ◌<◌, inl, inr, ℕ, zero, suc, Bool, true, false, true≢false, IsSome, MatchBool, Ok, Option, None, Some, List, [], ◌∷◌, ◌++◌, All, Contains, ap, arith, length, nat_cmp, option_map, refl, slice_index_or, subst, sym, unwrap_or}
+use Rattle.std.proofs.Common.{◌≡◌, ◌≢◌, ◌∙◌, ◌<◌, inl, inr, ℕ, zero, suc, Bool, true, false, true≢false, MatchBool, Ok, Option, None, Some, List, [], ◌∷◌, ◌++◌, All, Contains, ap, arith, length, nat_cmp, option_map, refl, slice_index_or, subst, sym, unwrap_or}
+use Rattle.hex.specs.Hex.{IsBytes}
 use Rattle.std.specs.FinMap.{get}
 use Rattle.sqlite.specs.Held.{Held}
 use Rattle.sqlite.specs.Store.{Ghosts}
@@ -12,7 +13,6 @@ use Rattle.rd_holdings.proofs.Members.{Has}
 use Rattle.rd_holdings.proofs.RulesFor.{listed_here, stands_here}
 use Rattle.rd_holdings.specs.State.{Desk, Place, Terms, digest_cmp, place_cmp, place_of, rule_of, rules_at, terms_of}
 use Rattle.rd_holdings.specs.declared.rows.DeedRow.{DeedRow}
-use Rattle.rd_holdings.specs.declared.rows.ImageRow.{ImageRow}
 use Rattle.rd_history.specs.Histories.{IsAsked}
 use Rattle.rd_history.specs.Settled.{IsSo, StandsAs, deposit_of}
 use Rattle.rd_history.specs.Standings.{Deposit, Standing, changed, put_or_kept, standing_after, step, told}
@@ -134,3 +134,9 @@ stepped (DropKey digest) at may = refl
 -- what stands after a change more
 pub stands_after : (before : List Entry) (last : Entry) → IsAsked last.change → standing_after (before ++ last ∷ []) ≡ changed last.change (standing_after before)
 stands_after before last may = ap (λ told. told.1) (told_append _ before (last ∷ [])) ∙ stepped last.change (told before) may
+
+-- bytes, one by one
+pub bytes_all : (xs : List ℕ) → All (λ (byte : ℕ). byte < 256) xs → IsBytes xs
+bytes_all [] all i = omega arith
+bytes_all (x ∷ xs) all zero = all 0 0 (omega arith)
+bytes_all (x ∷ xs) all (suc i) = bytes_all xs (λ k d low. all (suc k) d (omega (arith, low))) i

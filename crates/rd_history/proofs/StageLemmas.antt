@@ -156,16 +156,26 @@ pub record Comes (at : Stage) (changes : List Change) : Type 0 where
   pub path : Path Steps at changes end
   pub whole : end.to_come ≡ 0
 
-listed_come : (listed : List Change) (at : Stage) → AllByRecursion IsPut listed → at.to_come ≡ length listed → Comes at listed
-listed_come [] at each left = record { end = at; path = refl; whole = left }
-listed_come (change ∷ listed) at each left =
+pub listed_come : (listed : List Change) (at : Stage) → AllByRecursion IsPut listed → at.to_come ≡ length listed → at.ends_in_change ≡ false
+    → (comes : Comes at listed) × (comes.end.ends_in_change ≡ false)
+listed_come [] at each left ends = (record { end = at; path = refl; whole = left }, ends)
+listed_come (change ∷ listed) at each left ends =
     let next : Stage = record { number = at.number + 1; to_come = length listed; ends_in_change = false } in
-    let more = listed_come listed next each.1 refl in
-    record {
-      end = more.end;
-      path = (next, (refl, leads_plainly change at next each.0 ((λ none. absurd (omega (arith, none, left))), (λ some. (omega (arith, left), refl)))), more.path);
-      whole = more.whole;
-    }
+    let more = listed_come listed next each.1 refl refl in (
+      record {
+        end = more.0.end;
+        path = (next, (refl, leads_plainly change at next each.0 ((λ none. absurd (omega (arith, none, left))), (λ some. (omega (arith, left), refl)))), more.0.path);
+        whole = more.0.whole;
+      },
+      more.1,
+    )
+
+-- a base comes where none is under way
+pub base_comes : (listed : List Change) (at : Stage) → AllByRecursion IsPut listed → at.to_come ≡ 0 → (comes : Comes at (Begin (length listed) ∷ listed)) × (comes.end.ends_in_change ≡ false)
+base_comes listed at each none =
+    let next : Stage = record { number = at.number + 1; to_come = length listed; ends_in_change = false } in
+    let more = listed_come listed next each refl refl in
+    (record { end = more.0.end; path = (next, (refl, (none, refl, refl)), more.0.path); whole = more.0.whole }, more.1)
 
 tail_comes : (tail : List Change) (at : Stage) → IsTail tail → at.to_come ≡ 0 → at.ends_in_change ≡ true → Comes at tail
 tail_comes [] at is none ends = record { end = at; path = refl; whole = none }
@@ -186,10 +196,7 @@ alone_comes change tail at may is none =
 
 part_comes : (part : List Change) (at : Stage) → IsPart part → at.to_come ≡ 0 → Comes at part
 part_comes [] at is none = absurd is
-part_comes (Begin count ∷ listed) at is none =
-    let next : Stage = record { number = at.number + 1; to_come = count; ends_in_change = false } in
-    let more = listed_come listed next is.1 (sym is.0) in
-    record { end = more.end; path = (next, (refl, (none, refl, refl)), more.path); whole = more.whole }
+part_comes (Begin count ∷ listed) at is none = subst (λ n. Comes at (Begin n ∷ listed)) is.0 (base_comes listed at is.1 none).0
 part_comes (change ∷ tail) at is none = alone_comes change tail at is.0 is.1 none
 
 parts_come : (parts : List (List Change)) (at : Stage) → AllByRecursion IsPart parts → at.to_come ≡ 0 → Comes at (flat_map (λ part. part) parts)
@@ -209,7 +216,7 @@ part_alone (Begin count) tail may is = absurd may
 part_alone (Void cause) tail may is = absurd may
 part_alone change tail may is = (may, is)
 
-each_more : {X : Type 0} (P : X → Type 0) (xs : List X) (x : X) → AllByRecursion P xs → P x → AllByRecursion P (xs ++ x ∷ [])
+pub each_more : {X : Type 0} (P : X → Type 0) (xs : List X) (x : X) → AllByRecursion P xs → P x → AllByRecursion P (xs ++ x ∷ [])
 each_more P [] x each has = (has, tt)
 each_more P (first ∷ xs) x each has = (each.0, each_more P xs x each.1 has)
 
@@ -250,7 +257,7 @@ stood_whole at done none stood = elim stood [
   ]
 ]
 
-put_asked : (change : Change) → IsPut change → IsAsked change
+pub put_asked : (change : Change) → IsPut change → IsAsked change
 put_asked (DropRule band scope rank) put = absurd put
 put_asked (DropKey digest) put = absurd put
 put_asked change put = put

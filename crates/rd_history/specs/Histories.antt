@@ -1,5 +1,5 @@
 -- Which entries are a history, and which lines are those of one.
-use Rattle.std.specs.Prelude.{◌≡◌, ◌+◌, ℕ, List, [], ◌∷◌, ◌++◌, IsUtf8, flat_map, length, map}
+use Rattle.std.specs.Prelude.{◌≡◌, ◌+◌, ℕ, ℤ, List, [], ◌∷◌, ◌++◌, IsUtf8, None, flat_map, length, map}
 use Rattle.std.specs.List.{AllByRecursion}
 use Rattle.sqlite.specs.Effect.{Database}
 use Rattle.rd_chain.specs.Rows.{IsChain, lines_of}
@@ -74,6 +74,20 @@ MayCome change lines = (entries : List Entry) → AreLinesOf entries lines → A
 -- the last entry may be taken back
 abbrev pub MayBeTakenBack : List (List ℕ) → Type 0
 MayBeTakenBack lines = (cause : Cause) → MayCome (Void cause) lines
+
+-- an entry of a base: no key asked it
+abbrev pub base_entry : ℤ → List ℕ → ℕ → Change → Entry
+base_entry moment note number change =
+    record { badge = None; change = change; moment = moment; note = note; number = number; staff = [] }
+
+-- entries of a base, with the numbers from one on
+abbrev pub base_entries : ℤ → List ℕ → ℕ → List Change → List Entry
+base_entries moment note number [] = []
+base_entries moment note number (change ∷ changes) = base_entry moment note number change ∷ base_entries moment note (number + 1) changes
+
+-- the lines of a base: that what stood before counts no more, and what stands
+abbrev pub base_lines : ℤ → List ℕ → ℕ → List Change → List (List ℕ)
+base_lines moment note number listed = map line_of (base_entries moment note number (Begin (length listed) ∷ listed))
 
 -- the line of an entry at a number
 abbrev pub line_at : ℕ → Entry → List ℕ

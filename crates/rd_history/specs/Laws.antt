@@ -1,9 +1,11 @@
 -- Laws of lines, of histories, and of what a list of entries tells.
-use Rattle.std.specs.Prelude.{◌≡◌, ℕ, List, [], ◌∷◌, ◌++◌, map}
+use Rattle.std.specs.Prelude.{◌≡◌, ℕ, List, [], ◌∷◌, ◌++◌}
+use Rattle.rd_holdings.specs.State.{Desk}
 use Rattle.rd_history.specs.Entries.{HasDigests, IsEntry}
-use Rattle.rd_history.specs.Histories.{IsAsked, MayCome}
+use Rattle.rd_history.specs.Histories.{IsAsked, MayCome, changes_of}
 use Rattle.rd_history.specs.Lines.{line_of}
-use Rattle.rd_history.specs.Standings.{Standing, base_of, standing_after}
+use Rattle.rd_history.specs.Settled.{StandsAs}
+use Rattle.rd_history.specs.Standings.{base_of, standing_after}
 use Rattle.rd_history.specs.declared.entry.Cause.{Cause}
 use Rattle.rd_history.specs.declared.entry.Change.{Change}
 use Rattle.rd_history.specs.declared.entry.Change.TheVariants.{Begin, Void}
@@ -25,11 +27,11 @@ abbrev pub BasesForget : Type 0
 BasesForget = (before after : List Entry) (entry : Entry) (count : ℕ) → entry.change ≡ Begin count
     → standing_after (before ++ entry ∷ after) ≡ standing_after after
 
--- what stands after an entry that begins anew, and those that list what stands, is exactly that
+-- what stands after an entry that begins anew, and those that list what stands in a desk, is what stands there
 abbrev pub BasesTell : Type 0
-BasesTell = (before listed : List Entry) (entry : Entry) (count : ℕ) (now : Standing)
-    → entry.change ≡ Begin count → map (λ entry. entry.change) listed ≡ base_of now
-    → standing_after (before ++ entry ∷ listed) ≡ now
+BasesTell = (before listed : List Entry) (entry : Entry) (count : ℕ) (desk : Desk)
+    → entry.change ≡ Begin count → changes_of listed ≡ base_of desk
+    → StandsAs desk (standing_after (before ++ entry ∷ listed))
 
 -- a change that may be taken back may come behind each history
 abbrev pub ChangesMayCome : Type 0

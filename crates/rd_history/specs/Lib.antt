@@ -10,3 +10,4 @@ pub mod Settled
 pub mod Laws
 -- ---- inside: what only private functions and proofs cite
 pub mod Stages
+pub mod Bases

@@ -4,8 +4,9 @@ use Rattle.std.specs.Ordering.{nat_cmp}
 use Rattle.std.specs.FinMap.{FinMap, empty, entries, get, insert, remove}
 use Rattle.rd_geometry.specs.declared.kind.Kind.{Kind}
 use Rattle.rd_policy.specs.declared.audience.Audience.{Audience}
-use Rattle.rd_holdings.specs.State.{Place, Terms, digest_cmp, place_cmp, place_of, rule_of, terms_of}
+use Rattle.rd_holdings.specs.State.{Desk, Terms, all_rules, digest_cmp, place_cmp, place_of, terms_of}
 use Rattle.rd_holdings.specs.declared.rows.DeedRow.{DeedRow}
+use Rattle.rd_holdings.specs.declared.rows.ImageRow.{ImageRow}
 use Rattle.rd_history.specs.declared.entry.Change.{Change}
 use Rattle.rd_history.specs.declared.entry.Change.TheVariants.{Begin, Deed, Image, Rule, DropRule, Key, DropKey, Void}
 use Rattle.rd_history.specs.declared.entry.Entry.{Entry}
@@ -70,22 +71,18 @@ standing_after entries = (told entries).1
 abbrev pub deed_put : ℕ × DeedRow → Change
 deed_put e = Deed e.0 e.1.donor e.1.signed
 
--- to put an image that stands
-abbrev pub image_put : ℕ × Deposit → Change
+-- to take in an image that stands
+abbrev pub image_put : ℕ × ImageRow → Change
 image_put e = Image e.0 e.1.kind e.1.deed e.1.digest
-
--- to put a rule that stands
-abbrev pub rule_put : Place × Terms → Change
-rule_put e = Rule (rule_of e)
 
 -- to put a key that stands
 abbrev pub key_put : List ℕ × Audience → Change
 key_put e = Key e.0 e.1
 
--- all that stands: deeds by number, images by accession, rules by place, takedowns before those of deeds,
+-- all that stands in a desk: deeds by number, images by accession, rules by place, takedowns before those of deeds,
 -- keys by digest
-abbrev pub base_of : Standing → List Change
-base_of now =
-    map deed_put (entries now.deeds)
-    ++ (map image_put (entries now.images)
-    ++ (map rule_put (entries now.rules) ++ map key_put (entries now.keys)))
+abbrev pub base_of : Desk → List Change
+base_of desk =
+    map deed_put (entries desk.deeds)
+    ++ (map image_put (entries desk.images)
+    ++ (map Rule (all_rules desk) ++ map key_put (entries desk.keys)))

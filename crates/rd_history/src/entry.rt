@@ -1,7 +1,7 @@
 ghost use Rattle.std.specs.Prelude.{◌≡◌, ◌≢◌, ◌↔◌, IfNone, IfSome, IsTrue};
 ghost use Rattle.rd_policy.specs.Days.{HasDay};
 ghost use Rattle.rd_policy.specs.Rules.{IsPlainText};
-ghost use Rattle.rd_history.specs.Entries.{IsChange, IsEntry, IsSigned};
+ghost use Rattle.rd_history.specs.Entries.{IsChange, IsDigest, IsEntry, IsSigned};
 
 use rd_geometry::{Kind, Text};
 use rd_holdings::is_donor;
@@ -147,6 +147,13 @@ fn is_remark(text: &str) -> bool
     bytes.len() <= 1_000 && bytes.iter().all(|byte| (32..=126).contains(byte))
 }
 
+/// Whether a digest is 32 bytes, which its type says.
+fn is_digest(digest: &[u8; 32]) -> bool
+    ensures { IsTrue result → IsDigest digest.now }
+{
+    digest.as_slice().iter().all(|byte| *byte <= 255)
+}
+
 /// Whether a moment has a day in every zone.
 fn has_day(moment: i64) -> bool
     ensures { IsTrue result ↔ HasDay moment }
@@ -155,13 +162,33 @@ fn has_day(moment: i64) -> bool
 }
 
 impl Change {
-    ghost use Rattle.rd_history.specs.Histories.{IsAsked};
+    ghost use Rattle.rd_history.specs.Entries.{TellsDigests};
+    ghost use Rattle.rd_history.specs.Histories.{IsAsked, IsPut};
 
     /// Whether a request asks the change: it begins nothing, and takes nothing back.
     pub fn is_asked(&self) -> bool
         ensures { IsTrue result ↔ IsAsked self.now }
     {
         !matches!(self, Change::Begin(_) | Change::Void(_))
+    }
+
+    /// Whether it puts something.
+    pub fn is_put(&self) -> bool
+        ensures { IsTrue result ↔ IsPut self.now }
+    {
+        self.is_asked() && !matches!(self, Change::DropRule { .. } | Change::DropKey { .. })
+    }
+
+    /// Whether each digest is 32 bytes, which its type says.
+    pub(crate) fn has_whole_digests(&self) -> bool
+        ensures { IsTrue result → TellsDigests self.now }
+    {
+        match self {
+            Change::Image { digest, .. }
+            | Change::Key { digest, .. }
+            | Change::DropKey { digest } => is_digest(digest),
+            _ => true,
+        }
     }
 
     /// Whether each value is within the limits that its field names.

@@ -5,15 +5,16 @@ ghost use Rattle.sqlite.specs.Held.{Held, state};
 ghost use Rattle.rd_tables.specs.Connections.{IsClean, IsOpen, LeavesOpen};
 ghost use Rattle.rd_chain.specs.Held.{Appends, HoldsChain, IsAtRest, IsCreated, IsFullFor, IsNotCreated, IsNotOpened, IsOpened, Keeps, lines};
 ghost use Rattle.rd_history.specs.Entries.{HasDigests, IsEntry};
-ghost use Rattle.rd_history.specs.Histories.{HoldsHistory, IsHistory, MayBeTakenBack, IsAsked, MayCome, line_at};
+ghost use Rattle.rd_history.specs.Histories.{AreNumbered, HoldsHistory, IsHistory, MayBeTakenBack, IsAsked, MayCome, base_entries, base_lines, line_at};
 ghost use Rattle.rd_history.specs.Reading.{IsLineOf};
 ghost use Rattle.rd_history.specs.Settled.{EndIn};
 ghost use Rattle.rd_history.specs.Stages.{EndsSo};
 
-use crate::entry::{Entry, LAST_NUMBER};
+use crate::entry::{Change, Entry, LAST_NUMBER};
 use crate::reading::read_line;
+use crate::settling::Unsettled;
 use crate::stage::Stage;
-use crate::writing;
+use crate::{base, writing};
 use rd_chain::{Chain, ChainFault, CreateFault, OpenFault, Refused, SummedLine};
 use sqlite::{Alter, Connection};
 use std::alloc::Global;
@@ -203,6 +204,39 @@ impl<S: Alter> History<S> {
             }
             Err(fault) => Err(fault),
         }
+    }
+
+    /// Puts a base at the end, in one transaction: that what stood before counts no more, and these changes, which tell
+    /// what stands now. After `Ok` all of it is durable.
+    ///
+    /// It fails with `Unsettled` where a base may not list one of the changes, a value is outside the limits of an entry,
+    /// there would be more than 999,999,999 entries, the database fails, or memory runs out.
+    pub(crate) fn append_base(
+        &mut self,
+        alloc: Global,
+        moment: i64,
+        note: &str,
+        listed: Vec<Change>,
+    ) -> Result<(), Unsettled>
+        ensures appends { Appends S.Store self.old self.new (base_lines moment note.now (length (lines S.Store self.old) + 1) listed.items) result }
+        ensures numbered { IsOpen S.Store self.new → OnOk result (AreNumbered (length (lines S.Store self.old) + 1)
+            (base_entries moment note.now (length (lines S.Store self.old) + 1) (Change.Begin (length listed.items) ∷ listed.items))) }
+    {
+        // If it fails below, a crash leaves the lines as they are here.
+        self.chain.between_calls();
+        let Some(number) = self.chain.last().checked_add(1) else {
+            return Err(Unsettled);
+        };
+        let lines = base::lines(alloc, moment, note, number, listed)?;
+        let mut texts = Vec::new(alloc);
+        for line in &lines {
+            let Ok(()) = texts.push(line.as_str()) else {
+                return Err(Unsettled);
+            };
+        }
+        self.chain.append_all(&texts)?;
+        self.ends_in_change = false;
+        Ok(())
     }
 
     /// Gives the connection back, with the lines in its database.

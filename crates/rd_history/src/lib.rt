@@ -2,6 +2,7 @@
 //! each; what a list of entries tells; a history in a file, and whether a store stands as it tells.
 #![tactic(auto)]
 
+mod base;
 mod change;
 mod entry;
 mod history;
@@ -13,6 +14,7 @@ mod stage;
 mod tests;
 mod writing;
 
+pub use base::begin;
 pub use change::change_of;
 pub use entry::{Cause, Change, Entry, LAST_NUMBER};
 pub use history::History;

@@ -12,15 +12,40 @@ ghost use Rattle.rd_history.specs.Settled.{IsSo, IsTold, Settles, StandsNear, Ta
 
 use crate::entry::{Cause, Change, Entry};
 use crate::history::History;
-use rd_geometry::Text;
+use rd_chain::ChainFault;
+use rd_geometry::{NoMemory, Text};
 use rd_policy::{Rule, Select};
 use rd_store::{Store, StoreFault};
 use sqlite::Alter;
-use std::alloc::Global;
+use std::alloc::{AllocError, Global};
 
 /// It is not known that a store stands as its history tells: a database failed, memory ran out, or the history is full.
 #[derive(Clone, Copy, Debug, PartialEq, Eq)]
 pub struct Unsettled;
+
+impl From<StoreFault> for Unsettled {
+    fn from(_: StoreFault) -> Unsettled {
+        Unsettled
+    }
+}
+
+impl From<ChainFault> for Unsettled {
+    fn from(_: ChainFault) -> Unsettled {
+        Unsettled
+    }
+}
+
+impl From<NoMemory> for Unsettled {
+    fn from(_: NoMemory) -> Unsettled {
+        Unsettled
+    }
+}
+
+impl From<AllocError> for Unsettled {
+    fn from(_: AllocError) -> Unsettled {
+        Unsettled
+    }
+}
 
 /// Whether two selectors are the same.
 fn same_select(one: &Select, other: &Select) -> bool
