@@ -39,8 +39,10 @@ def items(path):
     return dict(found)
 
 def item_at(path, line):
-    """Whether a function or a constant stands at a line, counted from 0, and its name."""
-    found = (re.match(HEAD, text) for text in reversed(lines_of(path)[: line + 1]))
+    """Whether a function or a constant stands at a line, counted from 0, or under attributes there, and its name."""
+    lines = lines_of(path)
+    line = next((number for number in range(line, len(lines)) if not re.match(r" *#\[", lines[number])), line)
+    found = (re.match(HEAD, text) for text in reversed(lines[: line + 1]))
     return next(((bool(head[1]), head[2]) for head in found if head), (False, ""))
 
 @functools.cache

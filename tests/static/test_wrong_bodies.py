@@ -7,7 +7,7 @@ import types
 import warnings
 
 import pytest
-from static.rattle import ROOT, applied, pairs_of, parts_of, text_of
+from static.rattle import ROOT, applied, item_at, lines_of, pairs_of, parts_of, text_of
 
 # The names of the tool, as its functions find them.
 TOOL = runpy.run_path(str(ROOT / "tools/wrong-bodies"))["due"].__globals__
@@ -62,3 +62,8 @@ def test_digest_is_of_what_a_trial_reads(monkeypatch, tmp_path):
         (tmp_path / "crates" / path).touch()
         digests.append(TOOL["digest_of"]("rd_cpm"))
     assert len(set(digests[:4])) == 4 and set(digests[3:]) == {digests[3]}
+
+def test_an_attribute_is_of_the_function_below():
+    disk = "crates/rd_geometry/src/cbm_disk.rt"
+    attributes = [number for number, line in enumerate(lines_of(disk)) if line.startswith("    #[")]
+    assert [item_at(disk, number) for number in attributes] == [(True, "index"), (True, "address")]
