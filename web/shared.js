@@ -47,6 +47,7 @@ const STATUSES = {
   503: ["The desk cannot answer now.", "Try again."],
   "no-space": ["The disk of the desk is nearly full, so it takes no changes.", "Call whoever runs it."],
   504: ["The desk took too long.", "Try again."],
+  day: ["The desk did not tell which day it is there.", "Try again."],
   changed: ["What you may see has just changed.", "Try again."],
   asked: ["What is typed there now is not what you agreed to.", "Press \u201cPut the disks\u201d."],
   rotated: ["The journal has begun a new file since you opened it.", "Read it anew."],

@@ -101,13 +101,13 @@ function summary(checks) {
 
 // Reads the checks anew, and shows them.
 async function showChecks() {
-  formOf("checks").elements.before.defaultValue = dayAfter(today(), -DAYS);
   const checks = await readHeld("checks");
   const columns = { Disk: (one) => one.accession, "Checked on": (one) => one.day ?? "never" };
   Object.assign(columns, { Outcome: (one) => one.outcome ?? "", "": null });
   const made = listTable("latest checks", columns, held.checks, checkRow);
   const words = checks.length ? summary(checks) : element("p", "There is no disk.");
   part("checks").querySelector(".stands").replaceChildren(words, ...(checks.length ? [made] : []));
+  formOf("checks").elements.before.defaultValue = dayAfter(today(), -DAYS);
 }
 
 export const open = showChecks;

@@ -1,5 +1,6 @@
 // The staff's side of the desk: what stands there, changes to it, and the work of a section of the page.
 import { Refused, askObject, box, button, cell, element, fields, grouped, listOf, part, refusal } from "./shared.js";
+import { askToday } from "./staff.words.js";
 import { withTitle } from "./titles.js";
 
 // After these nobody here knows whether the desk has done what was sent. A command that is sent twice is done once.
@@ -200,8 +201,9 @@ async function workAlone(name, doing) {
   progresses[name] = tools.progress;
   // a change that was sent may be done all the same
   const isStopped = (fault) => stop.signal.aborted && !isUnsure(fault);
-  const { outcome, done, fault } = await Promise.resolve(tools)
-    .then(doing)
+  // (the journal has days of its own, and needs no today)
+  const { outcome, done, fault } = await (name === "journal" ? Promise.resolve() : askToday(stop.signal))
+    .then(() => doing(tools))
     .then(
       (made) => ({ outcome: made, done: true }),
       (came) => ({ outcome: isStopped(came) ? "Stopped." : refusedWork(came), done: false, fault: came }),
@@ -258,7 +260,7 @@ export function sure({ words, more = [], go, keep }) {
   no.textContent = keep;
   dialog.returnValue = "";
   dialog.showModal();
-  return new Promise((answer) => {
-    dialog.addEventListener("close", () => answer(dialog.returnValue === "go"), { once: true });
-  });
+  const closed = new Promise((close) => dialog.addEventListener("close", close, { once: true }));
+  // (a question may stand open over midnight)
+  return closed.then(() => dialog.returnValue === "go" && askToday().then(() => true));
 }

@@ -13,7 +13,8 @@ import { putMany } from "./staff.rules.js";
 import { saveTable, saver } from "./staff.saved.js";
 import { COLUMNS, EFFECT_AT, SAVED_HEADS, UNSAID, askedWords, byWhichRules, effectOf } from "./staff.verdicts.js";
 import { mayWords, nameOf, namesOf, ruleShown, savedVerdict, verdictsOf } from "./staff.verdicts.js";
-import { AUDIENCES, PUT, RULES, UNREAD, listed, momentNow, ruleTexts, ruleWords, today } from "./staff.words.js";
+import { AUDIENCES, PUT, RULES, UNREAD, askToday, listed, momentNow, ruleTexts } from "./staff.words.js";
+import { ruleWords, today } from "./staff.words.js";
 import { noteOf, titleOf } from "./titles.js";
 
 // How many changes of the journal are shown at most.
@@ -157,8 +158,10 @@ function saveDisk(disk, more = "") {
 }
 
 // Asks the desk for a disk, and saves what it says now, unless that is stopped.
-export const saveNow = async (accession, more, tools) =>
-  saveDisk(await readDisk(accession, tools, () => tools.signal.throwIfAborted()), more);
+export async function saveNow(accession, more, tools) {
+  await askToday(tools.signal);
+  return saveDisk(await readDisk(accession, tools, () => tools.signal.throwIfAborted()), more);
+}
 
 // Puts a takedown of each file that is ticked, at a free rank, once all are rehearsed and agreed to.
 async function takeDown(records, tools) {

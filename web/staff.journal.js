@@ -7,7 +7,7 @@ import { Lines, MONTHS, MOST, PIECE } from "./staff.lines.js";
 import { limitFields } from "./staff.ruleform.js";
 import { saveTable, saver } from "./staff.saved.js";
 import { namesOf, verdictsOf } from "./staff.verdicts.js";
-import { momentNow, today } from "./staff.words.js";
+import { momentNow } from "./staff.words.js";
 import { withTitle } from "./titles.js";
 
 export const COLUMNS = ["When", "Who", "What", "Outcome", "Reason"];
@@ -32,7 +32,8 @@ async function knowDisk(accession) {
   if (accession === "") return;
   try {
     const survey = await askObject(`/images/${accession}/survey`);
-    const names = namesOf(await verdictsOf(survey, today(), { progress: () => {} }));
+    // (names are the same on each day)
+    const names = namesOf(await verdictsOf(survey, momentNow().slice(0, 10), {}));
     if (disk.accession === accession) disk = { accession, deed: String(survey.deed), names };
   } catch (fault) {
     if (fault.said?.error !== "no-accession") show("journal", refusal(fault));

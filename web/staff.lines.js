@@ -2,7 +2,7 @@
 import { Refused, ask, fields, loaded } from "./shared.js";
 import { AllChanges, spaced } from "./staff.changes.js";
 import { breather } from "./stream.js";
-import { dayAfter, monthBefore, today } from "./staff.words.js";
+import { dayAfter, momentNow, monthBefore } from "./staff.words.js";
 
 // How many bytes come at a time, and how many months the page looks back for a file.
 export const PIECE = 4 << 20;
@@ -82,7 +82,7 @@ export class Lines {
   // Reads the file of the latest month before those that were looked at, if there is one.
   async readMonth(take, oldest, tools) {
     // The clock of the museum's machine may be ahead of this one.
-    this.month ||= oldest().slice(0, 7) || dayAfter(today(), 1).slice(0, 7);
+    this.month ||= oldest().slice(0, 7) || dayAfter(momentNow().slice(0, 10), 1).slice(0, 7);
     for (let isFound = false; this.months > 0 && !isFound; ) {
       tools.progress("Looking for an older journal, month by month", MONTHS - this.months, MONTHS);
       isFound = await this.readFile(take, tools);
@@ -94,7 +94,7 @@ export class Lines {
   async readFile(take, tools) {
     if (absent.has(this.month)) return false;
     const reply = await unless(404, ask(`/journal-${this.month}`, { signal: tools.signal }));
-    if (reply === null && this.month < monthBefore(today().slice(0, 7))) absent.add(this.month);
+    if (reply === null && this.month < monthBefore(momentNow().slice(0, 7))) absent.add(this.month);
     if (reply === null) return false;
     await eachLine(await bytesOf(reply), take);
     return true;

@@ -3,7 +3,7 @@ import { longTable } from "./lists.js";
 import { Refused, box, button, cell, counted, element, explainRefusal, refusalName, row } from "./shared.js";
 import { ANY_NAME, change, diskCell, isUnsure, keepReason, older, paragraph, whoNow } from "./staff.desk.js";
 import { saveTable, saver } from "./staff.saved.js";
-import { VISITS, momentNow } from "./staff.words.js";
+import { VISITS, askToday, momentNow } from "./staff.words.js";
 
 const DONE = "done";
 const isTakedown = ({ word }) => word === "takedown";
@@ -40,7 +40,7 @@ export async function sendMany(run, { progress, signal }) {
     if (fault !== null && isLost(fault)) break;
   }
   if (!run.items.every(isOver)) keepReason();
-  const isOlder = await Promise.resolve(run.after?.({ progress })).then(() => false, () => true);
+  const isOlder = await askToday().then(() => run.after?.({ progress })).then(() => false, () => true);
   return report(run, isOlder);
 }
 

@@ -5,13 +5,12 @@ import { csvText, explainedHead } from "./csv.js";
 import { element } from "./shared.js";
 import { inParts, save } from "./stream.js";
 
-const clocks = () => `this table (moments: in UTC, or with their distance from it behind them; days of the journal: by \
-the museum's machine; days of rules: by the desk's zone; day of asking: by the computer that saved this, in the zone \
-${Intl.DateTimeFormat().resolvedOptions().timeZone})`;
+const CLOCKS = `this table (moments: in UTC, or with their distance from it behind them; days of the journal: by the \
+museum's machine; days of rules and of asking: by the desk's clock, in its zone)`;
 
 export async function saveTable(name, moment, about, heads, items, recordOf) {
   const said = [holder() || "(the museum's name was not found)", about];
-  const texts = [csvText([["museum", clocks(), ...heads.map(explainedHead)], ...(items.length ? [] : [said])])];
+  const texts = [csvText([["museum", CLOCKS, ...heads.map(explainedHead)], ...(items.length ? [] : [said])])];
   await inParts(items, (some) => texts.push(csvText(some.map((one) => [...said, ...recordOf(one)]))));
   const file = `${name}-${moment.slice(0, 19).replaceAll(":", "")}Z.csv`;
   save(file, texts, "text/csv");

@@ -7,7 +7,7 @@ import { audienceCounts } from "./staff.forecast.js";
 import { Changes, dayParts } from "./staff.rehearsal.js";
 import { limitFields } from "./staff.ruleform.js";
 import { COLUMNS, effectOf, onDay, readVerdicts } from "./staff.verdicts.js";
-import { AUDIENCES, RULES, dayAfter, isDay, isOnNoDay, ruleWords, today } from "./staff.words.js";
+import { AUDIENCES, RULES, dayAfter, isDay, isOnNoDay, momentNow, ruleWords, today } from "./staff.words.js";
 import { keeper } from "./stream.js";
 
 // How many days the bars show before today and after the last change, and how far from today that one may be.
@@ -17,6 +17,8 @@ const MOST_DAYS = 50 * DAYS;
 const numberOf = (day) => Date.parse(`${day}T00:00:00Z`) / 86400000;
 // The rules that begin or end some day, each with the next of these days; and the first and the last day of the bars.
 let [lines, range] = [[], { first: 0, last: 1 }];
+// The day on which the desk was asked for them, and the moment.
+let asked = { day: "", moment: "" };
 
 const field = () => formOf("timeline").elements.day;
 const stands = () => part("timeline").querySelector(".stands");
@@ -32,6 +34,7 @@ function share(day) {
 // (of the lists this view keeps no more than these rules)
 async function readLines() {
   const [now, most, found] = [today(), dayAfter(today(), MOST_DAYS), []];
+  asked = { day: now, moment: momentNow() };
   const nextOf = (rule) => turnsOf(rule).find((day) => day > now) ?? "none";
   for (const [name, list, of] of [["rules", "deeds", "deed"], ["takedowns", "takedowns", "accession"]]) {
     for (const { [of]: scope, rules } of listOf((await askObject(`/staff/${list}`))[list])) {
@@ -113,19 +116,20 @@ async function readDay(day, before, tools) {
 
 // Who gets what on a day, and what is other than today.
 async function showDay(day, tools) {
-  const now = await readDay(today(), null, tools);
-  const then = day === today() ? now : await readDay(day, now, tools);
-  const past = day < today() ? `on ${day}, by the rules of ${today()}, they` : "";
+  const [today_, when] = [today(), onDay(day)];
+  const now = await readDay(today_, null, tools);
+  const then = day === today_ ? now : await readDay(day, now, tools);
+  const past = day < today_ ? `on ${day}, by the rules of ${today_}, they` : "";
   // what only a day that is over needs is loaded then
   const since = past ? await loaded(import("./staff.origins.js")).then(({ pastOf }) => pastOf(day, tools)) : {};
   const texts = audienceCounts((audience, effect) => {
     const at = Object.keys(AUDIENCES).indexOf(audience);
     return then.alike.reduce((sum, one) => sum + (one.now[at] === effect ? one.count : 0), 0);
   }).concat(since.words ?? []);
-  const words = past ? `What is other on ${day} than today, by the rules of ${today()}` : "What is other than today";
-  const none = past && `By the rules of ${today()} nothing is other on that day; ${since.then}`;
-  const more = day === today() ? [] : dayParts({ words, past, none, groups: then.groups });
-  const heading = dated("h2", `Who gets what ${onDay(day)}`);
+  const words = `What is other ${past && `on ${day} `}than today, ${past && "by the rules of "}${today_}`;
+  const none = past && `By the rules of ${today_} nothing is other on that day; ${since.then}`;
+  const more = day === today_ ? [] : dayParts({ words, past, none, groups: then.groups });
+  const heading = dated("h2", `Who gets what ${when}`);
   stands().querySelector(".day").replaceChildren(heading, ...texts.map((text) => dated("p", text)), ...more);
 }
 
@@ -133,8 +137,9 @@ async function showDay(day, tools) {
 let read = "";
 
 async function look() {
-  field().defaultValue = today();
   const doing = async (tools) => {
+    field().defaultValue = today();
+    if (asked.day !== today()) await open();
     read = field().value;
     mark();
     await showDay(read, tools);

@@ -1,5 +1,6 @@
 // Words for what stands at a desk: audiences, effects, rules and days, and what the fields for them take.
 import { shownName } from "./names.js";
+import { Refused, askObject, textOf } from "./shared.js";
 
 export const AUDIENCES = { public: "the public", room: "the reading room", staff: "the staff" };
 // (the desk lists no closed file, but says that one is there and by which rule, and so does the page for readers)
@@ -136,8 +137,16 @@ export function dayAfter(day, days) {
 // The month before another, as in 2026-01.
 export const monthBefore = (month) => dayAfter(`${month}-01`, -1).slice(0, 7);
 
-// Today by the clock of this computer.
+// Today by the desk's clock, in its zone, as the desk told it last; or why it did not.
+let told = new Refused("day", {});
+
+export async function askToday(signal) {
+  const untold = (fault) => ([401, 403].includes(fault?.status) ? fault : new Refused("day", {}));
+  const said = await askObject("/staff/today", { signal }).then(({ day }) => textOf(day) || untold(), untold);
+  if (!signal?.aborted) told = said;
+}
+
 export function today() {
-  const now = new Date();
-  return new Date(now.getTime() - now.getTimezoneOffset() * 60000).toISOString().slice(0, 10);
+  if (typeof told !== "string") throw told;
+  return told;
 }

@@ -7,7 +7,8 @@ import datetime
 import pytest
 from staff_helpers import journal_lines, saved_table, takedown
 from support import museums, stand_in
-from support.browser import CLOCK, TODAY
+from support.browser import TODAY
+from support.samples import refused, told
 
 DAYS = ["2026-06-25", "2026-07-05", "2027-06-15", "2027-06-16"]
 AUDIENCES = {"public": "the public", "room": "the reading room", "staff": "the staff"}
@@ -25,6 +26,11 @@ UNSAID = "It does not say who has read or copied a file, nor what stands on othe
 STOOD, PAST = f"by the rules of {TODAY} when it was asked", f"by the rules of {TODAY}, not by those that stood then"
 NO_JOURNAL = "what stood then is not known: there is no journal"
 SINCE = "What has changed since then is not known: there is no journal."
+
+def night(museum):
+    """Midnight comes at the desk."""
+    museum.day = str(datetime.date.fromisoformat(museum.day) + datetime.timedelta(1))
+    return museum
 
 def look(staff, day, audience="public", closed=False, words=""):
     assert staff.go("eyes") and staff.fill("eyes", day=day, audience=audience).push("Look")
@@ -55,7 +61,7 @@ def test_file_is_found_by_name_disk_or_rule_and_saved_without_formula(museum, st
     for words, count in {"guide": 2, "1002": 3, "r9.20": 7, "=1+1": 1, "no such": 0, "1066": 5}.items():
         shown = look(staff, TODAY, "staff", True) and staff.one("#eyes [name=words]").send_keys(words) or staff.read()
         assert (len(shown["rows"]), int(shown["stands"][1].split()[1])) == (count, count), words
-    staff.script(CLOCK % 86_400_000)
+    night(museum)
     _, *rows = saved_table(staff, f"who-sees-what-staff-of-disk-1066-{TODAY}-5-of-19-files-asked")
     assert "5 of 19 files, found by “1066”, only of disk 1066, which has 5. The desk was asked on" in rows[0][1]
     assert [row[16] for row in rows] == [name if name[0] != "=" else f"'{name}" for name in museums.HARMFUL]
@@ -82,16 +88,53 @@ def test_day_that_nobody_typed_is_today_also_where_a_page_stays_open_overnight(m
         staff.go(view)
         for day in (first, first + 1):
             assert staff.push(button)["result"] == [f"Read: {words}2026-06-{day}."], "a today that is over"
-            staff.script(CLOCK % 86_400_000)
+            night(museum)
     assert staff.go("eyes") and staff.texts("#eyes h2") == ["What the public gets on 2026-06-19"], "what stood days ago"
-    assert look(staff, "2026-06-19") and staff.script(CLOCK % 86_400_000) is None
+    assert look(staff, "2026-06-19") and night(museum)
     assert staff.go("eyes") and "on 2026-06-19, by" in staff.push("Look")["result"][0], "not the day that was typed"
     for day, due in (("2030-01-01", "2030-01-01, by the rules of 2026-06-21"), ("2026-06-21", "2026-06-22")):
-        assert look(staff, day) and staff.fill("eyes", day="2026-02-30").script(CLOCK % 86_400_000) is None
+        assert look(staff, day) and staff.fill("eyes", day="2026-02-30") and night(museum)
         assert staff.go("eyes") and f"gets on {due}" in staff.text("#eyes h2"), "of an older day, or of none"
     museum.latest |= dict.fromkeys(museum.images, ("2025-06-22", "sound"))
     assert staff.go("checks") and staff.one("[name=before]").get_property("value") == "2025-06-22"
-    assert staff.script(CLOCK % 86_400_000) is None and "6 sound" in staff.push("Check all of these")["result"][0]
+    assert night(museum) and "6 sound" in staff.push("Check all of these")["result"][0]
+    assert staff.go("takedowns") and staff.take_down("1002", "", "2", "public")["sure"][3] == "Today, 2026-06-23"
+    assert night(museum) and staff.push("Save what stands now, first")
+    assert staff.saved("disk-1002-before-a-change-2026-06-24-asked-*.csv"), "a question that stands open overnight"
+    staff.answer(False)
+
+@pytest.mark.parametrize("zone, day", [("Pacific/Kiritimati", TODAY), ("America/New_York", "2026-06-16")])
+def test_today_is_the_day_of_the_desk_in_whatever_zone_the_browser_is(museum, staff, zone, day):
+    """It is noon of the first of these days in UTC: in the one zone it is the second, and in the other not yet."""
+    museum.day, museum.rules["R7"][10] = day, museum.rules["R7"][10] | {"until": "2026-06-16"}
+    staff.cdp("Emulation.setTimezoneOverride", timezoneId=zone)
+    try:
+        is_open = day == "2026-06-16"
+        heads, *rows = saved_table([staff, staff.go("disk/1004")][0], f"disk-1004-{day}-asked", "Save who gets what as")
+        assert staff.texts("#disk h2")[0] == f"Who gets what on {day}", "the day of the computer"
+        assert {row[2] for row in rows} == {day} and (rows[0][6] == "read it") == is_open, "another day in the file"
+        assert heads[1].endswith("days of rules and of asking: by the desk's clock, in its zone)")
+        assert staff.go("eyes") and f"gets on {day}." in staff.push("Look")["result"][0]
+        assert staff.go("timeline") and staff.push("Look at")["result"] == [f"Read: {day}."]
+        assert staff.go("takedowns") and f"Today, {day}" in staff.take_down("1002", "", "2", "public")["sure"]
+        staff.answer(False)
+    finally:
+        staff.cdp("Emulation.setTimezoneOverride", timezoneId="")
+
+def test_desk_that_does_not_tell_its_day_is_said_and_no_view_guesses_it(staff):
+    assert staff.go("disk/1002") and staff.go("timeline")["rows"]
+    for reply in (b"", refused(404, "no-route"), told(day=7)):
+        staff.door.before = lambda _, path: reply if path == "/staff/today" else None
+        for view in ("eyes", "disk/1002", "timeline", "checks"):
+            assert staff.go(view)["result"] == ["The desk did not tell which day it is there. Try again."], view
+            assert TODAY not in staff.text(f"#{view[:4]}{view[4:].partition('/')[0]} .stands"), view
+        assert staff.go("takedowns")["result"] == [] and staff.take_down("1002", "", "2", "public")["sure"] is None
+        assert "The desk did not tell" in staff.text("#takedowns .result"), "a rehearsal of a day that nobody knows"
+    staff.door.before = lambda _, path: refused(401, "unknown-key") if path == "/staff/today" else None
+    assert staff.go("eyes")["result"] == ["The desk does not know this key. Type it again, or use another.",
+                                          "Refusal: unknown-key"]
+    staff.door.before = lambda _, path: None
+    assert staff.door.sent() == [] and staff.go("eyes")["result"] == []
 
 def test_day_that_is_over_is_said_to_be_by_rules_of_today_and_a_saved_table_says_what_it_has(staff, tmp_path):
     (tmp_path / "about.csv").write_text("name,value\nmuseum,Museum of the River\n")
@@ -152,7 +195,7 @@ def test_timeline_has_the_next_change_first_and_says_what_is_other_on_each_day(m
         words = "The public: {} to read, {} only in the list, {} closed.".format(*counts)
         due = f"Who gets what on {day}, by the rules of {TODAY}, which may change until then"
         assert (heading, public) == (due, words)
-        assert more == ["What is other than today", *turns]
+        assert more == [f"What is other than today, {TODAY}", *turns]
     put = journal_lines(1, 1781078400, "200", "PUT", "/deeds/9/rules/4", "Ada", "a%20letter")
     says = ". Since then it has: Put rule 4 of deed 9, 2026-06-10 08:00:00+00:00 by Ada: a letter"
     for lines, words in [({"/journal": put}, f", the journal says{says}"), ({}, " is not known: there is no journal")]:
