@@ -195,7 +195,9 @@ async function takeDown(records, tools) {
   return putMany("disk", commands, { ...more, of: `disk-${accession}` }, tools);
 }
 
+// Without a number the view is that of the disk that was looked at last.
 export async function open(accession, tools) {
+  if (!accession && shown) return location.replace(`#/disk/${shown.survey.accession}`);
   formOf("disk").elements.accession.value = accession ?? "";
   part("ticked").hidden = true;
   Object.values(frames).forEach((frame) => frame.replaceChildren());

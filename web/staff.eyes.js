@@ -36,7 +36,8 @@ async function read(day, tools) {
 // Says of a file whether it is looked for: by a part of its name or its disk's title, by the disk's number or its rule.
 function finder(words, audience) {
   const [rule, ruleAt] = [words.toUpperCase(), EFFECT_AT[audience] + 1];
-  const isNumbered = (file) => file[COLUMNS.accession] === words || file[ruleAt] === rule;
+  const number = words.replace(/^disk\s+/, "");
+  const isNumbered = (file) => file[COLUMNS.accession] === number || file[ruleAt] === rule;
   const isOnTitled = (file) => isTitled(Number(file[COLUMNS.accession]), words);
   return (file) => file[SEARCHED].includes(words) || isNumbered(file) || isOnTitled(file);
 }

@@ -160,6 +160,15 @@ def test_files_ticked_by_their_shown_names_are_taken_down_and_what_stands_after_
     words = "slot (the file's place on its disk, counted from 0)", "rank (a place in the order of rules, lowest first)"
     assert (heads[3], heads[5]) == words
 
+def test_coming_back_shows_the_disk_that_was_looked_at_asked_anew(museum, disk):
+    museum.rules["T1002"] = takedown(1000, 2)
+    assert disk.go("keys") and disk.named("link", "One disk").click() is None
+    back = disk.read(lambda state: state["here"] == "#/disk/1002" and len(state["rows"]) > 3)
+    assert (back["heading"], back["rows"][0][2], back["result"]) == ("Disk 1002", "TOUR", [])
+    assert back["rows"][3][0] == "takedown 1000 of disk 1002 (T1002.1000)", "what stood when somebody left"
+    assert disk.one("#disk [name=accession]").get_property("value") == "1002"
+    assert disk.go("disk/99")["refusal"] and disk.go("disk/1003")["heading"] == "Disk 1003", "no other disk is shown"
+
 def test_each_number_of_a_disk_leads_to_its_page(museum, disk):
     museum.rules["T1002"] = takedown(1000, 2)
     disk.door.journals = {"/journal": journal_lines(1, START, "200", "PUT", "/images/1002/rules/1000", "Ada")}

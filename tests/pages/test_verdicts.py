@@ -58,7 +58,7 @@ def test_each_audience_sees_and_counts_what_the_desk_gives_out(museum, staff, da
 
 def test_file_is_found_by_name_disk_or_rule_and_saved_without_formula(museum, staff):
     museums.harmful_disk(museum, 1066, 7)
-    for words, count in {"guide": 2, "1002": 3, "r9.20": 7, "=1+1": 1, "no such": 0, "1066": 5}.items():
+    for words, count in {"guide": 2, "1002": 3, "r9.20": 7, "=1+1": 1, "no such": 0, "Disk 1066": 5, "1066": 5}.items():
         shown = look(staff, TODAY, "staff", True) and staff.one("#eyes [name=words]").send_keys(words) or staff.read()
         assert (len(shown["rows"]), int(shown["stands"][1].split()[1])) == (count, count), words
     night(museum)
