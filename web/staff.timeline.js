@@ -1,25 +1,23 @@
-// The timeline: the days of each rule that begins or ends by itself, the next change first; a day to drag, and who gets
-// what on it, as the desk's verdicts say.
+// The timeline: the days of each rule that begins or ends by itself; a day to drag, and who gets what on it.
 import { listTable } from "./lists.js";
-import { askObject, box, cell, element, listOf, loaded, part, row } from "./shared.js";
+import { askObject, box, button, cell, element, listOf, loaded, part, row } from "./shared.js";
 import { dated, formOf, work } from "./staff.desk.js";
 import { audienceCounts } from "./staff.forecast.js";
 import { Changes, dayParts } from "./staff.rehearsal.js";
 import { limitFields } from "./staff.ruleform.js";
-import { COLUMNS, effectOf, onDay, readVerdicts } from "./staff.verdicts.js";
+import { saveTable, saver } from "./staff.saved.js";
+import { COLUMNS, askedWords, effectOf, onDay, readVerdicts } from "./staff.verdicts.js";
 import { AUDIENCES, RULES, dayAfter, isDay, isOnNoDay, momentNow, ruleWords, today } from "./staff.words.js";
 import { keeper } from "./stream.js";
 
 // How many days the bars show before today and after the last change, and how far from today that one may be.
 const DAYS = 365;
 const MOST_DAYS = 50 * DAYS;
-
 const numberOf = (day) => Date.parse(`${day}T00:00:00Z`) / 86400000;
 // The rules that begin or end some day, each with the next of these days; and the first and the last day of the bars.
 let [lines, range] = [[], { first: 0, last: 1 }];
 // The day on which the desk was asked for them, and the moment.
 let asked = { day: "", moment: "" };
-
 const field = () => formOf("timeline").elements.day;
 const stands = () => part("timeline").querySelector(".stands");
 const turnsOf = (rule) => (isOnNoDay(rule) ? [] : [rule.from, rule.until].filter(Boolean));
@@ -71,8 +69,24 @@ function draw() {
   });
   slider.addEventListener("change", look);
   const made = lines.length ? listTable("rules", HEADS, lines, lineRow) : element("p", "No rule begins or ends.");
-  stands().replaceChildren(slider, made, box("div", "day"));
+  const choices = box("div", "choices", ...saver(button("Save these rules as CSV"), saveLines));
+  stands().replaceChildren(slider, made, choices, box("div", "day"));
   mark();
+}
+
+// Saves the rules that begin or end; gives the name of the file.
+function saveLines() {
+  const { day, moment } = asked;
+  const all = `Rules that begin or end by themselves, as they stood on ${day}: ${lines.length}. ${askedWords(asked)}`;
+  const about = `${all} On the day until which a rule is it does not hold any more. Rules without days are not here, \
+and may decide before these. It does not say since when a rule stands, nor who gets what: the views Journal and Who \
+sees what do.`;
+  const recordOf = ({ name, scope, rule, next }) => {
+    const words = [`${RULES[name].letter}${scope}.${rule.rank}`, RULES[name].words(scope, rule.rank), ruleWords(rule)];
+    return [day, moment, ...words, rule.from, rule.until, next];
+  };
+  const heads = ["day of asking", "asked at", "rule", "rule in words", "what it does", "from", "until", "next change"];
+  return saveTable(`timeline-${lines.length}-rules-${day}-asked`, moment, about, heads, lines, recordOf);
 }
 
 // Shows where the day is among the bars.

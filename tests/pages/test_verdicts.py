@@ -180,6 +180,11 @@ def test_timeline_has_the_next_change_first_and_says_what_is_other_on_each_day(m
     museum.rules["T1002"] = {1: museums.rule(1, "list", ["room", "public"], None, *DAYS[2:])}
     rules = [["rule 5 of deed 9", DAYS[0]], ["takedown 1 of disk 1002", DAYS[2]], ["rule 10 of deed 7", "2030-01-01"]]
     assert [[row[0], row[2]] for row in staff.go("timeline")["rows"]] == rules
+    _, *rows = saved_table(staff, f"timeline-3-rules-{TODAY}-asked", "Save these rules as CSV")
+    assert [[row[2], row[5], row[9]] for row in rows] == [[TODAY, *rule] for rule in rules]
+    assert rows[0][4] == "R9.5" and rows[0][6].startswith("the file at slot 0 closed to the public, from ")
+    assert (rows[0][7:9], rows[2][7:9]) == (DAYS[:2], ["", "2030-01-01"])
+    assert f"as they stood on {TODAY}: 3. The desk was asked on" in rows[0][1] and "nor who gets what" in rows[0][1]
     # slot 0 of the disks of deed 9: that of the last is damaged, so nobody is given it, and it is closed all the same
     may, see = "Now they may read them; then they may ", "see their names, not read them"
     nothing = "see only that closed files are there, not their names."
