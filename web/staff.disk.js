@@ -10,7 +10,7 @@ import { placeOf } from "./staff.ranks.js";
 import { rehearsalDays, rehearsed, saveFirst } from "./staff.rehearsal.js";
 import { makeRuleForm, ruleIn } from "./staff.ruleform.js";
 import { putMany } from "./staff.rules.js";
-import { saveTable, saver } from "./staff.saved.js";
+import { forgetSaved, saveTable, saver } from "./staff.saved.js";
 import { COLUMNS, EFFECT_AT, SAVED_HEADS, UNSAID, askedWords, byWhichRules, effectOf } from "./staff.verdicts.js";
 import { mayWords, nameOf, namesOf, ruleShown, savedVerdict, verdictsOf } from "./staff.verdicts.js";
 import { AUDIENCES, PUT, RULES, UNREAD, askToday, listed, momentNow, ruleTexts } from "./staff.words.js";
@@ -50,6 +50,7 @@ async function readDisk(accession, tools, show = showDisk) {
 function showDisk(disk) {
   shown = disk;
   draw();
+  forgetSaved("disk");
   if (!disk.changes) drawFiles();
   const spans = frames.files.querySelectorAll(".since");
   everyVerdict(disk).forEach((one, at) => (spans[at].textContent = ` ${sinceOf(disk, ...one)}`));
@@ -139,6 +140,14 @@ function drawFiles() {
   part("ticked").hidden = files.length === 0;
 }
 
+// The SHA-256 with which a disk was put last, as the journal has it: while it is there, the desk takes no other.
+function digestWords({ things: [{ place }], changes = [] }) {
+  const put = changes.find((one) => one.place === place && one.status === "200");
+  const [digest] = /[0-9a-f]{64}$/i.exec(put?.path) ?? [];
+  const unknown = "not known from the journal: the store has it, in the column digest of its table image (FORMATS)";
+  return `its SHA-256: ${digest ? `${digest}, as the journal has it` : unknown}`;
+}
+
 // Saves who gets what of a disk, what the rule says that decides, and who put it; gives the name of the file.
 function saveDisk(disk, more = "") {
   const { survey, things, files, names, asked } = disk;
@@ -149,7 +158,8 @@ function saveDisk(disk, more = "") {
   const saidOf = (file, who) => [...deciding(file[EFFECT_AT[who] + 1]), sinceOf(disk, file, who)];
   const rowOf = ([file, who]) => [...savedVerdict(file, who, asked), ...saidOf(file, who)];
   const { accession, deed, donor, signed } = survey;
-  const whose = `under deed ${deed} of ${donor}, signed on ${signed}; taken in: ${things[0].origin}`;
+  const came = `taken in: ${things[0].origin}; ${digestWords(disk)}`;
+  const whose = `under deed ${deed} of ${donor}, signed on ${signed}; ${came}`;
   const all = `It has all ${counted(files.length, "file")}. ${askedWords(asked)}${more}`;
   const about = `Who gets what of disk ${accession}, ${whose}. ${all} ${SINCE} ${DAYS} ${ANY_NAME} ${UNSAID}`;
   const heads = [...SAVED_HEADS, "what the rule says", PUT.toLowerCase(), "since when"];

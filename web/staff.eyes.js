@@ -6,7 +6,7 @@ import { changeCount, dated, diskCell, formOf, work } from "./staff.desk.js";
 import { limitFields, options } from "./staff.ruleform.js";
 import { countWords } from "./staff.forecast.js";
 import { pastOf } from "./staff.origins.js";
-import { saveTable, saver } from "./staff.saved.js";
+import { forgetSaved, saveTable, saver } from "./staff.saved.js";
 import { COLUMNS, EFFECT_AT, SAVED_HEADS, UNSAID, askedWords, byWhichRules, effectOf } from "./staff.verdicts.js";
 import { mayWords, onDay, readVerdicts, ruleShown, savedVerdict } from "./staff.verdicts.js";
 import { AUDIENCES, momentNow, today } from "./staff.words.js";
@@ -99,6 +99,7 @@ async function draw(wait) {
   const words = [countWords(asked.audience, (effect) => counts[effect]), shown, of.past ?? []].flat();
   const made = files.length ? [longTable("verdicts", columns, files, rowOf)] : [];
   stands.replaceChildren(heading, ...words.map((text) => dated("p", text)), ...made);
+  forgetSaved("eyes");
   part("eyes").querySelector(".found").hidden = false;
 }
 
@@ -121,8 +122,7 @@ async function look(tools) {
   return `Read: what everybody gets ${seen.words}.`;
 }
 
-// Opens the view with the day that is shown, unless that was a today that is over. What was asked before a change or on
-// another day goes: the desk is asked anew.
+// Opens the view with the day that is shown, or today. What was asked before a change or on another day is asked anew.
 export function open(_, tools) {
   const [{ day }, isOver] = [formOf("eyes").elements, seen.on !== today()];
   day.defaultValue = today();

@@ -5,7 +5,7 @@ import { AllChanges, UNKNOWN, changeWords, isUnknown, outcomeWords, spaced, time
 import { dated, formOf, show, work } from "./staff.desk.js";
 import { Lines, MONTHS, MOST, PIECE } from "./staff.lines.js";
 import { limitFields } from "./staff.ruleform.js";
-import { saveTable, saver } from "./staff.saved.js";
+import { forgetSaved, saveTable, saver } from "./staff.saved.js";
 import { namesOf, verdictsOf } from "./staff.verdicts.js";
 import { momentNow } from "./staff.words.js";
 import { withTitle } from "./titles.js";
@@ -21,8 +21,7 @@ let readAt = "";
 let read = new AllChanges();
 let changes = [];
 
-// The disk that is looked for, its deed, and the names of its files by their slots: neither where the desk has no such
-// disk; and what comes of asking for these.
+// The disk that is looked for, its deed and the names of its files by slot, as the desk has them; and what asks for it.
 const NO_DISK = { accession: "", deed: "" };
 let disk = NO_DISK;
 let knowing = Promise.resolve();
@@ -69,8 +68,9 @@ function found({ accession: { value: number }, deed, words, day, checks }) {
 }
 
 // The names of the files of a disk, by their slots; where they were not read, where they are to be had.
-const namesFor = ({ accession }, { names }) =>
-  names ?? (accession && { get: () => `named on the page of disk ${accession}` });
+const namesFor = ({ accession }, { names }, where = "named on the page of disk") =>
+  names ?? (accession && { get: () => `${where} ${accession}` });
+const ELSEWHERE = "this table does not have its name: the one saved on the staff's page does, of who gets what of disk";
 
 // The row of a change; `of` is the disk for which it is shown, if any.
 export function changeRow(change, of) {
@@ -113,6 +113,7 @@ async function draw() {
   const made = shown.length ? [longTable("changes", COLUMNS, shown, (change) => changeRow(change, disk))] : [];
   const words = [dated("p", summary()), element("p", `Shown: ${which}.`)];
   stands.replaceChildren(...words, ...made);
+  forgetSaved("journal");
   stands.setAttribute("aria-busy", "false");
   form.elements.older.disabled = lines.isWhole || isFull();
 }
@@ -158,7 +159,7 @@ const HEADS = ["moment", "name", "reason", "of", "what", "outcome", "method", "p
 
 function savedRecord(change) {
   const { moment, name, reason, method, path, status, body } = change;
-  const words = [ofWords(change), changeWords(change, namesFor(change, disk)), outcomeWords(change)];
+  const words = [ofWords(change), changeWords(change, namesFor(change, disk, ELSEWHERE)), outcomeWords(change)];
   return [moment, name, reason, ...words, method, path, status, body];
 }
 

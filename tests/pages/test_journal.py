@@ -2,7 +2,7 @@
 
 import threading
 
-from staff_helpers import CANNOT_REACH, journal_lines, moment, saved_table
+from staff_helpers import CANNOT_REACH, is_said_saved, journal_lines, moment, saved_table
 from support.browser import LIMIT, TODAY
 from support.museums import HARMFUL
 from support.samples import digest, refused
@@ -78,8 +78,13 @@ def test_what_is_looked_for_is_found_and_saved_without_a_formula(staff):
     assert heads[2:] == ["moment", "name", "reason", "of", "what", "outcome", "method", "path", "status", "body"]
     what, path = rows_of(3)[0][2], CHANGES[3][1][1]
     assert (len(records), records[2][3:]) == (3, ["'=1+1", "100%", "disk 1002", what, "done", "PUT", path, "200", ""])
-    due = f"+00:00: 11 changes read, from {time_of(0)}+00:00 to {time_of(10)}+00:00; older lines, if any"
-    assert f"The journal, read at {TODAY}T12:{records[0][1][35:40]}{due}" in records[0][1], "saved without its hour"
+    due = f" UTC: 11 changes read, from {time_of(0)} UTC to {time_of(10)} UTC; older lines, if any"
+    assert f"The journal, read at {TODAY} 12:{records[0][1][35:40]}{due}" in records[0][1], "saved without its hour"
+    staff.fill("journal", accession="", checks=False).read()
+    assert not is_said_saved(staff), "a file speaks for what is shown since"
+    _, *records = saved_table(staff, f"journal-10-of-11-changes-back-to-{moment(START)[:10]}-asked")
+    named = "(this table does not have its name: the one saved on the staff's page does, of who gets what of disk 99)"
+    assert named in str(records) and "named on the page" not in str(records), "a table that leads to a page"
 
 def test_no_change_of_an_earlier_reading_is_shown_while_the_journal_is_read_anew(staff):
     is_seen, _ = threading.Event(), read(staff, JOURNAL)
@@ -93,7 +98,8 @@ def test_journal_of_a_disk_has_the_changes_of_its_deed_and_the_names_of_files(st
     came = [("/deeds/7/rules/20", RULE), ("/deeds/9/rules/20", RULE), ("/images/1002/rules/1", RULE)]
     lines = [journal_lines(at, START + at, "200", "PUT", path, "Ada", "", body) for at, (path, body) in enumerate(came)]
     lines.append(journal_lines(3, START + 3, "200", "DELETE", "/images/1002/rules/1"))
-    shown, named = read(staff, b"".join(lines), place="journal/1002"), HIDDEN.replace(" closed", " (GUIDE) closed")
+    here = b"".join(lines).replace(b"+00:00", b"+02:00")
+    shown, named = read(staff, here, place="journal/1002"), HIDDEN.replace(" closed", " (GUIDE) closed")
     words = [f"Put takedown 1 of disk 1002: {named}", f"Put rule 20 of deed 9: {named}"]
     due = [f"Drop takedown 1 of disk 1002, which said: {named}", words[0], f"Of its deed: {words[1]}"]
     assert [row[2] for row in shown["rows"]] == due, "a deed's rules stand elsewhere"
@@ -101,6 +107,9 @@ def test_journal_of_a_disk_has_the_changes_of_its_deed_and_the_names_of_files(st
     assert [row[5:7] for row in rows[1:]] == [["disk 1002", words[0]], ["deed 9, the deed of disk 1002", words[1]]]
     holds = "Here: 3 changes of these, of disk 1002 and of its deed 9, which decides about it too, without checks"
     assert holds in rows[0][1], "a saved journal says not which lines it has"
+    day, hour = moment(START - 7200)[:19].split("T")
+    assert f"{day} {hour}" in rows[0][1] and rows[2][2][:16] == f"{day} {hour[:5]}" and rows[2][2].endswith(" UTC")
+    assert "+0" not in str(rows), "two zones in one file"
 
 def many(count, first=0, begun=START):
     """The changes of so many deeds, each with two lines."""

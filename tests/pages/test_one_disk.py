@@ -1,7 +1,7 @@
 """One disk on one page: what it is, who gets what by which rules, who put these; takedowns of ticked files."""
 
 import pytest
-from staff_helpers import CANNOT_REACH, journal_lines, lost_at, moment, saved_table, takedown
+from staff_helpers import CANNOT_REACH, in_utc, is_said_saved, journal_lines, lost_at, moment, saved_table, takedown
 from support import museums
 from support.browser import TODAY, wait_for
 from support.samples import DONOR_OF_9, refused
@@ -53,8 +53,13 @@ def test_disk_says_what_it_is_and_who_gets_what_by_which_rule(museum, disk):
     keys = "day", "audience", "they may", "rule", "what the rule says", PUT, "since when", "name as shown", "size"
     said, file = f"the file at slot 2 (GUIDE) {ALWAYS}", [UNKNOWN, "GUIDE", "532"]
     assert [[dict(zip(heads, one))[key] for key in keys] for one in rows[6:9:2]] == [
-        [TODAY, "the public", SHUT, "T1002.1000", said, NOT, *file],
-        [TODAY, "the staff", "read it", "R9.20", f"all files readable for {ALL}", BY + NOTHING, *file]]
+        [TODAY, "the public", SHUT, "T1002.1000", said, in_utc(NOT), *file],
+        [TODAY, "the staff", "read it", "R9.20", f"all files readable for {ALL}", in_utc(BY + NOTHING), *file]]
+    assert f"{in_utc(NOT)}; its SHA-256: not known from the journal: the store has it" in rows[0][1]
+    disk.door.journals["/journal"] += journal_lines(2, START - 9, "200", "PUT", TAKEN_IN)
+    assert disk.go("disk/1002") and not is_said_saved(disk), "a file speaks for what is shown since"
+    _, *rows = saved_table(disk, f"disk-1002-{TODAY}-asked", "Save who gets what as CSV")
+    assert f"; its SHA-256: {'0' * 64}, as the journal has it. It has all" in rows[0][1]
 
 def test_rule_says_what_was_there_before_it_or_how_far_the_journal_is_read_or_that_it_is_not(disk):
     disk.door.journals["/journal"] += journal_lines(2, START, "200", "PUT", TAKEN_IN)

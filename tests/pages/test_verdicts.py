@@ -5,7 +5,7 @@ import csv
 import datetime
 
 import pytest
-from staff_helpers import journal_lines, saved_table, takedown
+from staff_helpers import is_said_saved, journal_lines, saved_table, takedown
 from support import museums, stand_in
 from support.browser import TODAY
 from support.samples import refused, told
@@ -67,6 +67,8 @@ def test_file_is_found_by_name_disk_or_rule_and_saved_without_formula(museum, st
     assert [row[16] for row in rows] == [name if name[0] != "=" else f"'{name}" for name in museums.HARMFUL]
     words = ["the staff", "read it", "", "R7.20", "rule 20 of deed 7", "1066", "", "7", "d64", "0", "", "../../X"]
     assert (rows[0][3], rows[0][5:]) == (STOOD, [*words, "../../X", "SEQ", "4", ""]), "saved a day after it was asked"
+    staff.fill("eyes", words="guide").wait(lambda state: len(state["rows"]) == 2)
+    assert not is_said_saved(staff), "a file speaks for what is shown since"
 
 def test_table_has_the_day_of_its_field_and_is_asked_anew_once_something_was_changed(staff):
     look(staff, DAYS[1], "room", True, "1002")
@@ -152,7 +154,7 @@ def test_day_that_is_over_is_said_to_be_by_rules_of_today_and_a_saved_table_says
         _, saved = saved_table(staff, f"{name}-{count}-of-14-files-asked")
         about = f"{heading}: {shown} It says nothing of what others than the public get. {SINCE} {UNSAID}"
         assert saved[:2] == ["Museum of the River", about], "a saved table looks as if it had all"
-    assert (saved[2:4], saved[4][:14]) == (["1999-01-01", PAST], f"{TODAY}T12:")
+    assert (saved[2:4], saved[4][:14], saved[4][19:]) == (["1999-01-01", PAST], f"{TODAY} 12:", " UTC")
     assert saved[5:8] == ["the public", EFFECTS["list"], f"{UNSERVED['SEQ']}; {PAST}; {NO_JOURNAL}"]
     later = f"{EFFECTS['deny']} ({PAST}; not then: deed 7 was signed on 2019-05-04; {NO_JOURNAL})"
     assert look(staff, "1999-01-01", closed=True, words="1004")["rows"][0][5] == later, "a day before the deed"
