@@ -68,5 +68,4 @@ const MEANINGS = {
   user: "the user of CP/M, 0 to 15, whose file it is",
 };
 export const explainedHead = (head) => (Object.hasOwn(MEANINGS, head) ? `${head} (${MEANINGS[head]})` : head);
-
 export const csvText = (records) => records.map((record) => `${record.map(written).join(",")}\n`).join("");

@@ -82,7 +82,6 @@ export const part = (id) => document.getElementById(id);
 
 // The key, without blanks and tabs at its ends as in a field of HTTP. The page keeps it here only.
 let key = "";
-
 export const keyInUse = () => key;
 
 // What forgets something that was asked with the key, until somebody has no more need of that.
@@ -208,7 +207,6 @@ export function meaning(label) {
 }
 
 export const faultWords = (word) => own(FAULTS, word) || word;
-
 export const explained = (word) => (own(FAULTS, word) ? `${word} (${FAULTS[word]})` : word);
 
 export async function digestOf(bytes) {

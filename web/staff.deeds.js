@@ -67,4 +67,3 @@ export function listenForDeeds() {
   limitFields(form);
   form.addEventListener("submit", () => change("deeds", () => put(form.elements.deed.value, bodyOf(form.elements))));
 }
-

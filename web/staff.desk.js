@@ -9,13 +9,11 @@ const AGAIN = "The desk may have done it all the same. You can safely send it ag
 
 // Whether a change was sent and nobody here knows what became of it.
 export const isUnsure = (fault) => fault.isOfChange === true && UNSURE.includes(fault.status);
-
 export const refusedWork = (fault) => refusal(fault, isUnsure(fault) ? AGAIN : "");
 
 // How many bytes a name or a reason has at most where it is sent.
 const LONGEST_WORDS = 1000;
 export const ANY_NAME = "Whoever has a key of the staff can write any name.";
-
 export const formOf = (name) => part(name).querySelector("form");
 
 // What the desk holds, as it was when it was read last.
@@ -82,7 +80,6 @@ export async function send(method, path, body) {
 }
 
 export const show = (name, ...parts) => part(name).querySelector(".result").replaceChildren(...parts);
-
 export const paragraph = (words) => (words instanceof Node ? words : dated("p", words, { className: "callout" }));
 
 // An element with a text, whose days are not broken at the end of a line, and whose disks lead to their pages.
@@ -130,9 +127,7 @@ export const diskCell = (accession, column = "Disk") =>
 // How each section shows anew what stands, and how its latest work shows how far it has come.
 const shows = {};
 const progresses = {};
-
 export const showsAnew = (name, show_) => (shows[name] = show_);
-
 const again = async (name) => shows[name]?.({ progress: progresses[name] });
 
 // What is said where a section cannot be shown anew after a change.
@@ -181,9 +176,8 @@ async function openAfter(before, mine, doing) {
   else if (report) result.append(report);
 }
 
-// Does some work of a section, one at a time, shows the outcome there, and says whether it was done. The work gets a
-// way to show how far it has come, and a signal that the reader stops it. It gives what to show, words or nodes, or
-// null where what it has shown stays.
+// Does some work of a section, one at a time, shows the outcome there, and says whether it was done. The work gets what
+// shows how far it is and a signal that stops it; it gives what to show, words or nodes, or null to keep what is shown.
 export async function work(name, doing) {
   if (part(name).getAttribute("aria-busy") === "true") return false;
   running[name] = workAlone(name, doing);

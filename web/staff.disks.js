@@ -34,7 +34,6 @@ function dumpOf(file) {
 const sendable = () => dumps.filter((dump) => !dump.problem || isDone(dump));
 const missing = () => (sheet ?? []).filter((one) => one.dump === null);
 const leftOut = () => [...dumps.filter((dump) => dump.problem && !isDone(dump)), ...missing()];
-
 const isOpen = (dump) => !dump.problem && !isDone(dump);
 
 // A dump, or a row of the sheet without one, as it stands in a report; and where a dump goes by what is typed now.

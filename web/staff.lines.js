@@ -9,7 +9,6 @@ export const PIECE = 4 << 20;
 export const MONTHS = 120;
 // From how many changes on the page reads no more.
 export const MOST = 100000;
-
 const LINE_FEED = 10;
 
 // The months without a file of which none comes any more: they are not asked for again.

@@ -63,8 +63,7 @@ export function fillRule(form, rule) {
   needAudience(form);
 }
 
-// The rule that a form holds, as the desk shows rules but for its rank: the body that puts it. While nobody has chosen
-// its files, it selects none.
+// The rule that a form holds, without its rank: the body that puts it. While nobody has chosen files it selects none.
 export function ruleIn(form) {
   const { how, what, effect, from, until } = form.elements;
   return {
