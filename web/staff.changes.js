@@ -55,8 +55,11 @@ function way(path, words) {
   return { ...words, path: new RegExp(`^${parts}$`) };
 }
 
+// (older lines may say that another one stood there, where none was read that does)
+const putWords = ({ hasReplaced }, what) => `Put ${what}${hasReplaced ? " in the place of another" : ""}`;
+
 const wayOfRules = (path, name, of) => way(path, {
-  PUT: (change, parts, names) => `${change.put} ${RULES[name].words(parts[of], parts.rank)}${ruleSaid(change, names)}`,
+  PUT: (change, parts, names) => putWords(change, RULES[name].words(parts[of], parts.rank)) + ruleSaid(change, names),
   DELETE: (change, parts, names) => `Drop ${RULES[name].words(parts[of], parts.rank)}${droppedSaid(change, names)}`,
 });
 
@@ -64,7 +67,7 @@ const diskPut = (_, { accession, kind, deed, digest }) =>
   `Put disk ${accession}, ${kindWords(kind)}, under deed ${deed}, SHA-256 ${digest}`;
 
 const PATHS = [
-  way("/deeds/:deed", { PUT: (change, { deed }) => `${change.put} deed ${deed}${deedSaid(change)}` }),
+  way("/deeds/:deed", { PUT: (change, { deed }) => putWords(change, `deed ${deed}`) + deedSaid(change) }),
   wayOfRules("/deeds/:deed/rules/:rank", "rules", "deed"),
   wayOfRules("/images/:accession/rules/:rank", "takedowns", "accession"),
   way("/accessions/:accession/:kind/:deed/:digest", { PUT: diskPut }),
@@ -143,15 +146,15 @@ export class AllChanges {
   }
 
   // From the newest on, each with the bodies of what may have stood at its place before: undefined where no line says,
-  // null where nobody knows of a drop; and with the word for what is put: it replaces what the journal has for sure.
+  // null for nothing; and whether it was put in the place of another one, as the journal has it for sure.
   inOrder() {
     const all = Array.from(this.byId.values()).sort((one, other) => one.at - other.at);
     const stands = new Map();
     for (const change of all) {
-      const [one, ...others] = (change.stood = stands.get(change.place) ?? [undefined]);
-      change.put = typeof one !== "string" || others.length || one === change.body ? "Put" : "Replace";
-      const puts = change.method === "PUT" ? [change.body] : [];
-      if (!isRefused(change)) stands.set(change.place, isUnknown(change) ? [...change.stood, puts[0] ?? null] : puts);
+      const stood = (change.stood = stands.get(change.place) ?? [undefined]);
+      change.hasReplaced = stood.every((one) => typeof one === "string" && one !== change.body);
+      const then = change.method === "PUT" ? change.body : null;
+      if (!isRefused(change)) stands.set(change.place, isUnknown(change) ? [...stood, then] : [then]);
     }
     return all.reverse();
   }

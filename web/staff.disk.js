@@ -36,7 +36,7 @@ async function readDisk(accession, tools, show = showDisk) {
   disk.files = await verdictsOf(survey, asked.day, tools);
   disk.names = namesOf(disk.files);
   show(disk);
-  const { told, changes, none, isWhole } = await originsOf(things, tools);
+  const { told, changes, none, isWhole } = await originsOf(things, tools, { files: disk.files, day: asked.day });
   things.forEach((thing, at) => Object.assign(thing, told[at]));
   const [own, deed] = [survey.accession, survey.deed].map(String);
   disk.changes = changes.filter((one) => (one.accession ? one.accession === own : one.deed === deed));
@@ -68,10 +68,9 @@ const everyVerdict = ({ files }) =>
   files.flatMap((record) => Object.keys(AUDIENCES).map((audience) => [record, audience]));
 
 // Since when a file is to an audience as it is now.
-function sinceOf({ things, changes, none, isWhole }, record, audience) {
-  if (none) return `since when: ${none}`;
-  const file = { label: record[EFFECT_AT[audience] + 1], slot: Number(record[COLUMNS.slot]), audience, isWhole };
-  return changes ? sinceWords(things, file, changes) : UNREAD;
+function sinceOf(disk, record, audience) {
+  if (disk.none) return `since when: ${disk.none}`;
+  return disk.changes ? sinceWords(disk.things, record, audience, disk) : UNREAD;
 }
 
 function fileRow(record) {

@@ -1,10 +1,11 @@
 // Who put what stands, when and why, as the journal says; and what it says of a day that is over.
-import { Refused, counted, listOf, meaning } from "./shared.js";
+import { Refused, counted, meaning } from "./shared.js";
 import { UNKNOWN, bodyOf, changeWords, isUnknown, ruleOfBody, spaced, tried } from "./staff.changes.js";
 import { held, readHeld, standing } from "./staff.desk.js";
+import { isFor } from "./staff.forecast.js";
 import { readBack } from "./staff.lines.js";
-import { COLUMNS } from "./staff.verdicts.js";
-import { RULES, listed, ruleWords, today } from "./staff.words.js";
+import { COLUMNS, EFFECT_AT, effectOf, fileOf, given } from "./staff.verdicts.js";
+import { AUDIENCES, RULES, dayAfter, listed, ruleWords } from "./staff.words.js";
 
 // What stands: a word for it, the place of the changes that put it, and whether the body of one says what stands.
 const thing = (word, place, isSaid) => ({ word, place, isSaid });
@@ -52,52 +53,110 @@ async function journalTo(isEnough, tools) {
 }
 
 // For each of some things that stand, the words that say who put it, when and why, and the change that did, if that is
-// in the journal; and the changes that were read, or why none could be.
-export async function originsOf(things, tools) {
-  // (what a deed's rule has replaced since the disk came may stand in older lines)
-  const isTold = (one, places, { put } = originOf(one, places)) =>
-    put && (one.name !== "rules" || places.get(one.place).at(-1).at <= originOf(things[0], places).put?.at);
-  const isEnough = (changes, places = byPlaces(changes)) => things.every((one) => isTold(one, places));
+// in the journal; and the changes that were read, or why none could be. Where the first thing is a disk, and some files
+// of it are given, they are read back to where they say since when these are as they are.
+export async function originsOf(things, tools, { files = [], day } = {}) {
+  const all = files.flatMap((record) => Object.keys(AUDIENCES).map((audience) => seenBy(record, audience)));
+  const isOpen = (found, own) => all.some((one) => turnOf(found, one, own, day).isOpen);
+  const isEnough = (changes, places = byPlaces(changes)) => {
+    const found = things.map((one) => ({ ...one, put: originOf(one, places).put }));
+    return found.every(({ put }) => put) && !(day && isOpen(found, changes.filter(ofDisk(things[0].place))));
+  };
   const { changes, places, far, none } = await journalTo(isEnough, tools);
   const toldOf = (one, found) => ({ origin: none || originWords(one, found, far), put: found.put });
   return { told: things.map((one) => toldOf(one, originOf(one, places))), changes, none, isWhole: far.isWhole };
 }
 
-export const SINCE = `In the journal since: from then on it has no change of the disk, of the rule that decides, or of \
-a rule before that. A rule that was replaced does not count where the journal says that it let these readers do the \
-same with the file on all days; nor do rules for another file by its slot, or for other readers. It may have been so \
-for longer: what other rules did before, the page does not reckon. A takedown counts as new where the journal has \
-nothing before it.`;
+export const SINCE = `In the journal since: so far back it has nothing by which these readers could do anything else \
+with the file, as the page reckons from all changes and days of the rules. A rule that was put counts as new where no \
+line says what stood there before.`;
 
-// The place of a rule in the order in which the desk tries them: takedowns come before the rules of a deed.
-function orderOf(place) {
-  const [, of, rank] = /^\/(images|deeds)\/[0-9]+\/rules\/([0-9]+)$/.exec(place) ?? [];
-  return Number(rank) + (of === "deeds" ? 10000 : 0);
+// Whether a change is of the takedowns of a disk, or of the rules of its deed, by the place of the disk.
+function ofDisk(path) {
+  const [, , accession, , deed] = path.split("/");
+  const begins = [`/images/${accession}/rules/`, `/deeds/${deed}/rules/`];
+  return ({ place }) => begins.some((one) => place.startsWith(one));
 }
 
-// Whether a rule can be for a file and an audience, by its slot and its audiences. One that is not known can be.
-const canBeFor = ({ audiences, select }, { slot, audience }) =>
-  (select?.slot ?? slot) === slot && (!Array.isArray(audiences) || audiences.includes(audience));
+const PLACE = /^\/(images|deeds)\/([0-9]+)\/rules\/([0-9]+)$/;
+const wordsOf = (place, [, of, scope, rank] = PLACE.exec(place)) =>
+  RULES[of === "deeds" ? "rules" : "takedowns"].words(scope, rank);
 
-// Whether a change can concern a file and an audience, by the rule that it puts or by one that may have stood there.
-// Of a deed's rule older lines may not be read, so one that is not known may have stood; of a disk's takedowns all are.
-function concerns({ place, method, body, stood }, file) {
-  const before = place.startsWith("/deeds/") ? stood : stood.filter((one) => one !== undefined);
-  const bodies = method === "PUT" ? [body, ...before] : stood;
-  return bodies.some((one) => one !== null && canBeFor(bodyOf({ body: one }), file));
+// The order in which the desk tries the rules: takedowns come before the rules of a deed.
+const orderOf = (place, [, of, , rank] = PLACE.exec(place)) => Number(rank) + (of === "deeds" ? 10000 : 0);
+
+// What a body puts: a rule, null for none, undefined where nobody knows.
+function ruleFrom(body) {
+  const rule = body === null ? null : tried(() => ruleOfBody(bodyOf({ body })), undefined);
+  return rule && tried(() => ruleWords(rule) && rule, undefined);
 }
 
-// The change since which the rule that decides, or those that it replaced, let an audience do the same with a file: the
-// latest at its place before which anything else may have stood. (Which files are of a name, a type or a user only the
-// desk says: rules with the same words for these are for the same files.)
-function firstOf({ rule, ...own }, { slot, audience }, changes) {
-  const words = JSON.stringify(rule.select);
-  const isFor = (select) => select?.all || select?.slot === slot || JSON.stringify(select) === words;
-  const isAlike = ({ audiences, effect, select, from, until }) =>
-    effect === rule.effect && listOf(audiences).includes(audience) && isFor(select) && !(from || until || rule.from);
-  const isSame = (body) => isOf(own, { method: "PUT", body }) || isAlike(bodyOf({ body }));
-  const isFirst = ({ stood }) => stood.length === 0 || !stood.every(isSame);
-  return changes.find((one) => one.place === own.place && counts(one) && isFirst(one));
+// What may have stood at the place of a change before it, and after it. (A disk's first takedown had none before it, as
+// all lines of the disk are read. Of a deed's rule older lines may not be.)
+const isFirst = ({ place, method }) => method === "PUT" && !place.startsWith("/deeds/");
+const before = (change) => change.stood.map((body) => ruleFrom(body === undefined && isFirst(change) ? null : body));
+const after = (change) =>
+  [ruleFrom(change.method === "PUT" ? change.body : null), ...(isUnknown(change) ? before(change) : [])];
+
+const isSame = (one, other) => (one && other ? ruleWords(one) === ruleWords(other) : one === other);
+
+// What decides on a file on a day, by what may have stood at the places of rules, in their order: each rule that may.
+function decidersOf(stood, file, day) {
+  const found = [];
+  for (const [place, rules] of stood) {
+    const hits = rules.filter((rule) => rule === undefined || (rule && isFor(rule, file, file.audience, day)));
+    found.push(...hits.map((rule) => ({ place, rule })));
+    if (hits.length === rules.length) return found;
+  }
+  return [...found, { place: "", rule: null }];
+}
+
+// The days after one and up to another on which a rule began or ended, from the latest on.
+function turningDays(stood, from, last) {
+  const days = [...stood.values()].flat().flatMap((rule) => [rule?.from, rule?.until]);
+  return [...new Set(days)].filter((day) => day > from && day <= last).sort().reverse();
+}
+
+// What decided on a file, back from a day to when its disk came: at first then, and before each day and each change.
+// Where the desk has something else than the latest change at a place says, either may have stood since.
+function* stepsBack([disk, ...rules], file, changes, today) {
+  const since = changes.filter((one) => PLACE.test(one.place) && counts(one) && one.at > disk.put.at);
+  const now = new Map([...since.map(({ place }) => [place, null]), ...rules.map(({ place, rule }) => [place, rule])]);
+  const places = [...now.keys()].sort((one, other) => orderOf(one) - orderOf(other));
+  const stood = new Map(places.map((place) => [place, [now.get(place)]]));
+  let last = today;
+  yield { found: decidersOf(stood, file, last) };
+  for (const change of [...since, disk.put]) {
+    const from = change.moment.slice(0, 10);
+    for (const day of turningDays(stood, from, last)) yield { day, found: decidersOf(stood, file, dayAfter(day, -1)) };
+    if (change === disk.put) return;
+    if (from < last) last = from;
+    const stands = now.get(change.place);
+    now.delete(change.place);
+    if (stands !== undefined && !after(change).some((rule) => isSame(rule, stands))) {
+      stood.set(change.place, [...after(change), stands]);
+      yield { change, found: decidersOf(stood, file, last) };
+    }
+    stood.set(change.place, before(change));
+    yield { change, found: decidersOf(stood, file, last) };
+  }
+}
+
+// A file as an audience has it.
+const seenBy = (record, audience) => ({ ...fileOf(record), audience, effect: effectOf(record, audience) });
+
+// The latest change or day before which a file may have been otherwise to an audience; what decides since, and what
+// decides now; and whether older lines may say more. Where the rules that were read say otherwise even now: neither.
+function turnOf(things, file, changes, day) {
+  const effectBy = ({ rule }) => rule !== undefined && given(rule?.effect ?? "deny", file.isServed);
+  const steps = stepsBack(things, file, changes, day);
+  let [now, then] = [];
+  for (const { found, ...turn } of steps) {
+    const isOpen = found.some(({ place, rule }) => rule === undefined && place.startsWith("/deeds/"));
+    if (found.some((one) => effectBy(one) !== file.effect)) return { ...turn, before: found, then, now, isOpen };
+    [now, then] = [now ?? found[0], found];
+  }
+  return { change: things[0].put, then, now };
 }
 
 // When and by whom something was done, and what, in short.
@@ -105,26 +164,25 @@ function doneWords(change, what = changeWords({ ...change, body: "", stood: [] }
   return byWords({ ...change, reason: isUnknown(change) ? `${what} (${UNKNOWN})` : what });
 }
 
-// Since when a file is to an audience as it is now, as far as the changes of its disk and its deed say: the latest of
-// these, and of the days on which a rule began or ended, that can concern both. `label` is of the rule that decides.
-export function sinceWords([disk, ...rules], { label, isWhole, ...file }, changes) {
+// What began or ended on a day.
+function dayWords({ day, before: ended, then }) {
+  const [over, begun] = [[ended, "until", "ended"], [then, "from", "began"]].map(([found, key, did]) =>
+    found.filter(({ rule }) => rule?.[key] === day).map(({ place }) => `${wordsOf(place)} ${did}`));
+  return `${day} (${listed([...over, ...begun])})`;
+}
+
+// Since when a file is to an audience as it is now, as far as the changes of its disk and its deed say.
+export function sinceWords(things, record, audience, { changes, isWhole, asked }) {
+  const [[disk, ...rules], label] = [things, record[EFFECT_AT[audience] + 1]];
   const own = rules.find((one) => one.label === label);
   const far = isWhole ? "" : ", as far as it was read";
   if (!disk.put || !(own ? own.put : label === "D0")) return `since when: not in the journal${far}`;
-  const order = own ? orderOf(own.place) : Infinity;
-  const first = own && firstOf(own, file, changes);
-  const done = changes.filter((one) => counts(one) && orderOf(one.place) < order && concerns(one, file));
-  if (own) done.push(first);
-  done.sort((one, other) => one.at - other.at);
-  const later = own && first.at < own.put.at ? "; what has replaced it is the same for them" : "";
-  const before = rules.filter(({ place, rule }) => orderOf(place) < order && canBeFor(rule, file));
-  const days = [[own?.rule.from, label, "began"], ...before.map((one) => [one.rule.until, one.label, "ended"])];
-  const turns = days.filter(([day]) => day && day <= today()).map(([day, of, did]) => `${day} (${meaning(of)} ${did})`);
-  // These texts begin with their moments or days, and a day comes before its moments. Of one second the last counts.
-  const words = done.map((one) => doneWords(one) + (one === first ? later : ""));
-  const texts = [...turns, doneWords(disk.put, "taken in"), ...words];
-  const latest = texts.reduce((last, text) => (text.slice(0, 19) < last.slice(0, 19) ? last : text));
-  return `in the journal since ${latest}`;
+  const { then, now, ...turn } = turnOf(things, seenBy(record, audience), changes, asked.day);
+  if (!now) return "since when: not known, for what stands has changed meanwhile";
+  if (turn.change === disk.put) return `in the journal since ${doneWords(disk.put, "taken in")}`;
+  const isLater = then.some(({ place, rule }) => place !== now.place || !isSame(rule, now.rule));
+  const words = turn.day ? dayWords({ ...turn, then }) : doneWords(turn.change);
+  return `in the journal since ${words}${isLater ? "; what has come since is the same for them" : ""}`;
 }
 
 // What is not known to have been so on a day that is over: words for a disk or a rule that stands; "" where it was so.

@@ -26,6 +26,12 @@ export async function verdictsOf({ accession, files }, day, { signal }) {
 export const nameOf = (record) => shownName(record[COLUMNS.kind], record[COLUMNS.name]);
 export const namesOf = (files) => new Map(files.map((record) => [Number(record[COLUMNS.slot]), nameOf(record)]));
 
+// A file as rules select it.
+export function fileOf(record) {
+  const [slot, user, name, type, size] = record.slice(COLUMNS.slot, COLUMNS.faults);
+  return { slot: Number(slot), user: user === "" ? null : Number(user), name, type, isServed: size !== "" };
+}
+
 // The desk gives out a file only where it has a size: without one, `read` is no more than `list`.
 export const given = (effect, isServed) => (effect === "read" && !isServed ? "list" : effect);
 export const effectOf = (record, audience) => given(record[EFFECT_AT[audience]], record[COLUMNS.size] !== "");
