@@ -52,6 +52,15 @@ def test_rule_is_put_changed_and_dropped(staff):
     assert shown["result"] == ["Done: there is no rule 20 of deed 8 now."]
     assert (shown["stands"], shown["rows"]) == (["There is no rule of deed 8."], [])
 
+def test_rule_that_is_over_or_has_not_begun_is_marked_where_it_stands(museum, staff):
+    days = [(None, TODAY), ("2020-01-01", "2026-06-15"), ("2026-06-16", None), ("2020-01-01", "2026-06-16")]
+    due = [f"ended on {TODAY}", f"from 2020-01-01, ended on {TODAY}", "not begun: from 2026-06-16",
+           "from 2020-01-01, until 2026-06-16"]
+    museum.rules["R9"] = {rank: museums.rule(rank, "deny", ["public"], None, *of) for rank, of in enumerate(days, 1)}
+    for place, at in (("rules/9", 5), ("disk/1002", 4)):
+        assert [row[at] for row in staff.go(place)["rows"] if "deed 9" in row[0] or len(row) > 6][-4:] == due, place
+    assert [f"closed to the public, {words}" in staff.go("deeds")["rows"][2][4] for words in due] == [True] * 4
+
 def test_rules_that_are_put_again_stay_as_they_were(museum, staff):
     ways = [({"slot": 0}, "the file at slot 0"), ({"user": 15}, "files of user 15"),
             ({"type": "PRG"}, "files of type \u201cPRG\u201d"), ({"type": ""}, "files without a type"),
