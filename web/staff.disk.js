@@ -7,7 +7,7 @@ import { COLUMNS as CHANGES, changeRow } from "./staff.journal.js";
 import { audienceCounts } from "./staff.forecast.js";
 import { SINCE, originsOf, sinceWords, standingDisk, standingRule } from "./staff.origins.js";
 import { placeOf } from "./staff.ranks.js";
-import { rehearsalDays, rehearsed, saveFirst } from "./staff.rehearsal.js";
+import { decidedWords, rehearsalDays, rehearsed, saveFirst } from "./staff.rehearsal.js";
 import { makeRuleForm, ruleIn } from "./staff.ruleform.js";
 import { putMany } from "./staff.rules.js";
 import { saveTable, saver } from "./staff.saved.js";
@@ -187,8 +187,9 @@ async function takeDown(records, tools) {
   const not = (one) => !stands(one);
   const said = () => `These stand: ${those(commands.filter(stands))}. These do not: ${those(commands.filter(not))}.`;
   const cells = ({ slot, name, rank }) => [accession, slot, name, rank].map(String);
-  const more = { after: (how) => readDisk(accession, how), more: said, heads: ["Disk", "Slot", "File", "Rank"], cells };
-  return putMany("disk", commands, { ...more, of: `disk-${accession}` }, tools);
+  const decide = () => decidedWords(shown.files, commands.filter(stands), shown.asked.day);
+  const more = { after: (how) => readDisk(accession, how), more: said, decide, of: `disk-${accession}` };
+  return putMany("disk", commands, { ...more, heads: ["Disk", "Slot", "File", "Rank"], cells }, tools);
 }
 
 export async function open(accession, tools) {

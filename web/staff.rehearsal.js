@@ -2,8 +2,10 @@
 import { shownName } from "./names.js";
 import { box, button, counted, element, loaded, part } from "./shared.js";
 import { dated, refusedWork, sure } from "./staff.desk.js";
-import { COLUMNS, given, readVerdicts, verdictsOf } from "./staff.verdicts.js";
-import { EFFECTS, audienceWords, dayAfter, isOnNoDay, listed, today } from "./staff.words.js";
+import { isFor } from "./staff.forecast.js";
+import { COLUMNS, EFFECT_AT, effectOf, fileOf, given } from "./staff.verdicts.js";
+import { readVerdicts, ruleMeaning, verdictsOf } from "./staff.verdicts.js";
+import { AUDIENCES, EFFECTS, SHORT, audienceWords, dayAfter, isOnNoDay, listed, today } from "./staff.words.js";
 import { readTable } from "./stream.js";
 
 const ORDER = ["deny", "list", "read"];
@@ -141,6 +143,32 @@ export function dayParts({ words, groups, past, none }, before) {
   if (isSame) return [heading, element("p", "The same as on the day above.")];
   return [heading, ...groups.flatMap((group) => groupParts(group, past))];
 }
+
+// What a file is to an audience, in words; and by which rule, where that is another one than a takedown that was put.
+function decidedBy(record, audience, { scope, rank }) {
+  const label = record[EFFECT_AT[audience] + 1];
+  const before = label.startsWith("T") && Number(label.split(".")[1]) < rank ? ", which comes before it" : "";
+  const by = label === `T${scope}.${rank}` ? "" : ` (${ruleMeaning(label)}${before})`;
+  return `${SHORT[effectOf(record, audience)]} ${AUDIENCES[audience]}${by}`;
+}
+
+// What the desk's verdicts of a day say of the files of takedowns of a disk that were put.
+export function decidedWords(files, commands, day) {
+  const found = commands.flatMap((command) => command.rule.audiences.flatMap((audience) => {
+    const isOf = (record) => isFor({ ...command.rule, from: null, until: null }, fileOf(record), audience, day);
+    return files.filter(isOf).map((record) => decidedBy(record, audience, command));
+  }));
+  const counts = [...Map.groupBy(found, (words) => words)];
+  const words = listed(counts.map(([text, { length }]) => `${counted(length, "file")} ${text}`));
+  return `What the desk's verdicts on ${day} say of the files that are meant: ${words || "there is none"}.`;
+}
+
+// The same, once the desk is asked.
+export const decidedNow = (commands, tools) =>
+  verdictsOf({ accession: commands[0].scope }, today(), tools).then(
+    (files) => decidedWords(files, commands, today()),
+    () => "The page could not ask the desk what readers get of it now.",
+  );
 
 // A button that saves who gets what of a disk, as the desk says now, before a question is answered, and what says so:
 // afterwards nobody can have it. While it saves, the answer cannot be yes; where the question is left, it stops.

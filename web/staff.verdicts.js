@@ -56,7 +56,7 @@ export function mayWords(record, audience, asked) {
   return `${MAY[effectOf(record, audience)]}${why && ` (${why})`}`;
 }
 
-const ruleMeaning = (label) => (label === "D0" ? "no rule matches" : meaning(label));
+export const ruleMeaning = (label) => (label === "D0" ? "no rule matches" : meaning(label));
 
 // The rule that decides, in words.
 export const ruleShown = (record, audience) =>

@@ -163,11 +163,13 @@ def test_files_ticked_by_their_shown_names_are_taken_down_and_what_stands_after_
         shown = disk.push("Go on with the rest")
         assert (shown["result"][0], *disk.script(SEEN)) == ("2 takedowns put, 0 failed.", True, "status")
     assert [row[5] for row in shown["rows"][:3]] == [CLOSED.format(10), LISTS, CLOSED.format(20)]
+    says = f"What the desk's verdicts on {TODAY} say of the files that are meant: 2 files closed to the public"
+    assert f"{says} and 2 files closed to the reading room." in shown["result"]
     assert "Save the report" not in str(disk.go("disk/1003")["result"]) and disk.go("keys") and disk.go("disk/1002")
     due = [["1002", slot, name, rank, f"the file at slot {slot} {ALWAYS}", "done"] for name, rank, slot in rules]
     heads, *rows = saved_table(disk, "disk-1002-report-of", "Save the report")
     assert [row[2:8] for row in rows] == due and "of each. It does not say what stands since. Whoever" in rows[0][1]
-    assert "desk-visits.log on the museum's machine says for 14" in rows[0][1], "who fetched them before is not said"
+    assert f"(OPERATING, Logs). {says} and 2" in rows[0][1], "who fetched them before is not said"
     zone = disk.script("return Intl.DateTimeFormat().resolvedOptions().timeZone")
     assert heads[1].endswith(f"by the computer that saved this, in the zone {zone})"), "in nobody's zone"
     words = "slot (the file's place on its disk, counted from 0)", "rank (a place in the order of rules, lowest first)"
