@@ -2,13 +2,16 @@
 
 from staff_helpers import OLDER, journal_lines, lost_at, moment, put_deed
 from support import museums
-from support.browser import TODAY
+from support.browser import TODAY, wait_for
 from support.samples import digest
 
 EVERYBODY = "the public, the reading room and the staff"
 RULE_20 = ["20", EVERYBODY, "all files", "read them", "until further notice", "ChangeDrop"]
 STAFF, OTHER, RESTORE = digest(b"abc"), digest(b"another"), " Restore a backup of what is changed."
 START, NOBODY = 1_800_000_000, "Nobody can use it any more."
+# A script: the index that each row of the list has for a screen reader, and its number.
+ROWS = """return Array.from(document.querySelectorAll("#checks tbody tr:not(.space)"),
+  (row) => [Number(row.ariaRowIndex), Number(row.cells[0].textContent)]);"""
 NOT = f"not in the journal, back to {moment(START).replace('T', ' ')}, where it begins"
 
 def test_deed_is_put_with_name_and_reason(staff):
@@ -87,6 +90,24 @@ def test_long_list_stays_sorted_and_filtered_when_it_is_read_anew(museum, staff)
     assert numbers() == [*range(1006, 1000, -1), *range(30, 0, -1)]
     staff.type("Only rows with", "2026-01")
     assert (numbers(), staff.text("#checks label [role=status]")) == ([1003, 1002, 1001], "3 of 36 shown")
+
+def test_long_list_has_its_rows_in_order_keeps_the_focus_and_is_printed_whole(museum, staff):
+    for number in range(1, 91):
+        museums.put(museum, number, "cpm8", 9, museum.images[1001].bytes)
+    due = [*range(1, 91), *range(1001, 1007)]
+    assert staff.go("checks") and staff.script(ROWS)[-1][0] < 90, "the test needs a list that is drawn in part"
+    staff.script("document.querySelector('[aria-label=\"Check disk 30\"]').focus()")
+    for far in (0, 1e6, 900, 0):
+        staff.script("scrollTo(0, arguments[0]); window.later = 0; setTimeout(() => (window.later = 1), 300)", far)
+        wait_for("what comes with the scrolling", lambda: staff.script("return window.later"))
+        drawn = staff.script(ROWS)
+        assert drawn == [[due.index(number) + 2, number] for _, number in drawn] == sorted(drawn) and drawn, far
+        assert due[-1] in [number for _, number in drawn] or far < 1e6, "the end is not drawn where it is seen"
+        assert staff.focused() == "Check disk 30", "a row with the focus is gone"
+    staff.script(f"addEventListener('afterprint', () => (window.printed = (() => {{ {ROWS} }})()))")
+    assert staff.cdp("Page.printToPDF")["data"]
+    assert staff.script("return window.printed") == [[at, number] for at, number in enumerate(due, 2)]
+    wait_for("rows that the screen has no need of to go", lambda: len(staff.script(ROWS)) < 96)
 
 def test_key_is_put_given_away_and_dropped(museum, staff):
     rows = staff.go("keys")["rows"]
