@@ -3,20 +3,17 @@
 import { shownName } from "./names.js";
 import { box, cell, element, grouped, table } from "./shared.js";
 
-// Up to how many rows a table is drawn whole, and how many rows a block has.
-const [WHOLE, BLOCK] = [50, 20];
-// How far from the screen blocks are drawn, and how high a row is before one was measured, in pixels.
-const [NEAR, ROW] = [1200, 40];
+// Up to how many rows a table is drawn whole, and how many a block has; in pixels, how far from the screen blocks are
+// drawn, and how high a row is before one was measured.
+const [WHOLE, BLOCK, NEAR, ROW] = [50, 20, 1200, 40];
 
-// While the page is printed, all rows of each table that is shown are drawn; then the screen decides again.
+// While the page is printed, all rows of each table that is shown are drawn.
 let isPrinted = false;
-for (const event of ["beforeprint", "afterprint"]) {
-  window.addEventListener(event, () => {
-    isPrinted = event === "beforeprint";
-    const bodies = document.querySelectorAll("table[aria-rowcount] tbody");
-    for (const one of bodies) if (one.checkVisibility()) one.turn();
-  });
-}
+window.addEventListener("beforeprint", () => {
+  isPrinted = true;
+  for (const one of document.querySelectorAll("[aria-rowcount] tbody")) if (one.checkVisibility()) one.print();
+});
+window.addEventListener("afterprint", () => (isPrinted = false));
 
 // The bodies of a table: a block or a gap, each for the blocks from its first to before its end.
 function bodiesOf(items, rowOf, columns) {
@@ -28,12 +25,7 @@ function bodiesOf(items, rowOf, columns) {
   };
   const observer = new IntersectionObserver((all) => all.forEach(see), { rootMargin: `${NEAR}px 0px` });
   const body = (rows, fields) => {
-    const made = Object.assign(box("tbody", "", ...rows), fields);
-    made.turn = () => {
-      if (isPrinted && !made.isDrawn) draw(made, 0);
-      observer.unobserve(made);
-      observer.observe(made);
-    };
+    const made = Object.assign(box("tbody", "", ...rows), fields, { print: () => fields.isDrawn || draw(made, 0) });
     observer.observe(made);
     return made;
   };

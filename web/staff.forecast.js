@@ -35,7 +35,5 @@ export function countWords(audience, countOf) {
 export const audienceCounts = (countOf) =>
   Object.keys(AUDIENCES).map((audience) => countWords(audience, (effect) => countOf(audience, effect)));
 
-export function forecastWords(forecasts) {
-  const effectsOf = (audience) => forecasts.flatMap((one) => one[audience]);
-  return audienceCounts((audience, effect) => effectsOf(audience).filter((one) => one === effect).length);
-}
+export const forecastWords = (forecasts) =>
+  audienceCounts((of, effect) => forecasts.flatMap((one) => one[of]).filter((one) => one === effect).length);

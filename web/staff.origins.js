@@ -6,6 +6,7 @@ import { isFor } from "./staff.forecast.js";
 import { readBack } from "./staff.lines.js";
 import { COLUMNS, EFFECT_AT, effectOf, fileOf, given } from "./staff.verdicts.js";
 import { AUDIENCES, RULES, dayAfter, listed, ruleWords } from "./staff.words.js";
+import { keeper } from "./stream.js";
 
 // What stands: a word for it, the place of the changes that put it, and whether the body of one says what stands.
 const thing = (word, place, isSaid) => ({ word, place, isSaid });
@@ -18,10 +19,10 @@ export const standingDisk = ({ accession, kind, deed }) =>
 // Whether a change says what stands: the desk takes no body that is not of its form.
 const isOf = ({ isSaid }, change) => change.method === "PUT" && tried(() => isSaid(bodyOf(change)), false);
 
-// Changes by what they are of, each from the newest on.
+// Changes by what they are of, each from the newest on; whether they go back to a day; and whether one was done, as far
+// as anybody knows.
 const byPlaces = (changes) => Map.groupBy(changes, ({ place }) => place);
-
-// Whether a change was done, as far as anybody knows.
+const goBackTo = (day, changes) => changes.at(-1)?.moment.slice(0, 10) <= day;
 const counts = (change) => change.status === "200" || isUnknown(change);
 
 // The first change that put what stands, of those since which nothing else was put there, and what was there before;
@@ -52,15 +53,14 @@ async function journalTo(isEnough, tools) {
   return { changes, places: byPlaces(changes), far, none: fault ? none : "" };
 }
 
-// For each of some things that stand, the words that say who put it, when and why, and the change that did, if that is
-// in the journal; and the changes that were read, or why none could be. Where the first thing is a disk, and some files
-// of it are given, they are read back to where they say since when these are as they are.
+// For each of some things that stand: words for who put it, when and why, and the change; and all changes that were
+// read, or why none could be. With files of a disk, the first thing, they go back to where they say since when.
 export async function originsOf(things, tools, { files = [], day } = {}) {
-  const all = files.flatMap((record) => Object.keys(AUDIENCES).map((audience) => seenBy(record, audience)));
-  const isOpen = (found, own) => all.some((one) => turnOf(found, one, own, day).isOpen);
+  const isOpen = (found, own) => files.some((record) =>
+    Object.keys(AUDIENCES).some((audience) => turnOf(found, [record, audience], own, day).isOpen));
   const isEnough = (changes, places = byPlaces(changes)) => {
     const found = things.map((one) => ({ ...one, put: originOf(one, places).put }));
-    return found.every(({ put }) => put) && !(day && isOpen(found, changes.filter(ofDisk(things[0].place))));
+    return found.every(({ put }) => put) && !(day && isOpen(found, changes.filter(isOfDisk(things[0]))));
   };
   const { changes, places, far, none } = await journalTo(isEnough, tools);
   const toldOf = (one, found) => ({ origin: none || originWords(one, found, far), put: found.put });
@@ -71,34 +71,25 @@ export const SINCE = `In the journal since: so far back it has nothing by which 
 with the file, as the page reckons from all changes and days of the rules. A rule that was put counts as new where no \
 line says what stood there before.`;
 
-// Whether a change is of the takedowns of a disk, or of the rules of its deed, by the place of the disk.
-function ofDisk(path) {
-  const [, , accession, , deed] = path.split("/");
-  const begins = [`/images/${accession}/rules/`, `/deeds/${deed}/rules/`];
-  return ({ place }) => begins.some((one) => place.startsWith(one));
+// Whether a change is of the takedowns of a disk or of the rules of its deed.
+function isOfDisk(disk, [, , accession, , deed] = disk.place.split("/")) {
+  const its = new RegExp(`^/(images/${accession}|deeds/${deed})/rules/[0-9]+$`);
+  return ({ place }) => its.test(place);
 }
 
-const PLACE = /^\/(images|deeds)\/([0-9]+)\/rules\/([0-9]+)$/;
-const wordsOf = (place, [, of, scope, rank] = PLACE.exec(place)) =>
-  RULES[of === "deeds" ? "rules" : "takedowns"].words(scope, rank);
+// The order in which the desk tries rules, by their places, takedowns first; and words for a place.
+const partsOf = (place) => [place.startsWith("/deeds/"), ...place.match(/[0-9]+/g).map(Number)];
+const orderOf = (place, [isOfDeed, , rank] = partsOf(place)) => rank + (isOfDeed ? 10000 : 0);
+const placeWords = (place, [isOfDeed, ...of] = partsOf(place)) => RULES[isOfDeed ? "rules" : "takedowns"].words(...of);
 
-// The order in which the desk tries the rules: takedowns come before the rules of a deed.
-const orderOf = (place, [, of, , rank] = PLACE.exec(place)) => Number(rank) + (of === "deeds" ? 10000 : 0);
-
-// What a body puts: a rule, null for none, undefined where nobody knows.
-function ruleFrom(body) {
-  const rule = body === null ? null : tried(() => ruleOfBody(bodyOf({ body })), undefined);
-  return rule && tried(() => ruleWords(rule) && rule, undefined);
-}
-
-// What may have stood at the place of a change before it, and after it. (A disk's first takedown had none before it, as
-// all lines of the disk are read. Of a deed's rule older lines may not be.)
+// The rule that a body puts: null for none, undefined where nobody knows. What may have stood at the place of a change
+// before it (a disk's first takedown had none before it, as all lines of the disk are read), and after it.
+const ruleFrom = (body) => body && tried(() => [ruleOfBody(bodyOf({ body }))].find((one) => ruleWords(one)), undefined);
+const isSame = (one, other) => (one && other ? ruleWords(one) === ruleWords(other) : one === other);
 const isFirst = ({ place, method }) => method === "PUT" && !place.startsWith("/deeds/");
 const before = (change) => change.stood.map((body) => ruleFrom(body === undefined && isFirst(change) ? null : body));
 const after = (change) =>
   [ruleFrom(change.method === "PUT" ? change.body : null), ...(isUnknown(change) ? before(change) : [])];
-
-const isSame = (one, other) => (one && other ? ruleWords(one) === ruleWords(other) : one === other);
 
 // What decides on a file on a day, by what may have stood at the places of rules, in their order: each rule that may.
 function decidersOf(stood, file, day) {
@@ -111,65 +102,49 @@ function decidersOf(stood, file, day) {
   return [...found, { place: "", rule: null }];
 }
 
-// The days after one and up to another on which a rule began or ended, from the latest on.
-function turningDays(stood, from, last) {
-  const days = [...stood.values()].flat().flatMap((rule) => [rule?.from, rule?.until]);
-  return [...new Set(days)].filter((day) => day > from && day <= last).sort().reverse();
-}
-
-// What decided on a file, back from a day to when its disk came: at first then, and before each day and each change.
-// Where the desk has something else than the latest change at a place says, either may have stood since.
+// What decided on a file, back from a day to when its disk came: at first then, and before each day on which a rule
+// began or ended, and each change. Where the desk has not what the latest change says, either may have stood since.
 function* stepsBack([disk, ...rules], file, changes, today) {
-  const since = changes.filter((one) => PLACE.test(one.place) && counts(one) && one.at > disk.put.at);
+  const since = changes.filter((one) => one.at > disk.put.at && counts(one) && isOfDisk(disk)(one));
   const now = new Map([...since.map(({ place }) => [place, null]), ...rules.map(({ place, rule }) => [place, rule])]);
-  const places = [...now.keys()].sort((one, other) => orderOf(one) - orderOf(other));
-  const stood = new Map(places.map((place) => [place, [now.get(place)]]));
+  const inOrder = [...now].sort(([one], [other]) => orderOf(one) - orderOf(other));
+  const stood = new Map(inOrder.map(([place, rule]) => [place, [rule]]));
   let last = today;
   yield { found: decidersOf(stood, file, last) };
   for (const change of [...since, disk.put]) {
     const from = change.moment.slice(0, 10);
-    for (const day of turningDays(stood, from, last)) yield { day, found: decidersOf(stood, file, dayAfter(day, -1)) };
+    const all = new Set([...stood.values()].flat().flatMap((rule) => [rule?.from, rule?.until]));
+    const days = [...all].filter((day) => day > from && day <= last).sort().reverse();
+    for (const day of days) yield { day, found: decidersOf(stood, file, dayAfter(day, -1)) };
     if (change === disk.put) return;
     if (from < last) last = from;
-    const stands = now.get(change.place);
+    const [rule, then] = [now.get(change.place), after(change)];
     now.delete(change.place);
-    if (stands !== undefined && !after(change).some((rule) => isSame(rule, stands))) {
-      stood.set(change.place, [...after(change), stands]);
-      yield { change, found: decidersOf(stood, file, last) };
-    }
+    if (rule !== undefined && !then.some((one) => isSame(one, rule))) stood.get(change.place).push(...then);
+    yield { change, found: decidersOf(stood, file, last) };
     stood.set(change.place, before(change));
     yield { change, found: decidersOf(stood, file, last) };
   }
 }
 
-// A file as an audience has it.
-const seenBy = (record, audience) => ({ ...fileOf(record), audience, effect: effectOf(record, audience) });
-
-// The latest change or day before which a file may have been otherwise to an audience; what decides since, and what
-// decides now; and whether older lines may say more. Where the rules that were read say otherwise even now: neither.
-function turnOf(things, file, changes, day) {
-  const effectBy = ({ rule }) => rule !== undefined && given(rule?.effect ?? "deny", file.isServed);
-  const steps = stepsBack(things, file, changes, day);
-  let [now, then] = [];
-  for (const { found, ...turn } of steps) {
+// The latest change or day before which a file may have been otherwise to an audience, with what may have decided then;
+// what decides since, and now; and whether older lines may say more. No `now` where what stands has changed meanwhile.
+function turnOf(things, [record, audience], changes, day) {
+  const file = { ...fileOf(record), audience };
+  const isNow = ({ rule }) =>
+    rule !== undefined && given(rule?.effect ?? "deny", file.isServed) === effectOf(record, audience);
+  let [now, since] = [];
+  for (const { found, ...turn } of stepsBack(things, file, changes, day)) {
     const isOpen = found.some(({ place, rule }) => rule === undefined && place.startsWith("/deeds/"));
-    if (found.some((one) => effectBy(one) !== file.effect)) return { ...turn, before: found, then, now, isOpen };
-    [now, then] = [now ?? found[0], found];
+    if (!found.every(isNow)) return { ...turn, found, since, now, isOpen };
+    [now, since] = [now ?? found[0], found];
   }
-  return { change: things[0].put, then, now };
+  return { change: things[0].put, since, now };
 }
 
 // When and by whom something was done, and what, in short.
-function doneWords(change, what = changeWords({ ...change, body: "", stood: [] })) {
-  return byWords({ ...change, reason: isUnknown(change) ? `${what} (${UNKNOWN})` : what });
-}
-
-// What began or ended on a day.
-function dayWords({ day, before: ended, then }) {
-  const [over, begun] = [[ended, "until", "ended"], [then, "from", "began"]].map(([found, key, did]) =>
-    found.filter(({ rule }) => rule?.[key] === day).map(({ place }) => `${wordsOf(place)} ${did}`));
-  return `${day} (${listed([...over, ...begun])})`;
-}
+const doneWords = (change, what = changeWords({ ...change, body: "", stood: [] })) =>
+  byWords({ ...change, reason: isUnknown(change) ? `${what} (${UNKNOWN})` : what });
 
 // Since when a file is to an audience as it is now, as far as the changes of its disk and its deed say.
 export function sinceWords(things, record, audience, { changes, isWhole, asked }) {
@@ -177,12 +152,15 @@ export function sinceWords(things, record, audience, { changes, isWhole, asked }
   const own = rules.find((one) => one.label === label);
   const far = isWhole ? "" : ", as far as it was read";
   if (!disk.put || !(own ? own.put : label === "D0")) return `since when: not in the journal${far}`;
-  const { then, now, ...turn } = turnOf(things, seenBy(record, audience), changes, asked.day);
+  const { change, day, found, since, now } = turnOf(things, [record, audience], changes, asked.day);
   if (!now) return "since when: not known, for what stands has changed meanwhile";
-  if (turn.change === disk.put) return `in the journal since ${doneWords(disk.put, "taken in")}`;
-  const isLater = then.some(({ place, rule }) => place !== now.place || !isSame(rule, now.rule));
-  const words = turn.day ? dayWords({ ...turn, then }) : doneWords(turn.change);
-  return `in the journal since ${words}${isLater ? "; what has come since is the same for them" : ""}`;
+  if (change === disk.put) return `in the journal since ${doneWords(change, "taken in")}`;
+  const isLater = since.some(({ place, rule }) => place !== now.place || !isSame(rule, now.rule));
+  const turned = (some, key, did) =>
+    some.filter(({ rule }) => rule?.[key] === day).map(({ place }) => `${placeWords(place)} ${did}`);
+  const words = day && `${day} (${listed([...turned(found, "until", "ended"), ...turned(since, "from", "began")])})`;
+  const later = isLater ? "; what has come since is the same for them" : "";
+  return `in the journal since ${words ?? doneWords(change)}${later}`;
 }
 
 // What is not known to have been so on a day that is over: words for a disk or a rule that stands; "" where it was so.
@@ -196,9 +174,6 @@ function pastWords(name, { put, before }, { day, reach, isFar }) {
   return `whether ${thing_} then the journal, ${back}, does not say${put ? `; put on ${since}` : ""}`;
 }
 
-// Whether changes, from the newest on, go back to a day.
-const goBackTo = (day, changes) => changes.at(-1)?.moment.slice(0, 10) <= day;
-
 // What the journal says of a day that is over: `others` gives, of a file and the rule that decides, what was other or
 // is not known; `words` says how much has changed since. (A promise takes what has a `then` for another promise.)
 export async function pastOf(day, tools) {
@@ -209,28 +184,22 @@ export async function pastOf(day, tools) {
     [`${RULES[name].letter}${scope}.${rule.rank}`, standingRule(RULES[name].path(scope, rule.rank), rule)];
   const things = new Map(Object.keys(RULES).flatMap((name) => standing(name).map((one) => labelled(one, name))));
   const signed = new Map(held.deeds.map((one) => [String(one.deed), one.signed]));
-  const told = new Map();
-  const tell = (key, name, one) => {
-    if (!told.has(key)) told.set(key, one ? pastWords(name, originOf(one, places), known) : "");
-    return told.get(key);
-  };
+  const told = (name, one) => (one ? pastWords(name, originOf(one, places), known) : "");
+  const diskTold = keeper((place) => told("", { ...standingDisk({}), place }));
+  const ruleTold = keeper((label) => told(meaning(label), things.get(label)));
   const others = (record, label) => {
     const [accession, deed, kind] = record.slice(COLUMNS.accession, COLUMNS.slot);
     const unsigned = signed.get(deed) > day && `not then: deed ${deed} was signed on ${signed.get(deed)}`;
     if (none) return [unsigned, `what stood then is not known: ${none}`];
-    const disk = tell(accession, "", standingDisk({ accession, deed, kind }));
-    return [unsigned, disk, tell(label, meaning(label), things.get(label))];
+    return [unsigned, diskTold(standingDisk({ accession, deed, kind }).place), ruleTold(label)];
   };
   const words = none ? `What has changed since then is not known: ${none}.` : changedWords(changes, known);
   return { others, words, then: none ? `what stood then is not known: ${none}.` : thenWords(changes, day) };
 }
 
-// How many changes since a day are named.
+// How many changes since a day are named; and the places of changes, by words for them.
 const MOST_NAMED = 10;
-
-// The places of changes, by words for them.
 const SORTS = { disk: "/accessions/", takedown: "/images/.*rules", rule: "/deeds/.*rules", deed: "/deeds/[0-9]+$" };
-
 const isSort = (sort) => ({ place }) => new RegExp(`^${sort}`).test(place);
 const isSince = (day) => ({ moment, status }) => moment.slice(0, 10) > day && status === "200";
 

@@ -2,12 +2,11 @@
 import { counted } from "./shared.js";
 import { RULES, isOver, listed, standingWords } from "./staff.words.js";
 
-const LAST_RANK = 9999;
+// The last rank; and how many takedowns before one are named.
+const [LAST_RANK, MOST_NAMED] = [9999, 5];
 // How far apart are ranks of takedowns of one file, and of others: one of a file has to fit before those.
 const [STEP, WIDE_STEP] = [10, 100];
 export const MOST_DISKS = 1000;
-// How many takedowns before one are named.
-const MOST_NAMED = 5;
 
 // The accessions of a list such as `1001-1011, 1020`, ascending, each once; null where it is none.
 export function accessionsIn(text) {

@@ -1,23 +1,17 @@
 // Rules of deeds, and takedowns: the forms that put and change them, and the tables of those that stand.
 import { listTable } from "./lists.js";
 import { cell, counted, element, loaded, part, row } from "./shared.js";
-import { buttonsCell, change, dated, diskCell, formOf, readHeld, rulesOf, send } from "./staff.desk.js";
+import { buttonsCell, change, dated, diskCell, formOf, listName, readHeld, rulesOf, send } from "./staff.desk.js";
 import { showChange, shownAnew, showsAnew, standing } from "./staff.desk.js";
 import { MOST_DISKS, accessionsIn, placeOf } from "./staff.ranks.js";
 import { fillRule, makeRuleForm, ruleIn } from "./staff.ruleform.js";
 import { RULES, VISITS, ruleTexts, ruleWords, standingWords } from "./staff.words.js";
 import { titleOf } from "./titles.js";
 
-// Of how many disks the page says one by one what their takedowns replace or follow.
+// Of how many disks the page says one by one what their takedowns replace or follow; the deeds or the disks that are
+// typed; and what only a change needs, which is loaded then.
 const MOST_NOTES = 10;
-
-// What is asked of the desk to have them anew.
-const READ = { rules: "deeds", takedowns: "takedowns" };
-
-// The deeds or the disks that are typed.
 const scopesIn = (name, typed) => (name === "rules" ? [Number(typed)] : (accessionsIn(typed) ?? []));
-
-// What only a change needs is loaded then.
 const rehearsals = () => loaded(import("./staff.rehearsal.js"));
 
 // Puts a rule at each place once the rehearsal is agreed to: at the rank that is typed, or else at a free one.
@@ -60,10 +54,8 @@ export async function putMany(section, commands, { heads, cells, ...more }, tool
   return sendMany(run, tools);
 }
 
-function placesWords(name, places) {
-  if (places.length === 1) return RULES[name].words(places[0].scope, places[0].rank);
-  return `a takedown of ${counted(places.length, "disk")}`;
-}
+const placesWords = (name, [{ scope, rank }, ...others]) =>
+  others.length ? `a takedown of ${counted(others.length + 1, "disk")}` : RULES[name].words(scope, rank);
 
 // What is to be said of the places: of one all, of many only what replaces something or comes after others.
 function placeNotes(places) {
@@ -126,7 +118,7 @@ function draw(name) {
 
 // Reads what stands anew, and shows it.
 async function showRules(name) {
-  await readHeld(READ[name]);
+  await readHeld(listName(name));
   draw(name);
   hint(name);
 }
@@ -144,9 +136,9 @@ function hint(name) {
 }
 
 // The section of rules or takedowns: where a deed or a disk is named, for that one.
-async function openRules(name, scope) {
+function openRules(name, scope) {
   if (scope !== undefined) formOf(name).elements.scope.value = scope;
-  await showRules(name);
+  return showRules(name);
 }
 
 function listenForRules(name) {

@@ -10,9 +10,8 @@ export const COLUMNS = { accession: 0, deed: 1, kind: 2, slot: 3, user: 4, name:
 export const EFFECT_AT = { public: 9, room: 11, staff: 13 };
 
 // Reads the verdicts of a day, and hands each record on.
-export function readVerdicts(day, take, { progress, signal }) {
-  return readTable(`/staff/verdicts/${day}`, { take, signal, progress: (count) => progress(`Reading ${day}`, count) });
-}
+export const readVerdicts = (day, take, { progress, signal }) =>
+  readTable(`/staff/verdicts/${day}`, { take, signal, progress: (count) => progress(`Reading ${day}`, count) });
 
 // The verdicts of one disk on a day.
 export async function verdictsOf({ accession, files }, day, { signal }) {
@@ -41,8 +40,7 @@ const MAY = {
   deny: "see only that a closed file is there, not its name",
 };
 
-// Why a file is only listed that a rule lets them read; and, of a day that is over, that its verdict is by the rules of
-// today, and what is known to have been other then.
+// Why a file is only listed that a rule lets them read; of a day that is over, by which rules, and what was other then.
 function because(record, audience, { rules, others }) {
   const faults = record[COLUMNS.faults].split(" ").map(explained).join("; ");
   const why = faults ? `damaged: ${faults}` : `the desk gives out no file of type ${record[COLUMNS.type]}`;
@@ -51,10 +49,8 @@ function because(record, audience, { rules, others }) {
   return [isListed && why, ...past].filter(Boolean).join("; ");
 }
 
-export function mayWords(record, audience, asked) {
-  const why = because(record, audience, asked);
-  return `${MAY[effectOf(record, audience)]}${why && ` (${why})`}`;
-}
+export const mayWords = (record, audience, asked, why = because(record, audience, asked)) =>
+  `${MAY[effectOf(record, audience)]}${why && ` (${why})`}`;
 
 export const ruleMeaning = (label) => (label === "D0" ? "no rule matches" : meaning(label));
 
