@@ -1,6 +1,5 @@
 // The staff's side of the desk: what stands there, changes to it, and the work of a section of the page.
 import { Refused, askObject, box, button, cell, element, fields, grouped, listOf, part, refusal } from "./shared.js";
-import { RULES } from "./staff.words.js";
 import { withTitle } from "./titles.js";
 
 // After these nobody here knows whether the desk has done what was sent. A command that is sent twice is done once.
@@ -26,9 +25,10 @@ export const readHeld = async (what, signal) =>
 
 // The rules of a deed, or the takedowns of a disk, that stood when they were read last; and all, each with its scope.
 export const listName = (name) => (name === "rules" ? "deeds" : name);
-export const rulesOf = (name, scope, number = RULES[name].of.toLowerCase()) =>
+const numberName = (name) => (name === "rules" ? "deed" : "accession");
+export const rulesOf = (name, scope, number = numberName(name)) =>
   held[listName(name)].find((one) => one[number] === scope)?.rules ?? [];
-export const standing = (name, number = RULES[name].of.toLowerCase()) =>
+export const standing = (name, number = numberName(name)) =>
   held[listName(name)].flatMap(({ [number]: scope, rules }) => rules.map((rule) => ({ scope, rule })));
 
 const sentWords = (text) => encodeURIComponent(text.trim());

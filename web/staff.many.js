@@ -41,7 +41,6 @@ export async function sendMany(run, { progress, signal }) {
   }
   if (!run.items.every(isOver)) keepReason();
   const isOlder = await Promise.resolve(run.after?.({ progress })).then(() => false, () => true);
-  run.decided = isOlder ? "" : (run.decide?.() ?? "");
   return report(run, isOlder);
 }
 
@@ -66,6 +65,7 @@ function report(run, isOlder) {
   const rowOf = (item) => row([...run.cells(item), outcomeOf(item)].map((text, at) => cellOf(columns[at], text)));
   const table = others.length ? longTable("Not done", columns, others, rowOf) : null;
   const more = run.more && !isWhole && !isOlder ? element("p", run.more()) : null;
+  run.decided = isOlder ? "" : (run.decide?.() ?? "");
   const decided = run.decided ? dated("p", run.decided) : null;
   const goOn = isWhole ? null : button("Go on with the rest", () => change(run.section, (how) => sendMany(run, how)));
   const buttons = box("p", "choices", goOn, ...saver(button("Save the report"), () => saveReport(run)));

@@ -169,11 +169,11 @@ def test_files_ticked_by_their_shown_names_are_taken_down_and_what_stands_after_
     due = [["1002", slot, name, rank, f"the file at slot {slot} {ALWAYS}", "done"] for name, rank, slot in rules]
     heads, *rows = saved_table(disk, "disk-1002-report-of", "Save the report")
     assert [row[2:8] for row in rows] == due and "of each. It does not say what stands since. Whoever" in rows[0][1]
-    assert f"(OPERATING, Logs). {says} and 2" in rows[0][1], "who fetched them before is not said"
+    assert "desk-visits.log on the museum's machine says for 14" in rows[0][1], "who fetched them before is not said"
     zone = disk.script("return Intl.DateTimeFormat().resolvedOptions().timeZone")
     assert heads[1].endswith(f"by the computer that saved this, in the zone {zone})"), "in nobody's zone"
     words = "slot (the file's place on its disk, counted from 0)", "rank (a place in the order of rules, lowest first)"
-    assert (heads[3], heads[5]) == words
+    assert (heads[3], heads[5]) == words and f"(OPERATING, Logs). {says} and 2" in rows[0][1]
 
 def test_each_number_of_a_disk_leads_to_its_page(museum, disk):
     museum.rules["T1002"] = takedown(1000, 2)
