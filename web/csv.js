@@ -26,9 +26,7 @@ function recordAt(text, at, isPlain) {
 
 // The records of a table whose text comes in parts. Each ends with a line feed.
 export class Records {
-  constructor() {
-    this.rest = "";
-  }
+  rest = "";
 
   // Takes the next part of the text, and gives the records that are whole now.
   add(part) {

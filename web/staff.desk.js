@@ -19,22 +19,16 @@ export const formOf = (name) => part(name).querySelector("form");
 // What the desk holds, as it was when it was read last.
 export const held = { deeds: [], takedowns: [], keys: [], checks: [] };
 
-export async function readHeld(what, signal) {
-  held[what] = listOf((await askObject(`/staff/${what}`, { signal }))[what]);
-  return held[what];
-}
+export const readHeld = async (what, signal) =>
+  (held[what] = listOf((await askObject(`/staff/${what}`, { signal }))[what]));
 
-// The rules of a deed, or the takedowns of a disk, that stood when they were read last.
-export function rulesOf(name, scope) {
-  const [all, number] = name === "rules" ? [held.deeds, "deed"] : [held.takedowns, "accession"];
-  return all.find((one) => one[number] === scope)?.rules ?? [];
-}
-
-// All rules or takedowns that stood then: each with the deed or the accession that it is of.
-export function standing(name) {
-  if (name === "rules") return held.deeds.flatMap(({ deed, rules }) => rules.map((rule) => ({ scope: deed, rule })));
-  return held.takedowns.flatMap(({ accession, rules }) => rules.map((rule) => ({ scope: accession, rule })));
-}
+// The rules of a deed, or the takedowns of a disk, that stood when they were read last; and all, each with its scope.
+export const listName = (name) => (name === "rules" ? "deeds" : name);
+const numberName = (name) => (name === "rules" ? "deed" : "accession");
+export const rulesOf = (name, scope, number = numberName(name)) =>
+  held[listName(name)].find((one) => one[number] === scope)?.rules ?? [];
+export const standing = (name, number = numberName(name)) =>
+  held[listName(name)].flatMap(({ [number]: scope, rules }) => rules.map((rule) => ({ scope, rule })));
 
 const sentWords = (text) => encodeURIComponent(text.trim());
 
@@ -48,10 +42,8 @@ export function hasWho() {
   return part("who").reportValidity();
 }
 
-export function whoNow() {
-  const { name, reason } = part("who").elements;
-  return { name: name.value.trim(), reason: reason.value.trim() };
-}
+export const whoNow = ({ name, reason } = part("who").elements) =>
+  ({ name: name.value.trim(), reason: reason.value.trim() });
 
 // Goes up where a change is sent, and where it ends: what was asked for at a lower count may be older than the change.
 export let changeCount = 0;
@@ -100,10 +92,9 @@ export function dated(name, text, fields = {}) {
   return made;
 }
 
-export function buttonsCell(words, presses) {
-  const made = Object.entries(presses).map(([text, press]) => button(text, press, { ariaLabel: `${text} ${words}` }));
-  return cell("", box("div", "choices", ...made), "work");
-}
+const buttonsOf = (words, presses) =>
+  Object.entries(presses).map(([text, press]) => button(text, press, { ariaLabel: `${text} ${words}` }));
+export const buttonsCell = (words, presses) => cell("", box("div", "choices", ...buttonsOf(words, presses)), "work");
 
 // Shows a form in a dialog, which closes before what is typed there is used.
 export function showChange(heading, form, use) {

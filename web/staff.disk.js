@@ -7,7 +7,7 @@ import { COLUMNS as CHANGES, changeRow } from "./staff.journal.js";
 import { audienceCounts } from "./staff.forecast.js";
 import { SINCE, originsOf, sinceWords, standingDisk, standingRule } from "./staff.origins.js";
 import { placeOf } from "./staff.ranks.js";
-import { rehearsalDays, rehearsed, saveFirst } from "./staff.rehearsal.js";
+import { decidedWords, rehearsalDays, rehearsed, saveFirst } from "./staff.rehearsal.js";
 import { makeRuleForm, ruleIn } from "./staff.ruleform.js";
 import { putMany } from "./staff.rules.js";
 import { forgetSaved, saveTable, saver } from "./staff.saved.js";
@@ -37,7 +37,7 @@ async function readDisk(accession, tools, show = showDisk) {
   disk.files = await verdictsOf(survey, asked.day, tools);
   disk.names = namesOf(disk.files);
   show(disk);
-  const { told, changes, none, isWhole } = await originsOf(things, tools);
+  const { told, changes, none, isWhole } = await originsOf(things, tools, { files: disk.files, day: asked.day });
   things.forEach((thing, at) => Object.assign(thing, told[at]));
   const [own, deed] = [survey.accession, survey.deed].map(String);
   disk.changes = changes.filter((one) => (one.accession ? one.accession === own : one.deed === deed));
@@ -70,10 +70,9 @@ const everyVerdict = ({ files }) =>
   files.flatMap((record) => Object.keys(AUDIENCES).map((audience) => [record, audience]));
 
 // Since when a file is to an audience as it is now.
-function sinceOf({ things, changes, none, isWhole }, record, audience) {
-  if (none) return `since when: ${none}`;
-  const file = { label: record[EFFECT_AT[audience] + 1], slot: Number(record[COLUMNS.slot]), audience, isWhole };
-  return changes ? sinceWords(things, file, changes) : UNREAD;
+function sinceOf(disk, record, audience) {
+  if (disk.none) return `since when: ${disk.none}`;
+  return disk.changes ? sinceWords(disk.things, record, audience, disk) : UNREAD;
 }
 
 function fileRow(record) {
@@ -201,8 +200,9 @@ async function takeDown(records, tools) {
   const not = (one) => !stands(one);
   const said = () => `These stand: ${those(commands.filter(stands))}. These do not: ${those(commands.filter(not))}.`;
   const cells = ({ slot, name, rank }) => [accession, slot, name, rank].map(String);
-  const more = { after: (how) => readDisk(accession, how), more: said, heads: ["Disk", "Slot", "File", "Rank"], cells };
-  return putMany("disk", commands, { ...more, of: `disk-${accession}` }, tools);
+  const decide = () => decidedWords(shown.files, commands.filter(stands), shown.asked.day);
+  const more = { after: (how) => readDisk(accession, how), more: said, decide, of: `disk-${accession}` };
+  return putMany("disk", commands, { ...more, heads: ["Disk", "Slot", "File", "Rank"], cells }, tools);
 }
 
 // Without a number the view is that of the disk that was looked at last.

@@ -7,7 +7,7 @@ import { forecast, forecastWords } from "./staff.forecast.js";
 import { isDone, sendMany } from "./staff.many.js";
 import { diskMap } from "./staff.map.js";
 import { matchRows, rowProblem, rowsIn } from "./staff.sheet.js";
-import { LIMITS, listed, ruleWords, today } from "./staff.words.js";
+import { LIMITS, listed, standingWords, today } from "./staff.words.js";
 
 // The chosen dumps, and the rows of the sheet that came with them, or null.
 let dumps = [];
@@ -153,7 +153,7 @@ async function unagreed() {
 }
 
 function deedParts({ deed, donor, signed, rules }, dumps_) {
-  const lines = rules.map((rule) => dated("li", `${rule.rank}: ${ruleWords(rule)}`));
+  const lines = rules.map((rule) => dated("li", `${rule.rank}: ${standingWords(rule)}`));
   const heading = dated("h3", `${counted(dumps_.length, "disk")} under deed ${deed}, of ${donor}, signed on ${signed}`);
   const rulesFor = ({ accession }) => [...rulesOf("takedowns", Number(accession.value)), ...rules];
   const forecasts = dumps_.map((dump) => forecast(dump.files, rulesFor(dump), today()));

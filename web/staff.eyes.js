@@ -13,8 +13,7 @@ import { AUDIENCES, momentNow, today } from "./staff.words.js";
 import { inParts, keeper, pause } from "./stream.js";
 import { isTitled } from "./titles.js";
 
-// The verdicts of the day that was read last, by which rules and when they were asked, and what is known of a past day;
-// behind each the text to look in. No files where the page shows none.
+// The verdicts of the day that was read last, behind each the text to look in; by which rules, and when.
 let seen = { day: "", files: null };
 const SEARCHED = 15;
 
@@ -42,10 +41,8 @@ function finder(words, audience) {
   return (file) => file[SEARCHED].includes(words) || isNumbered(file) || isOnTitled(file);
 }
 
-function wanted() {
-  const { audience, words, closed } = formOf("eyes").elements;
-  return { audience: audience.value, words: words.value.trim().toLowerCase(), showsClosed: closed.checked };
-}
+const wanted = ({ audience, words, closed } = formOf("eyes").elements) =>
+  ({ audience: audience.value, words: words.value.trim().toLowerCase(), showsClosed: closed.checked });
 
 // The files to show: those that are found, and of the closed ones only where they are asked for; of which disk, if all
 // are of one; words for which these are; and of all files, how many there are of each effect.

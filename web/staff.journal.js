@@ -89,7 +89,8 @@ function summary() {
   const unknown = changes.filter(isUnknown).length;
   const [first, last] = [read.oldest, changes[0]?.moment ?? read.oldest].map(spaced);
   const texts = [`${counted(changes.length, "change")} read${first && `, from ${first} to ${last}`}`];
-  texts.push(lines.isWhole ? "there are no older lines" : "older lines, if any, were not read");
+  const older = "older lines, if any, were not read: they may say that a change replaced something";
+  texts.push(lines.isWhole ? "there are no older lines" : older);
   const more = [`${texts.join("; ")}.`];
   if (unknown) more.push(`Of ${grouped(unknown)} ${UNKNOWN}, or it has not ended yet.`);
   if (read.unread) more.push(`${counted(read.unread, "line")} cannot be read.`);

@@ -41,16 +41,14 @@ async function eachLine(bytes, take) {
 }
 
 export class Lines {
-  constructor() {
-    // Up to where the file that is written now is still to be read, and how long it was. Null: up to its end.
-    this.until = null;
-    this.length = 0;
-    // The end of a line whose beginning was not read.
-    this.rest = new Uint8Array(0);
-    // The month to look at next, and how many are still to be looked at.
-    this.month = "";
-    this.months = MONTHS;
-  }
+  // Up to where the file that is written now is still to be read, and how long it was. Null: up to its end.
+  until = null;
+  length = 0;
+  // The end of a line whose beginning was not read.
+  rest = new Uint8Array(0);
+  // The month to look at next, and how many are still to be looked at.
+  month = "";
+  months = MONTHS;
 
   // Whether all is read that the page can find.
   get isWhole() {

@@ -101,20 +101,30 @@ export function daysWords({ from, until }) {
   return [from && `from ${from}`, until && `until ${until}`].filter(Boolean).join(", ");
 }
 
-// The texts of a rule, by the columns of its table.
+// The days of a rule that stands, with a mark where it decides nothing any more or nothing yet.
+export const isOver = ({ until }) => Boolean(until) && until <= today();
+function daysNow(rule) {
+  const words = daysWords(rule);
+  if (isOnNoDay(rule)) return words;
+  if (isOver(rule)) return words.replace("until", "ended on");
+  return rule.from > today() ? `not begun: ${words}` : words;
+}
+
+// The texts of a rule that stands, by the columns of its table.
 export const ruleTexts = (rule, names) => ({
   Rank: String(rule.rank),
   "For whom": audienceWords(rule.audiences),
   "Which files": filesWords(rule, names),
   "They may": EFFECTS[rule.effect],
-  Days: daysWords(rule),
+  Days: daysNow(rule),
 });
 
-const SHORT = { read: "readable for", list: "only listed for", deny: "closed to" };
+export const SHORT = { read: "readable for", list: "only listed for", deny: "closed to" };
 
-// A rule in short.
-export const ruleWords = (rule, names) =>
-  `${filesWords(rule, names)} ${SHORT[rule.effect]} ${audienceWords(rule.audiences)}, ${daysWords(rule)}`;
+// A rule in short; and one that stands.
+export const ruleWords = (rule, names, days = daysWords) =>
+  `${filesWords(rule, names)} ${SHORT[rule.effect]} ${audienceWords(rule.audiences)}, ${days(rule)}`;
+export const standingWords = (rule, names) => ruleWords(rule, names, daysNow);
 
 // What is to be said of a takedown that is put.
 export const VISITS = `From which addresses files were fetched before, desk-visits.log on the museum's machine says \
