@@ -151,7 +151,8 @@ export function decidedWords(files, commands, day) {
 }
 
 // The same, once the desk is asked.
-export const decidedNow = (commands, tools) => verdictsOf({ accession: commands[0].scope }, today(), tools)
+export const decidedNow = (commands, tools) => Promise.resolve()
+  .then(() => verdictsOf({ accession: commands[0].scope }, today(), tools))
   .then((files) => decidedWords(files, commands, today()))
   .catch(() => "The page could not ask the desk what readers get of it now.");
 

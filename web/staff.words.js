@@ -101,13 +101,13 @@ export function daysWords({ from, until }) {
   return [from && `from ${from}`, until && `until ${until}`].filter(Boolean).join(", ");
 }
 
-// The days of a rule that stands, with a mark where it decides nothing any more or nothing yet.
-export const isOver = ({ until }) => Boolean(until) && until <= today();
+// The days of a rule that stands, with a mark where it decides nothing any more or nothing yet, if the day is known.
+export const isOver = ({ until }) => Boolean(until) && until <= told.day;
 function daysNow(rule) {
   const words = daysWords(rule);
-  if (isOnNoDay(rule)) return words;
+  if (isOnNoDay(rule) || told.day === "") return words;
   if (isOver(rule)) return words.replace("until", "ended on");
-  return rule.from > today() ? `not begun: ${words}` : words;
+  return rule.from > told.day ? `not begun: ${words}` : words;
 }
 
 // The texts of a rule that stands, by the columns of its table.
@@ -147,16 +147,16 @@ export function dayAfter(day, days) {
 // The month before another, as in 2026-01.
 export const monthBefore = (month) => dayAfter(`${month}-01`, -1).slice(0, 7);
 
-// Today by the desk's clock, in its zone, as the desk told it last; or why it did not.
-let told = new Refused("day", {});
+// Today by the desk's clock, in its zone, as the desk told it last; or "", and why it did not.
+const untold = (fault) => ({ day: "", fault });
+let told = untold();
 
 export async function askToday(signal) {
-  const untold = (fault) => ([401, 403].includes(fault?.status) ? fault : new Refused("day", {}));
-  const said = await askObject("/staff/today", { signal }).then(({ day }) => textOf(day) || untold(), untold);
+  const said = await askObject("/staff/today", { signal }).then(({ day }) => ({ day: textOf(day) }), untold);
   if (!signal?.aborted) told = said;
 }
 
 export function today() {
-  if (typeof told !== "string") throw told;
-  return told;
+  if (told.day) return told.day;
+  throw [401, 403].includes(told.fault?.status) ? told.fault : new Refused("day", {});
 }

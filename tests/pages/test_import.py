@@ -110,6 +110,10 @@ def test_dumps_are_described_and_numbered_by_hand(staff, choose):
         f"What they get from today, {TODAY}, as this page reckons it from the dumps and these rules:",
         *(f"The {who}: 1 to read, 1 only in the list, 0 closed." for who in ("public", "reading room", "staff"))]
     assert (staff.answer(False)["result"], staff.door.sent()) == (["Nothing is sent."], [])
+    staff.door.before = lambda _, path: b"" if path == "/staff/today" else None
+    said, rows = "The desk did not tell which day it is there. Try again.", staff.go("disks")["list"]
+    assert staff.push("Put the disks")["result"] == [said] and staff.read()["list"] == rows != [], "a guess, or no list"
+    staff.door.before = lambda _, path: None
     staff.push("Put the disks")
     staff.door.before = lost_at(1)
     staff.answer(True)

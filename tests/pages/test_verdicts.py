@@ -138,6 +138,29 @@ def test_desk_that_does_not_tell_its_day_is_said_and_no_view_guesses_it(staff):
     staff.door.before = lambda _, path: None
     assert staff.door.sent() == [] and staff.go("eyes")["result"] == []
 
+def test_rules_stand_without_marks_where_the_desk_does_not_tell_its_day(museum, staff):
+    days, place = [("2027-01-01", None), (None, "2026-01-01")], "/staff/today"
+    deny = lambda *of: {1: museums.rule(1, "deny", ["public"], {"slot": 2}, *of)}
+    museum.rules["R8"], museum.rules["T1002"] = (deny(*of) for of in days)
+    begins, ends = "from 2027-01-01", "until 2026-01-01"
+    for words, reply in ((f"not begun: {begins}", "ended on 2026-01-01"), None), ((begins, ends), b""):
+        staff.door.before = lambda _, path: reply if path == place else None
+        for view, due in zip(("rules/8", "takedowns/1002"), words):
+            shown = staff.go(view)
+            assert (shown["result"], [row[5] for row in shown["rows"]]) == ([], [due]), view
+        mind = staff.take_down("1002", "2", "2", "public")["hint"].partition(" Mind: ")[2]
+        assert mind.endswith(f", {ends}).") == (reply is not None) == bool(mind), "which takedown may come before it"
+        shown = staff.answer(False) and staff.go("deeds") if reply is None else staff.go("deeds")
+        due = f"1: the file at slot 2 closed to the public, {words[0]}Rules"
+        assert (shown["result"], shown["rows"][1][4]) == ([], due)
+    staff.door.before = lambda _, path: None
+    assert staff.go("takedowns") and staff.take_down("1002", "2", "2", "public")["sure"]
+    staff.door.before = lambda _, path: b"" if path == place else None
+    shown = staff.answer(True)
+    words = ["Put: takedown 2 of disk 1002.", "The page could not ask the desk what readers get of it now."]
+    assert shown["result"][:2] == words and [row[5] for row in shown["rows"]] == [ends, "until further notice"]
+    assert [path for _, path, _, _ in staff.door.sent()] == ["/images/1002/rules/2"]
+
 def test_day_that_is_over_is_said_to_be_by_rules_of_today_and_a_saved_table_says_what_it_has(staff, tmp_path):
     (tmp_path / "about.csv").write_text("name,value\nmuseum,Museum of the River\n")
     assert staff.load() and staff.begin() and look(staff, "1999-01-01", closed=True) and staff.push("Save what is")
