@@ -118,8 +118,8 @@ export function box(name, className, ...inside) {
   return made;
 }
 
-export function button(words, press, fields_ = {}) {
-  const made = element("button", words, { type: "button", ...fields_ });
+export function button(words, press, more = {}) {
+  const made = element("button", words, { type: "button", ...more });
   if (press) made.addEventListener("click", press);
   return made;
 }

@@ -63,10 +63,10 @@ async function checkAll(tools) {
 
 // How many are sound, and which are changed, in a sentence.
 function foundOf(checks, begin, rest) {
-  const changed_ = checks.filter(({ outcome }) => outcome === "changed").map(({ accession }) => accession);
+  const unsound = checks.filter(({ outcome }) => outcome === "changed").map(({ accession }) => accession);
   const sound = grouped(checks.filter(({ outcome }) => outcome === "sound").length);
-  const bad = changed_.length ? `, ${grouped(changed_.length)} CHANGED: ${changed_.join(", ")}` : "";
-  return finding(`${begin}: ${sound} sound${bad}${rest}`, changed_.length > 0);
+  const bad = unsound.length ? `, ${grouped(unsound.length)} CHANGED: ${unsound.join(", ")}` : "";
+  return finding(`${begin}: ${sound} sound${bad}${rest}`, unsound.length > 0);
 }
 
 function checkRow({ accession, day, outcome }) {

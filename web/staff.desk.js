@@ -118,7 +118,7 @@ export const diskCell = (accession, column = "Disk") =>
 // How each section shows anew what stands, and how its latest work shows how far it has come.
 const shows = {};
 const progresses = {};
-export const showsAnew = (name, show_) => (shows[name] = show_);
+export const showsAnew = (name, how) => (shows[name] = how);
 const again = async (name) => shows[name]?.({ progress: progresses[name] });
 
 // What is said where a section cannot be shown anew after a change.

@@ -223,7 +223,7 @@ export function listen() {
   const { rank, how, effect } = ticked.elements;
   for (const field of [rank, how]) field.closest("label").hidden = true;
   [rank.disabled, how.value, effect.value] = [true, "all", "deny"];
-  for (const box_ of ticked.querySelectorAll("[name=audiences]")) box_.checked = box_.value !== "staff";
+  for (const tick of ticked.querySelectorAll("[name=audiences]")) tick.checked = tick.value !== "staff";
   ticked.dispatchEvent(new Event("change"));
   ticked.querySelector("[type=submit]").textContent = "Take down what is ticked";
   which.addEventListener("submit", () => location.assign(`#/disk/${which.elements.accession.value}`));

@@ -170,8 +170,8 @@ function pastWords(name, { put, before }, { day, reach, isFar }) {
   const only = `${isDisk ? "not yet here on that day:" : name} put only on ${since}`;
   if (put && before) return only;
   if (put && isFar) return `${only}, not before in the journal, ${back}`;
-  const thing_ = isDisk ? "it was here" : `${name} stood`;
-  return `whether ${thing_} then the journal, ${back}, does not say${put ? `; put on ${since}` : ""}`;
+  const what = isDisk ? "it was here" : `${name} stood`;
+  return `whether ${what} then the journal, ${back}, does not say${put ? `; put on ${since}` : ""}`;
 }
 
 // What the journal says of a day that is over: `others` gives, of a file and the rule that decides, what was other or

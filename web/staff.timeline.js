@@ -130,19 +130,19 @@ async function readDay(day, before, tools) {
 
 // Who gets what on a day, and what is other than today.
 async function showDay(day, tools) {
-  const [today_, when] = [today(), onDay(day)];
-  const now = await readDay(today_, null, tools);
-  const then = day === today_ ? now : await readDay(day, now, tools);
-  const past = day < today_ ? `on ${day}, by the rules of ${today_}, they` : "";
+  const [current, when] = [today(), onDay(day)];
+  const now = await readDay(current, null, tools);
+  const then = day === current ? now : await readDay(day, now, tools);
+  const past = day < current ? `on ${day}, by the rules of ${current}, they` : "";
   // what only a day that is over needs is loaded then
   const since = past ? await loaded(import("./staff.origins.js")).then(({ pastOf }) => pastOf(day, tools)) : {};
   const texts = audienceCounts((audience, effect) => {
     const at = Object.keys(AUDIENCES).indexOf(audience);
     return then.alike.reduce((sum, one) => sum + (one.now[at] === effect ? one.count : 0), 0);
   }).concat(since.words ?? []);
-  const words = `What is other ${past && `on ${day} `}than today, ${past && "by the rules of "}${today_}`;
-  const none = past && `By the rules of ${today_} nothing is other on that day; ${since.then}`;
-  const more = day === today_ ? [] : dayParts({ words, past, none, groups: then.groups });
+  const words = `What is other ${past && `on ${day} `}than today, ${past && "by the rules of "}${current}`;
+  const none = past && `By the rules of ${current} nothing is other on that day; ${since.then}`;
+  const more = day === current ? [] : dayParts({ words, past, none, groups: then.groups });
   const heading = dated("h2", `Who gets what ${when}`);
   stands().querySelector(".day").replaceChildren(heading, ...texts.map((text) => dated("p", text)), ...more);
 }
