@@ -102,8 +102,7 @@ function ruleRow(name, { scope, rule }) {
 
 // Draws those that stand: of the deed or the disks that are typed, or all.
 function draw(name) {
-  const { of, word, thing } = RULES[name];
-  const typed = formOf(name).elements.scope.value;
+  const [{ of, word, thing }, typed] = [RULES[name], formOf(name).elements.scope.value];
   const scopes = new Set(scopesIn(name, typed));
   const all = standing(name);
   const shown = typed === "" ? all : all.filter(({ scope }) => scopes.has(scope));
@@ -123,13 +122,14 @@ async function showRules(name) {
   hint(name);
 }
 
-// Says below the fields which rank it will be, once all are filled in, or what stands at the one that is typed.
+// Says below the fields which rank it will be, once they have a rule that does not stand, or what a typed one has.
 function hint(name) {
   const form = formOf(name);
   const { scope, rank } = form.elements;
   const [scopes, rule] = [scopesIn(name, scope.value), ruleIn(form)];
   const all = scopes.map((one) => placeOf(name, one, rank.value, rule, rulesOf(name, one)));
-  const places = all.filter(({ replaced }) => replaced || form.matches(":valid"));
+  const isNew = (one) => !rulesOf(name, one.scope).some((that) => ruleWords(that) === ruleWords(rule));
+  const places = all.filter((one) => one.replaced || (form.matches(":valid") && isNew(one)));
   const title = name === "takedowns" && scopes.length === 1 ? titleOf(scopes[0]) : "";
   const words = [title && `\u201c${title}\u201d.`, ...placeNotes(places)].filter(Boolean).join(" ");
   form.querySelector(".hint").replaceChildren(...(words ? [dated("span", words)] : []));

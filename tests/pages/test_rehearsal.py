@@ -40,6 +40,7 @@ def test_takedowns_are_rehearsed_and_put_each_before_the_others(takedowns):
         assert str(saved).count("'read it'") == 6 and "an answer to: “Put takedown 10 of disk 1002?”" in saved[1][1]
         shown = takedowns.answer(is_agreed)
         assert (shown["result"][0], len(takedowns.door.sent())) == (said, is_agreed)
+        assert shown["hint"] == ("" if is_agreed else rank), "a rank that is not that of what was put"
         assert "desk-visits.log" in shown["result"][-1] or not is_agreed, "where it stands who fetched it is not said"
     row = ["1002", "10", "the public and the reading room", "the file at slot 2", SHUT]
     assert [cells[:5] for cells in shown["rows"]] == [row]
