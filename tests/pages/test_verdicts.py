@@ -207,7 +207,7 @@ def test_timeline_has_the_next_change_first_and_says_what_is_other_on_each_day(m
     assert [[row[0], row[2]] for row in staff.go("timeline")["rows"]] == rules
     _, *rows = saved_table(staff, f"timeline-3-rules-{TODAY}-asked", "Save these rules as CSV")
     assert [[row[2], row[5], row[9]] for row in rows] == [[TODAY, *rule] for rule in rules]
-    assert rows[0][4] == "R9.5" and rows[0][6].startswith("the file at slot 0 closed to the public, from ")
+    assert rows[0][4] == "R9.5" and rows[0][6].startswith("the file at slot 0 closed to the public, not begun: from ")
     assert (rows[0][7:9], rows[2][7:9]) == (DAYS[:2], ["", "2030-01-01"])
     assert f"as they stood on {TODAY}: 3. The desk was asked on" in rows[0][1] and "nor who gets what" in rows[0][1]
     # slot 0 of the disks of deed 9: that of the last is damaged, so nobody is given it, and it is closed all the same
@@ -236,6 +236,9 @@ def test_timeline_has_the_next_change_first_and_says_what_is_other_on_each_day(m
     museum.rules["R9"][6] = museums.rule(6, "deny", ["public"], {"slot": 1}, None, "2025-07-01")
     staff.set("#timeline [type=range]", int(staff.one("#timeline [type=range]").get_property("min")))
     staff.read(lambda state: state["result"] == ["Read: 2025-06-15."])
+    ended = "the file at slot 1 closed to the public, ended on 2025-07-01"
+    assert staff.go("timeline")["rows"][-1][:3] == ["rule 6 of deed 9", ended, "none"]
+    staff.push("Look at")
     heading, _, _, _, since, other, closes, *_ = staff.texts("#timeline .day > :not(ul)")
     assert (heading, since) == (f"Who gets what on 2025-06-15, {PAST}", SINCE)
     assert other == f"What is other on 2025-06-15 than today, by the rules of {TODAY}"
