@@ -6,7 +6,6 @@ import { textOfOwn } from "./titles.js";
 const NAMES = ["museum", "room", "welcome", "mail", "phone", "address", "hours", "imprint", "privacy"];
 const LONGEST = 500;
 const MAIL = /^[^\s@?&]+@[^\s@?&]+$/;
-
 const about = {};
 
 export const room = () => about.room ?? "The reading room";

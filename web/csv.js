@@ -26,9 +26,7 @@ function recordAt(text, at, isPlain) {
 
 // The records of a table whose text comes in parts. Each ends with a line feed.
 export class Records {
-  constructor() {
-    this.rest = "";
-  }
+  rest = "";
 
   // Takes the next part of the text, and gives the records that are whole now.
   add(part) {
@@ -68,5 +66,4 @@ const MEANINGS = {
   user: "the user of CP/M, 0 to 15, whose file it is",
 };
 export const explainedHead = (head) => (Object.hasOwn(MEANINGS, head) ? `${head} (${MEANINGS[head]})` : head);
-
 export const csvText = (records) => records.map((record) => `${record.map(written).join(",")}\n`).join("");

@@ -10,7 +10,6 @@ const trimmed = (bytes, pad) => bytes.subarray(0, bytes.findLastIndex((byte) => 
 
 // Each unit that is claimed, as often as it is.
 const byUnit = (units) => Map.groupBy(units, (unit) => unit);
-
 const faultsOf = (holds) => Object.keys(holds).filter((word) => holds[word]);
 
 // Disks of the 1541: how many sectors each track has, and the number of the first.

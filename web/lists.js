@@ -3,21 +3,29 @@
 import { shownName } from "./names.js";
 import { box, cell, element, grouped, table } from "./shared.js";
 
-// Up to how many rows a table is drawn whole, and how many rows a block has.
-const [WHOLE, BLOCK] = [50, 20];
-// How far from the screen blocks are drawn, and how high a row is before one was measured, in pixels.
-const [NEAR, ROW] = [1200, 40];
+// Up to how many rows a table is drawn whole, and how many a block has; in pixels, how far from the screen blocks are
+// drawn, and how high a row is before one was measured.
+const [WHOLE, BLOCK, NEAR, ROW] = [50, 20, 1200, 40];
+
+// While the page is printed, all rows of each table that is shown are drawn.
+let isPrinted = false;
+window.addEventListener("beforeprint", () => {
+  isPrinted = true;
+  for (const one of document.querySelectorAll("[aria-rowcount] tbody")) if (one.checkVisibility()) one.print();
+});
+window.addEventListener("afterprint", () => (isPrinted = false));
 
 // The bodies of a table: a block or a gap, each for the blocks from its first to before its end.
 function bodiesOf(items, rowOf, columns) {
   const heights = Array(Math.ceil(items.length / BLOCK)).fill(ROW * BLOCK);
   let isMeasured = false;
   const see = ({ target, isIntersecting, boundingClientRect: { top } }) => {
-    if (target.isConnected && target.isDrawn !== isIntersecting) (isIntersecting ? draw : clear)(target, top);
+    if (isPrinted || !target.isConnected || target.isDrawn === isIntersecting) return;
+    (isIntersecting ? draw : clear)(target, top);
   };
   const observer = new IntersectionObserver((all) => all.forEach(see), { rootMargin: `${NEAR}px 0px` });
   const body = (rows, fields) => {
-    const made = Object.assign(box("tbody", "", ...rows), fields);
+    const made = Object.assign(box("tbody", "", ...rows), fields, { print: () => fields.isDrawn || draw(made, 0) });
     observer.observe(made);
     return made;
   };
@@ -34,13 +42,13 @@ function bodiesOf(items, rowOf, columns) {
     space.firstChild.style.height = `${heights.slice(first, end).reduce((sum, one) => sum + one)}px`;
     return [body([space], { first, end, isDrawn: false })];
   };
-  // draws the blocks of a gap that are near the screen; the first of all shows how high the others will be
+  // draws the blocks of a gap that are near the screen, or all for a print; the first shows how high the others will be
   const draw = (old, top) => {
     let [from, place] = [old.first, top];
-    while (from < old.end - 1 && place + heights[from] < -NEAR) place += heights[from++];
+    while (!isPrinted && from < old.end - 1 && place + heights[from] < -NEAR) place += heights[from++];
     let to = from;
     do place += heights[to++];
-    while (to < old.end && place < window.innerHeight + NEAR);
+    while (to < old.end && (isPrinted || place < window.innerHeight + NEAR));
     const blocks = Array.from({ length: to - from }, (_, at) => block(from + at));
     old.before(...blocks);
     const drawn = blocks.map((one) => one.getBoundingClientRect().height);

@@ -15,7 +15,6 @@ let shown = { path: null, change: null, leave: () => {} };
 // Of each entry of the browser's history how far it was scrolled, and by which link the reader left it.
 const scrolled = new Map();
 let entry = null;
-
 const own = Promise.all([readTitles(["titles.csv"]), readAbout()]);
 history.scrollRestoration = "manual";
 

@@ -27,8 +27,7 @@ forgetWithKey(() => (lists = {}));
 export const lastShown = () => lists.shown ?? [];
 export const showsNow = (disks) => Object.assign(lists, { shown: disks });
 
-// The promise of what was read, with the moment at which it was asked for, unless it is too old or did not come, or was
-// asked for before another moment.
+// The promise of what was read, with its moment of asking, unless it failed, is too old, or older than another moment.
 export function kept(name, read, since = 0) {
   if (!lists[name] || lists[name].asked < since || Date.now() - lists[name].asked > KEPT) {
     const asked = Date.now();
@@ -100,8 +99,7 @@ export const allFiles = (progress) => kept("files", () => readFiles(progress));
 // The files of a listing, whose names, types and rules are texts whatever comes.
 const fileOf = (said) => ({ ...said, name: textOf(said.name), type: textOf(said.type), rule: textOf(said.rule) });
 
-// The listing of a disk now. Where the list of all files has others of it, or lets a reader do other things with them,
-// the lists are old, and are asked for anew.
+// The listing of a disk now. Where the list of all files says other things of it, the lists are asked for anew.
 export async function listingOf(accession, signal) {
   const listing = await askObject(`/images/${accession}`, { signal });
   const files = listOf(listing.files).map(fileOf);

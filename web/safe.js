@@ -1,5 +1,4 @@
-// Names for files that the page saves, which no machine takes for something else: no path, no device, no option of a
-// command, nothing hidden, and none too long.
+// Names for saved files that no machine takes for something else: no path, device, option or hidden file; not too long.
 
 const LONGEST = 60;
 const DEVICES = /^(con|prn|aux|nul|clock\$?|conin\$|conout\$|com[0-9]|lpt[0-9]) *(\.|$)/i;

@@ -47,6 +47,7 @@ const STATUSES = {
   503: ["The desk cannot answer now.", "Try again."],
   "no-space": ["The disk of the desk is nearly full, so it takes no changes.", "Call whoever runs it."],
   504: ["The desk took too long.", "Try again."],
+  day: ["The desk did not tell which day it is there.", "Try again."],
   changed: ["What you may see has just changed.", "Try again."],
   asked: ["What is typed there now is not what you agreed to.", "Press \u201cPut the disks\u201d."],
   rotated: ["The journal has begun a new file since you opened it.", "Read it anew."],
@@ -81,7 +82,6 @@ export const part = (id) => document.getElementById(id);
 
 // The key, without blanks and tabs at its ends as in a field of HTTP. The page keeps it here only.
 let key = "";
-
 export const keyInUse = () => key;
 
 // What forgets something that was asked with the key, until somebody has no more need of that.
@@ -118,8 +118,8 @@ export function box(name, className, ...inside) {
   return made;
 }
 
-export function button(words, press, fields_ = {}) {
-  const made = element("button", words, { type: "button", ...fields_ });
+export function button(words, press, more = {}) {
+  const made = element("button", words, { type: "button", ...more });
   if (press) made.addEventListener("click", press);
   return made;
 }
@@ -207,7 +207,6 @@ export function meaning(label) {
 }
 
 export const faultWords = (word) => own(FAULTS, word) || word;
-
 export const explained = (word) => (own(FAULTS, word) ? `${word} (${FAULTS[word]})` : word);
 
 export async function digestOf(bytes) {

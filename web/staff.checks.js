@@ -12,10 +12,8 @@ const DAYS = 365;
 const DIRECTORIES = { end: "it ends well", loop: "it leads back into itself", off: "it leads off the disk" };
 
 // What a check has found: a warning where a disk is changed.
-function finding(text, isBad) {
-  const more = isBad ? " Restore a backup of what is changed." : "";
-  return dated("p", `${text}${more}`, { className: isBad ? "refused" : "callout" });
-}
+const finding = (text, isBad, more = isBad ? " Restore a backup of what is changed." : "") =>
+  dated("p", `${text}${more}`, { className: isBad ? "refused" : "callout" });
 
 export function surveyed(survey, more = {}) {
   const { donor, signed, files, served, faulty, label, directory, map } = survey;
@@ -51,29 +49,24 @@ async function checkAll(tools) {
   const run = {
     section: "checks",
     items: due.map(({ accession }) => ({ accession, found: "" })),
-    one: async (item) => {
-      item.found = (await changed("POST", `/images/${item.accession}/check`)).outcome;
-    },
+    one: async (item) => (item.found = (await changed("POST", `/images/${item.accession}/check`)).outcome),
     after: showChecks,
-    said: checkedWords,
+    said: (items, rest) => {
+      const checks = items.map((item) => ({ ...item, outcome: item.found }));
+      return foundOf(checks, `${counted(items.filter(isDone).length, "disk")} checked`, `.${rest}`);
+    },
     heads: ["Disk", "Found"],
     cells: ({ accession, found }) => [String(accession), found],
   };
   return due.length ? sendMany(run, tools) : `There is no disk whose latest check is before ${before}.`;
 }
 
-// How many are sound, and which are changed.
-function foundWords(found) {
-  const changed = found.filter(({ outcome }) => outcome === "changed").map(({ accession }) => accession);
-  const sound = grouped(found.filter(({ outcome }) => outcome === "sound").length);
-  const bad = changed.length ? `, ${grouped(changed.length)} CHANGED: ${changed.join(", ")}` : "";
-  return { words: `${sound} sound${bad}`, isBad: changed.length > 0 };
-}
-
-// What a check of many has found. A changed disk is a warning.
-function checkedWords(items, rest) {
-  const { words, isBad } = foundWords(items.map(({ accession, found }) => ({ accession, outcome: found })));
-  return finding(`${counted(items.filter(isDone).length, "disk")} checked: ${words}.${rest}`, isBad);
+// How many are sound, and which are changed, in a sentence.
+function foundOf(checks, begin, rest) {
+  const unsound = checks.filter(({ outcome }) => outcome === "changed").map(({ accession }) => accession);
+  const sound = grouped(checks.filter(({ outcome }) => outcome === "sound").length);
+  const bad = unsound.length ? `, ${grouped(unsound.length)} CHANGED: ${unsound.join(", ")}` : "";
+  return finding(`${begin}: ${sound} sound${bad}${rest}`, unsound.length > 0);
 }
 
 function checkRow({ accession, day, outcome }) {
@@ -93,21 +86,18 @@ export function checkWords(disk) {
 }
 
 // What stands of all disks: the warning stays there as long as a disk is changed.
-function summary(checks) {
-  const { words, isBad } = foundWords(checks);
-  const never = grouped(checks.filter((one) => one.day === null).length);
-  return finding(`${counted(checks.length, "disk")}: ${words}; ${never} never checked.`, isBad);
-}
+const summary = (checks, never = checks.filter((one) => one.day === null)) =>
+  foundOf(checks, counted(checks.length, "disk"), `; ${grouped(never.length)} never checked.`);
 
 // Reads the checks anew, and shows them.
 async function showChecks() {
-  formOf("checks").elements.before.defaultValue = dayAfter(today(), -DAYS);
   const checks = await readHeld("checks");
   const columns = { Disk: (one) => one.accession, "Checked on": (one) => one.day ?? "never" };
   Object.assign(columns, { Outcome: (one) => one.outcome ?? "", "": null });
   const made = listTable("latest checks", columns, held.checks, checkRow);
   const words = checks.length ? summary(checks) : element("p", "There is no disk.");
   part("checks").querySelector(".stands").replaceChildren(words, ...(checks.length ? [made] : []));
+  formOf("checks").elements.before.defaultValue = dayAfter(today(), -DAYS);
 }
 
 export const open = showChecks;

@@ -4,7 +4,7 @@ import { box, cell, counted, element, grouped, part, row } from "./shared.js";
 import { buttonsCell, change, dated, formOf, held, readHeld, send } from "./staff.desk.js";
 import { showChange, shownAnew, showsAnew, sure } from "./staff.desk.js";
 import { limitFields } from "./staff.ruleform.js";
-import { ruleWords } from "./staff.words.js";
+import { standingWords } from "./staff.words.js";
 
 const signedWords = ({ donor, signed }) => `${donor}, signed on ${signed}`;
 
@@ -33,7 +33,7 @@ function changeDeed({ deed, donor, signed }) {
 
 // The rules of a deed in short, and the way to all that can be done with them.
 function rulesCell({ deed, rules }) {
-  const lines = rules.map((rule) => dated("li", `${rule.rank}: ${ruleWords(rule)}`));
+  const lines = rules.map((rule) => dated("li", `${rule.rank}: ${standingWords(rule)}`));
   const words = rules.length ? "Rules" : "No rule: closed to everybody";
   const link = element("a", words, { href: `#/rules/${deed}`, ariaLabel: `${words}, of deed ${deed}` });
   return cell("Rules", box("div", "", lines.length ? box("ul", "", ...lines) : null, link));
@@ -55,7 +55,7 @@ export async function showDeeds() {
   await readHeld("deeds");
   const count = element("p", held.deeds.length ? `${counted(held.deeds.length, "deed")}.` : "There is no deed.");
   const columns = { Deed: ({ deed }) => deed, Donor: ({ donor }) => donor, "Signed on": ({ signed }) => signed };
-  const rulesOf = ({ rules }) => rules.map((rule) => ruleWords(rule)).join("; ");
+  const rulesOf = ({ rules }) => rules.map((rule) => standingWords(rule)).join("; ");
   Object.assign(columns, { Disks: ({ accessions }) => accessions, Rules: rulesOf, "": null });
   const made = held.deeds.length ? [listTable("deeds that stand", columns, held.deeds, deedRow)] : [];
   part("deeds").querySelector(".stands").replaceChildren(count, ...made);
@@ -67,4 +67,3 @@ export function listenForDeeds() {
   limitFields(form);
   form.addEventListener("submit", () => change("deeds", () => put(form.elements.deed.value, bodyOf(form.elements))));
 }
-

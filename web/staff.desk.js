@@ -1,5 +1,6 @@
 // The staff's side of the desk: what stands there, changes to it, and the work of a section of the page.
 import { Refused, askObject, box, button, cell, element, fields, grouped, listOf, part, refusal } from "./shared.js";
+import { askToday } from "./staff.words.js";
 import { withTitle } from "./titles.js";
 
 // After these nobody here knows whether the desk has done what was sent. A command that is sent twice is done once.
@@ -8,34 +9,26 @@ const AGAIN = "The desk may have done it all the same. You can safely send it ag
 
 // Whether a change was sent and nobody here knows what became of it.
 export const isUnsure = (fault) => fault.isOfChange === true && UNSURE.includes(fault.status);
-
 export const refusedWork = (fault) => refusal(fault, isUnsure(fault) ? AGAIN : "");
 
 // How many bytes a name or a reason has at most where it is sent.
 const LONGEST_WORDS = 1000;
 export const ANY_NAME = "Whoever has a key of the staff can write any name.";
-
 export const formOf = (name) => part(name).querySelector("form");
 
 // What the desk holds, as it was when it was read last.
 export const held = { deeds: [], takedowns: [], keys: [], checks: [] };
 
-export async function readHeld(what, signal) {
-  held[what] = listOf((await askObject(`/staff/${what}`, { signal }))[what]);
-  return held[what];
-}
+export const readHeld = async (what, signal) =>
+  (held[what] = listOf((await askObject(`/staff/${what}`, { signal }))[what]));
 
-// The rules of a deed, or the takedowns of a disk, that stood when they were read last.
-export function rulesOf(name, scope) {
-  const [all, number] = name === "rules" ? [held.deeds, "deed"] : [held.takedowns, "accession"];
-  return all.find((one) => one[number] === scope)?.rules ?? [];
-}
-
-// All rules or takedowns that stood then: each with the deed or the accession that it is of.
-export function standing(name) {
-  if (name === "rules") return held.deeds.flatMap(({ deed, rules }) => rules.map((rule) => ({ scope: deed, rule })));
-  return held.takedowns.flatMap(({ accession, rules }) => rules.map((rule) => ({ scope: accession, rule })));
-}
+// The rules of a deed, or the takedowns of a disk, that stood when they were read last; and all, each with its scope.
+export const listName = (name) => (name === "rules" ? "deeds" : name);
+const numberName = (name) => (name === "rules" ? "deed" : "accession");
+export const rulesOf = (name, scope, number = numberName(name)) =>
+  held[listName(name)].find((one) => one[number] === scope)?.rules ?? [];
+export const standing = (name, number = numberName(name)) =>
+  held[listName(name)].flatMap(({ [number]: scope, rules }) => rules.map((rule) => ({ scope, rule })));
 
 const sentWords = (text) => encodeURIComponent(text.trim());
 
@@ -49,10 +42,8 @@ export function hasWho() {
   return part("who").reportValidity();
 }
 
-export function whoNow() {
-  const { name, reason } = part("who").elements;
-  return { name: name.value.trim(), reason: reason.value.trim() };
-}
+export const whoNow = ({ name, reason } = part("who").elements) =>
+  ({ name: name.value.trim(), reason: reason.value.trim() });
 
 // Goes up where a change is sent, and where it ends: what was asked for at a lower count may be older than the change.
 export let changeCount = 0;
@@ -81,7 +72,6 @@ export async function send(method, path, body) {
 }
 
 export const show = (name, ...parts) => part(name).querySelector(".result").replaceChildren(...parts);
-
 export const paragraph = (words) => (words instanceof Node ? words : dated("p", words, { className: "callout" }));
 
 // An element with a text, whose days are not broken at the end of a line, and whose disks lead to their pages.
@@ -102,10 +92,9 @@ export function dated(name, text, fields = {}) {
   return made;
 }
 
-export function buttonsCell(words, presses) {
-  const made = Object.entries(presses).map(([text, press]) => button(text, press, { ariaLabel: `${text} ${words}` }));
-  return cell("", box("div", "choices", ...made), "work");
-}
+const buttonsOf = (words, presses) =>
+  Object.entries(presses).map(([text, press]) => button(text, press, { ariaLabel: `${text} ${words}` }));
+export const buttonsCell = (words, presses) => cell("", box("div", "choices", ...buttonsOf(words, presses)), "work");
 
 // Shows a form in a dialog, which closes before what is typed there is used.
 export function showChange(heading, form, use) {
@@ -129,9 +118,7 @@ export const diskCell = (accession, column = "Disk") =>
 // How each section shows anew what stands, and how its latest work shows how far it has come.
 const shows = {};
 const progresses = {};
-
-export const showsAnew = (name, show_) => (shows[name] = show_);
-
+export const showsAnew = (name, how) => (shows[name] = how);
 const again = async (name) => shows[name]?.({ progress: progresses[name] });
 
 // What is said where a section cannot be shown anew after a change.
@@ -180,9 +167,8 @@ async function openAfter(before, mine, doing) {
   else if (report) result.append(report);
 }
 
-// Does some work of a section, one at a time, shows the outcome there, and says whether it was done. The work gets a
-// way to show how far it has come, and a signal that the reader stops it. It gives what to show, words or nodes, or
-// null where what it has shown stays.
+// Does some work of a section, one at a time, shows the outcome there, and says whether it was done. The work gets what
+// shows how far it is and a signal that stops it; it gives what to show, words or nodes, or null to keep what is shown.
 export async function work(name, doing) {
   if (part(name).getAttribute("aria-busy") === "true") return false;
   running[name] = workAlone(name, doing);
@@ -200,8 +186,9 @@ async function workAlone(name, doing) {
   progresses[name] = tools.progress;
   // a change that was sent may be done all the same
   const isStopped = (fault) => stop.signal.aborted && !isUnsure(fault);
-  const { outcome, done, fault } = await Promise.resolve(tools)
-    .then(doing)
+  // (the journal has days of its own, and needs no today)
+  const { outcome, done, fault } = await (name === "journal" ? Promise.resolve() : askToday(stop.signal))
+    .then(() => doing(tools))
     .then(
       (made) => ({ outcome: made, done: true }),
       (came) => ({ outcome: isStopped(came) ? "Stopped." : refusedWork(came), done: false, fault: came }),
@@ -258,7 +245,7 @@ export function sure({ words, more = [], go, keep }) {
   no.textContent = keep;
   dialog.returnValue = "";
   dialog.showModal();
-  return new Promise((answer) => {
-    dialog.addEventListener("close", () => answer(dialog.returnValue === "go"), { once: true });
-  });
+  const closed = new Promise((close) => dialog.addEventListener("close", close, { once: true }));
+  // (a question may stand open over midnight)
+  return closed.then(() => dialog.returnValue === "go" && askToday().then(() => true));
 }

@@ -7,13 +7,14 @@ import { COLUMNS as CHANGES, changeRow } from "./staff.journal.js";
 import { audienceCounts } from "./staff.forecast.js";
 import { SINCE, originsOf, sinceWords, standingDisk, standingRule } from "./staff.origins.js";
 import { placeOf } from "./staff.ranks.js";
-import { rehearsalDays, rehearsed, saveFirst } from "./staff.rehearsal.js";
+import { decidedWords, rehearsalDays, rehearsed, saveFirst } from "./staff.rehearsal.js";
 import { makeRuleForm, ruleIn } from "./staff.ruleform.js";
 import { putMany } from "./staff.rules.js";
-import { saveTable, saver } from "./staff.saved.js";
+import { forgetSaved, saveTable, saver } from "./staff.saved.js";
 import { COLUMNS, EFFECT_AT, SAVED_HEADS, UNSAID, askedWords, byWhichRules, effectOf } from "./staff.verdicts.js";
 import { mayWords, nameOf, namesOf, ruleShown, savedVerdict, verdictsOf } from "./staff.verdicts.js";
-import { AUDIENCES, PUT, RULES, UNREAD, listed, momentNow, ruleTexts, ruleWords, today } from "./staff.words.js";
+import { AUDIENCES, PUT, RULES, UNREAD, askToday, listed, momentNow, ruleTexts } from "./staff.words.js";
+import { ruleWords, today } from "./staff.words.js";
 import { noteOf, titleOf } from "./titles.js";
 
 // How many changes of the journal are shown at most.
@@ -36,7 +37,7 @@ async function readDisk(accession, tools, show = showDisk) {
   disk.files = await verdictsOf(survey, asked.day, tools);
   disk.names = namesOf(disk.files);
   show(disk);
-  const { told, changes, none, isWhole } = await originsOf(things, tools);
+  const { told, changes, none, isWhole } = await originsOf(things, tools, { files: disk.files, day: asked.day });
   things.forEach((thing, at) => Object.assign(thing, told[at]));
   const [own, deed] = [survey.accession, survey.deed].map(String);
   disk.changes = changes.filter((one) => (one.accession ? one.accession === own : one.deed === deed));
@@ -49,6 +50,7 @@ async function readDisk(accession, tools, show = showDisk) {
 function showDisk(disk) {
   shown = disk;
   draw();
+  forgetSaved("disk");
   if (!disk.changes) drawFiles();
   const spans = frames.files.querySelectorAll(".since");
   everyVerdict(disk).forEach((one, at) => (spans[at].textContent = ` ${sinceOf(disk, ...one)}`));
@@ -68,10 +70,9 @@ const everyVerdict = ({ files }) =>
   files.flatMap((record) => Object.keys(AUDIENCES).map((audience) => [record, audience]));
 
 // Since when a file is to an audience as it is now.
-function sinceOf({ things, changes, none, isWhole }, record, audience) {
-  if (none) return `since when: ${none}`;
-  const file = { label: record[EFFECT_AT[audience] + 1], slot: Number(record[COLUMNS.slot]), audience, isWhole };
-  return changes ? sinceWords(things, file, changes) : UNREAD;
+function sinceOf(disk, record, audience) {
+  if (disk.none) return `since when: ${disk.none}`;
+  return disk.changes ? sinceWords(disk.things, record, audience, disk) : UNREAD;
 }
 
 function fileRow(record) {
@@ -138,6 +139,14 @@ function drawFiles() {
   part("ticked").hidden = files.length === 0;
 }
 
+// The SHA-256 with which a disk was put last, as the journal has it: while it is there, the desk takes no other.
+function digestWords({ things: [{ place }], changes = [] }) {
+  const put = changes.find((one) => one.place === place && one.status === "200");
+  const [digest] = /[0-9a-f]{64}$/i.exec(put?.path) ?? [];
+  const unknown = "not known from the journal: the store has it, in the column digest of its table image (FORMATS)";
+  return `its SHA-256: ${digest ? `${digest}, as the journal has it` : unknown}`;
+}
+
 // Saves who gets what of a disk, what the rule says that decides, and who put it; gives the name of the file.
 function saveDisk(disk, more = "") {
   const { survey, things, files, names, asked } = disk;
@@ -148,7 +157,8 @@ function saveDisk(disk, more = "") {
   const saidOf = (file, who) => [...deciding(file[EFFECT_AT[who] + 1]), sinceOf(disk, file, who)];
   const rowOf = ([file, who]) => [...savedVerdict(file, who, asked), ...saidOf(file, who)];
   const { accession, deed, donor, signed } = survey;
-  const whose = `under deed ${deed} of ${donor}, signed on ${signed}; taken in: ${things[0].origin}`;
+  const came = `taken in: ${things[0].origin}; ${digestWords(disk)}`;
+  const whose = `under deed ${deed} of ${donor}, signed on ${signed}; ${came}`;
   const all = `It has all ${counted(files.length, "file")}. ${askedWords(asked)}${more}`;
   const about = `Who gets what of disk ${accession}, ${whose}. ${all} ${SINCE} ${DAYS} ${ANY_NAME} ${UNSAID}`;
   const heads = [...SAVED_HEADS, "what the rule says", PUT.toLowerCase(), "since when"];
@@ -157,8 +167,10 @@ function saveDisk(disk, more = "") {
 }
 
 // Asks the desk for a disk, and saves what it says now, unless that is stopped.
-export const saveNow = async (accession, more, tools) =>
-  saveDisk(await readDisk(accession, tools, () => tools.signal.throwIfAborted()), more);
+export async function saveNow(accession, more, tools) {
+  await askToday(tools.signal);
+  return saveDisk(await readDisk(accession, tools, () => tools.signal.throwIfAborted()), more);
+}
 
 // Puts a takedown of each file that is ticked, at a free rank, once all are rehearsed and agreed to.
 async function takeDown(records, tools) {
@@ -188,11 +200,14 @@ async function takeDown(records, tools) {
   const not = (one) => !stands(one);
   const said = () => `These stand: ${those(commands.filter(stands))}. These do not: ${those(commands.filter(not))}.`;
   const cells = ({ slot, name, rank }) => [accession, slot, name, rank].map(String);
-  const more = { after: (how) => readDisk(accession, how), more: said, heads: ["Disk", "Slot", "File", "Rank"], cells };
-  return putMany("disk", commands, { ...more, of: `disk-${accession}` }, tools);
+  const decide = () => decidedWords(shown.files, commands.filter(stands), shown.asked.day);
+  const more = { after: (how) => readDisk(accession, how), more: said, decide, of: `disk-${accession}` };
+  return putMany("disk", commands, { ...more, heads: ["Disk", "Slot", "File", "Rank"], cells }, tools);
 }
 
+// Without a number the view is that of the disk that was looked at last.
 export async function open(accession, tools) {
+  if (!accession && shown) return location.replace(`#/disk/${shown.survey.accession}`);
   formOf("disk").elements.accession.value = accession ?? "";
   part("ticked").hidden = true;
   Object.values(frames).forEach((frame) => frame.replaceChildren());
@@ -208,7 +223,7 @@ export function listen() {
   const { rank, how, effect } = ticked.elements;
   for (const field of [rank, how]) field.closest("label").hidden = true;
   [rank.disabled, how.value, effect.value] = [true, "all", "deny"];
-  for (const box_ of ticked.querySelectorAll("[name=audiences]")) box_.checked = box_.value !== "staff";
+  for (const tick of ticked.querySelectorAll("[name=audiences]")) tick.checked = tick.value !== "staff";
   ticked.dispatchEvent(new Event("change"));
   ticked.querySelector("[type=submit]").textContent = "Take down what is ticked";
   which.addEventListener("submit", () => location.assign(`#/disk/${which.elements.accession.value}`));

@@ -7,7 +7,7 @@ import { forecast, forecastWords } from "./staff.forecast.js";
 import { isDone, sendMany } from "./staff.many.js";
 import { diskMap } from "./staff.map.js";
 import { matchRows, rowProblem, rowsIn } from "./staff.sheet.js";
-import { LIMITS, listed, ruleWords, today } from "./staff.words.js";
+import { LIMITS, listed, standingWords, today } from "./staff.words.js";
 
 // The chosen dumps, and the rows of the sheet that came with them, or null.
 let dumps = [];
@@ -34,7 +34,6 @@ function dumpOf(file) {
 const sendable = () => dumps.filter((dump) => !dump.problem || isDone(dump));
 const missing = () => (sheet ?? []).filter((one) => one.dump === null);
 const leftOut = () => [...dumps.filter((dump) => dump.problem && !isDone(dump)), ...missing()];
-
 const isOpen = (dump) => !dump.problem && !isDone(dump);
 
 // A dump, or a row of the sheet without one, as it stands in a report; and where a dump goes by what is typed now.
@@ -116,7 +115,7 @@ async function readSheet(files) {
 function useSheet() {
   const others = matchRows(sheet, dumps).filter((dump) => dump.kind && !isDone(dump));
   for (const dump of others) Object.assign(dump, { problem: "The sheet does not name it: left out.", isLeftOut: true });
-  for (const one of sheet.filter((row_) => row_.dump)) {
+  for (const one of sheet.filter(({ dump }) => dump)) {
     const { dump } = one;
     const isElsewhere = dump.accession.value !== one.accession || dump.deed.value !== one.deed;
     if (isElsewhere) Object.assign(dump, { outcome: "", who: null });
@@ -153,11 +152,11 @@ async function unagreed() {
   return (await sure(asked)) ? null : "Nothing is sent.";
 }
 
-function deedParts({ deed, donor, signed, rules }, dumps_) {
-  const lines = rules.map((rule) => dated("li", `${rule.rank}: ${ruleWords(rule)}`));
-  const heading = dated("h3", `${counted(dumps_.length, "disk")} under deed ${deed}, of ${donor}, signed on ${signed}`);
+function deedParts({ deed, donor, signed, rules }, under) {
+  const lines = rules.map((rule) => dated("li", `${rule.rank}: ${standingWords(rule)}`));
+  const heading = dated("h3", `${counted(under.length, "disk")} under deed ${deed}, of ${donor}, signed on ${signed}`);
   const rulesFor = ({ accession }) => [...rulesOf("takedowns", Number(accession.value)), ...rules];
-  const forecasts = dumps_.map((dump) => forecast(dump.files, rulesFor(dump), today()));
+  const forecasts = under.map((dump) => forecast(dump.files, rulesFor(dump), today()));
   const words = `What they get from today, ${today()}, as this page reckons it from the dumps and these rules:`;
   return [
     ...[heading, box("ul", "", ...(lines.length ? lines : [element("li", "No rule: they are closed to everybody.")]))],

@@ -6,15 +6,14 @@ import { changeCount, dated, diskCell, formOf, work } from "./staff.desk.js";
 import { limitFields, options } from "./staff.ruleform.js";
 import { countWords } from "./staff.forecast.js";
 import { pastOf } from "./staff.origins.js";
-import { saveTable, saver } from "./staff.saved.js";
+import { forgetSaved, saveTable, saver } from "./staff.saved.js";
 import { COLUMNS, EFFECT_AT, SAVED_HEADS, UNSAID, askedWords, byWhichRules, effectOf } from "./staff.verdicts.js";
 import { mayWords, onDay, readVerdicts, ruleShown, savedVerdict } from "./staff.verdicts.js";
 import { AUDIENCES, momentNow, today } from "./staff.words.js";
 import { inParts, keeper, pause } from "./stream.js";
 import { isTitled } from "./titles.js";
 
-// The verdicts of the day that was read last, by which rules and when they were asked, and what is known of a past day;
-// behind each the text to look in. No files where the page shows none.
+// The verdicts of the day that was read last, behind each the text to look in; by which rules, and when.
 let seen = { day: "", files: null };
 const SEARCHED = 15;
 
@@ -36,15 +35,14 @@ async function read(day, tools) {
 // Says of a file whether it is looked for: by a part of its name or its disk's title, by the disk's number or its rule.
 function finder(words, audience) {
   const [rule, ruleAt] = [words.toUpperCase(), EFFECT_AT[audience] + 1];
-  const isNumbered = (file) => file[COLUMNS.accession] === words || file[ruleAt] === rule;
+  const number = words.replace(/^disk\s+/, "");
+  const isNumbered = (file) => file[COLUMNS.accession] === number || file[ruleAt] === rule;
   const isOnTitled = (file) => isTitled(Number(file[COLUMNS.accession]), words);
   return (file) => file[SEARCHED].includes(words) || isNumbered(file) || isOnTitled(file);
 }
 
-function wanted() {
-  const { audience, words, closed } = formOf("eyes").elements;
-  return { audience: audience.value, words: words.value.trim().toLowerCase(), showsClosed: closed.checked };
-}
+const wanted = ({ audience, words, closed } = formOf("eyes").elements) =>
+  ({ audience: audience.value, words: words.value.trim().toLowerCase(), showsClosed: closed.checked });
 
 // The files to show: those that are found, and of the closed ones only where they are asked for; of which disk, if all
 // are of one; words for which these are; and of all files, how many there are of each effect.
@@ -98,6 +96,7 @@ async function draw(wait) {
   const words = [countWords(asked.audience, (effect) => counts[effect]), shown, of.past ?? []].flat();
   const made = files.length ? [longTable("verdicts", columns, files, rowOf)] : [];
   stands.replaceChildren(heading, ...words.map((text) => dated("p", text)), ...made);
+  forgetSaved("eyes");
   part("eyes").querySelector(".found").hidden = false;
 }
 
@@ -120,8 +119,7 @@ async function look(tools) {
   return `Read: what everybody gets ${seen.words}.`;
 }
 
-// Opens the view with the day that is shown, unless that was a today that is over. What was asked before a change or on
-// another day goes: the desk is asked anew.
+// Opens the view with the day that is shown, or today. What was asked before a change or on another day is asked anew.
 export function open(_, tools) {
   const [{ day }, isOver] = [formOf("eyes").elements, seen.on !== today()];
   day.defaultValue = today();

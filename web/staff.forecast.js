@@ -1,4 +1,4 @@
-// What each audience will get of a disk that is not sent yet: reckoned on this page from its dump and the rules.
+// What each audience gets by some rules, as this page reckons it: of a disk that is not sent yet, or earlier.
 import { grouped } from "./shared.js";
 import { given } from "./staff.verdicts.js";
 import { AUDIENCES, EFFECTS, selection } from "./staff.words.js";
@@ -11,14 +11,17 @@ const MATCHES = {
   type: (type, file) => file.type === type,
 };
 
+// Whether a rule is for a file and an audience on a day.
+export function isFor(rule, file, audience, day) {
+  const [how, what] = selection(rule);
+  const isOn = (rule.from ?? "") <= day && (!rule.until || day < rule.until);
+  return isOn && rule.audiences.includes(audience) && MATCHES[how](what, file);
+}
+
 // The effects for each file on a day, by audience: the first rule that matches decides.
 export function forecast(files, rules, day) {
-  const isOn = ({ from, until }) => (from ?? "") <= day && (until === null || day < until);
-  const matches = (rule, file, [how, what] = selection(rule)) => MATCHES[how](what, file);
-  const effectsFor = (audience) => {
-    const mine = rules.filter((rule) => isOn(rule) && rule.audiences.includes(audience));
-    return files.map((file) => given(mine.find((rule) => matches(rule, file))?.effect ?? "deny", file.isServed));
-  };
+  const effectOf = (file, audience) => rules.find((rule) => isFor(rule, file, audience, day))?.effect ?? "deny";
+  const effectsFor = (audience) => files.map((file) => given(effectOf(file, audience), file.isServed));
   return Object.fromEntries(Object.keys(AUDIENCES).map((audience) => [audience, effectsFor(audience)]));
 }
 
@@ -32,7 +35,5 @@ export function countWords(audience, countOf) {
 export const audienceCounts = (countOf) =>
   Object.keys(AUDIENCES).map((audience) => countWords(audience, (effect) => countOf(audience, effect)));
 
-export function forecastWords(forecasts) {
-  const effectsOf = (audience) => forecasts.flatMap((one) => one[audience]);
-  return audienceCounts((audience, effect) => effectsOf(audience).filter((one) => one === effect).length);
-}
+export const forecastWords = (forecasts) =>
+  audienceCounts((of, effect) => forecasts.flatMap((one) => one[of]).filter((one) => one === effect).length);

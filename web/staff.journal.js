@@ -5,9 +5,9 @@ import { AllChanges, UNKNOWN, changeWords, isUnknown, outcomeWords, spaced, time
 import { dated, formOf, show, work } from "./staff.desk.js";
 import { Lines, MONTHS, MOST, PIECE } from "./staff.lines.js";
 import { limitFields } from "./staff.ruleform.js";
-import { saveTable, saver } from "./staff.saved.js";
+import { forgetSaved, saveTable, saver } from "./staff.saved.js";
 import { namesOf, verdictsOf } from "./staff.verdicts.js";
-import { momentNow, today } from "./staff.words.js";
+import { momentNow } from "./staff.words.js";
 import { withTitle } from "./titles.js";
 
 export const COLUMNS = ["When", "Who", "What", "Outcome", "Reason"];
@@ -21,8 +21,7 @@ let readAt = "";
 let read = new AllChanges();
 let changes = [];
 
-// The disk that is looked for, its deed, and the names of its files by their slots: neither where the desk has no such
-// disk; and what comes of asking for these.
+// The disk that is looked for, its deed and the names of its files by slot, as the desk has them; and what asks for it.
 const NO_DISK = { accession: "", deed: "" };
 let disk = NO_DISK;
 let knowing = Promise.resolve();
@@ -32,7 +31,8 @@ async function knowDisk(accession) {
   if (accession === "") return;
   try {
     const survey = await askObject(`/images/${accession}/survey`);
-    const names = namesOf(await verdictsOf(survey, today(), { progress: () => {} }));
+    // (names are the same on each day)
+    const names = namesOf(await verdictsOf(survey, momentNow().slice(0, 10), {}));
     if (disk.accession === accession) disk = { accession, deed: String(survey.deed), names };
   } catch (fault) {
     if (fault.said?.error !== "no-accession") show("journal", refusal(fault));
@@ -68,8 +68,9 @@ function found({ accession: { value: number }, deed, words, day, checks }) {
 }
 
 // The names of the files of a disk, by their slots; where they were not read, where they are to be had.
-const namesFor = ({ accession }, { names }) =>
-  names ?? (accession && { get: () => `named on the page of disk ${accession}` });
+const namesFor = ({ accession }, { names }, where = "named on the page of disk") =>
+  names ?? (accession && { get: () => `${where} ${accession}` });
+const ELSEWHERE = "this table does not have its name: the one saved on the staff's page does, of who gets what of disk";
 
 // The row of a change; `of` is the disk for which it is shown, if any.
 export function changeRow(change, of) {
@@ -88,7 +89,8 @@ function summary() {
   const unknown = changes.filter(isUnknown).length;
   const [first, last] = [read.oldest, changes[0]?.moment ?? read.oldest].map(spaced);
   const texts = [`${counted(changes.length, "change")} read${first && `, from ${first} to ${last}`}`];
-  texts.push(lines.isWhole ? "there are no older lines" : "older lines, if any, were not read");
+  const older = "older lines, if any, were not read: they may say that a change replaced something";
+  texts.push(lines.isWhole ? "there are no older lines" : older);
   const more = [`${texts.join("; ")}.`];
   if (unknown) more.push(`Of ${grouped(unknown)} ${UNKNOWN}, or it has not ended yet.`);
   if (read.unread) more.push(`${counted(read.unread, "line")} cannot be read.`);
@@ -112,6 +114,7 @@ async function draw() {
   const made = shown.length ? [longTable("changes", COLUMNS, shown, (change) => changeRow(change, disk))] : [];
   const words = [dated("p", summary()), element("p", `Shown: ${which}.`)];
   stands.replaceChildren(...words, ...made);
+  forgetSaved("journal");
   stands.setAttribute("aria-busy", "false");
   form.elements.older.disabled = lines.isWhole || isFull();
 }
@@ -157,7 +160,7 @@ const HEADS = ["moment", "name", "reason", "of", "what", "outcome", "method", "p
 
 function savedRecord(change) {
   const { moment, name, reason, method, path, status, body } = change;
-  const words = [ofWords(change), changeWords(change, namesFor(change, disk)), outcomeWords(change)];
+  const words = [ofWords(change), changeWords(change, namesFor(change, disk, ELSEWHERE)), outcomeWords(change)];
   return [moment, name, reason, ...words, method, path, status, body];
 }
 

@@ -45,10 +45,7 @@ function showView(focuses) {
     part(other).hidden = other !== name;
     if (other !== name && !VIEWS[other].keeps) part(other).querySelector(".stands").replaceChildren();
   }
-  for (const link of part("places").querySelectorAll("a")) {
-    if (link.hash === `#/${name}`) link.setAttribute("aria-current", "page");
-    else link.removeAttribute("aria-current");
-  }
+  for (const link of part("places").querySelectorAll("a")) link.ariaCurrent = link.hash === `#/${name}` ? "page" : null;
   part("who").hidden = VIEWS[name].isLook === true;
   const { heading, of } = VIEWS[name];
   const title = of && number ? `${of} ${number}` : heading;
@@ -67,10 +64,7 @@ function showView(focuses) {
 
 // Without a key the page loads again, so that nothing is left on it. The desk's keys are for the staff alone.
 async function useKey(given) {
-  if (given === "") {
-    location.reload();
-    return;
-  }
+  if (given === "") return location.reload();
   useNow(given);
   part("main").setAttribute("aria-busy", "true");
   const said = await ask("/staff/keys").then(() => element("p", "The desk takes this key."), refusal);

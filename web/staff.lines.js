@@ -2,14 +2,13 @@
 import { Refused, ask, fields, loaded } from "./shared.js";
 import { AllChanges, spaced } from "./staff.changes.js";
 import { breather } from "./stream.js";
-import { dayAfter, monthBefore, today } from "./staff.words.js";
+import { dayAfter, momentNow, monthBefore } from "./staff.words.js";
 
 // How many bytes come at a time, and how many months the page looks back for a file.
 export const PIECE = 4 << 20;
 export const MONTHS = 120;
 // From how many changes on the page reads no more.
 export const MOST = 100000;
-
 const LINE_FEED = 10;
 
 // The months without a file of which none comes any more: they are not asked for again.
@@ -42,16 +41,14 @@ async function eachLine(bytes, take) {
 }
 
 export class Lines {
-  constructor() {
-    // Up to where the file that is written now is still to be read, and how long it was. Null: up to its end.
-    this.until = null;
-    this.length = 0;
-    // The end of a line whose beginning was not read.
-    this.rest = new Uint8Array(0);
-    // The month to look at next, and how many are still to be looked at.
-    this.month = "";
-    this.months = MONTHS;
-  }
+  // Up to where the file that is written now is still to be read, and how long it was. Null: up to its end.
+  until = null;
+  length = 0;
+  // The end of a line whose beginning was not read.
+  rest = new Uint8Array(0);
+  // The month to look at next, and how many are still to be looked at.
+  month = "";
+  months = MONTHS;
 
   // Whether all is read that the page can find.
   get isWhole() {
@@ -82,7 +79,7 @@ export class Lines {
   // Reads the file of the latest month before those that were looked at, if there is one.
   async readMonth(take, oldest, tools) {
     // The clock of the museum's machine may be ahead of this one.
-    this.month ||= oldest().slice(0, 7) || dayAfter(today(), 1).slice(0, 7);
+    this.month ||= oldest().slice(0, 7) || dayAfter(momentNow().slice(0, 10), 1).slice(0, 7);
     for (let isFound = false; this.months > 0 && !isFound; ) {
       tools.progress("Looking for an older journal, month by month", MONTHS - this.months, MONTHS);
       isFound = await this.readFile(take, tools);
@@ -94,7 +91,7 @@ export class Lines {
   async readFile(take, tools) {
     if (absent.has(this.month)) return false;
     const reply = await unless(404, ask(`/journal-${this.month}`, { signal: tools.signal }));
-    if (reply === null && this.month < monthBefore(today().slice(0, 7))) absent.add(this.month);
+    if (reply === null && this.month < monthBefore(momentNow().slice(0, 7))) absent.add(this.month);
     if (reply === null) return false;
     await eachLine(await bytesOf(reply), take);
     return true;

@@ -1,9 +1,9 @@
 // Many changes, one after the other: with progress, a report that can be saved, and a way to go on where they stopped.
 import { longTable } from "./lists.js";
 import { Refused, box, button, cell, counted, element, explainRefusal, refusalName, row } from "./shared.js";
-import { ANY_NAME, change, diskCell, isUnsure, keepReason, older, paragraph, whoNow } from "./staff.desk.js";
+import { ANY_NAME, change, dated, diskCell, isUnsure, keepReason, older, paragraph, whoNow } from "./staff.desk.js";
 import { saveTable, saver } from "./staff.saved.js";
-import { VISITS, momentNow } from "./staff.words.js";
+import { VISITS, askToday, momentNow } from "./staff.words.js";
 
 const DONE = "done";
 const isTakedown = ({ word }) => word === "takedown";
@@ -26,7 +26,7 @@ const outcomeOf = ({ problem, outcome }) => (outcome === DONE ? DONE : problem |
 
 // Sends what is left of some items by `one`, and gives a report. `run` has the section, the items, a word for them,
 // what sends one, and the columns of the report with an item's texts in them; `after` comes when it ends, in any case,
-// and may have words: `said` in the place of how many are done, `more` where not all are.
+// and may have words: `said` in the place of how many are done, `more` where not all are, `decide` of what holds then.
 export async function sendMany(run, { progress, signal }) {
   const left = run.items.filter((item) => !isOver(item));
   run.begun = momentNow();
@@ -40,7 +40,7 @@ export async function sendMany(run, { progress, signal }) {
     if (fault !== null && isLost(fault)) break;
   }
   if (!run.items.every(isOver)) keepReason();
-  const isOlder = await Promise.resolve(run.after?.({ progress })).then(() => false, () => true);
+  const isOlder = await askToday().then(() => run.after?.({ progress })).then(() => false, () => true);
   return report(run, isOlder);
 }
 
@@ -65,16 +65,19 @@ function report(run, isOlder) {
   const rowOf = (item) => row([...run.cells(item), outcomeOf(item)].map((text, at) => cellOf(columns[at], text)));
   const table = others.length ? longTable("Not done", columns, others, rowOf) : null;
   const more = run.more && !isWhole && !isOlder ? element("p", run.more()) : null;
+  run.decided = isOlder ? "" : (run.decide?.() ?? "");
+  const decided = run.decided ? dated("p", run.decided) : null;
   const goOn = isWhole ? null : button("Go on with the rest", () => change(run.section, (how) => sendMany(run, how)));
   const buttons = box("p", "choices", goOn, ...saver(button("Save the report"), () => saveReport(run)));
   const visits = isTakedown(run) ? paragraph(VISITS) : null;
-  return box("div", "report", summary(run), table, more, visits, buttons, isOlder ? older(run.section) : null);
+  return box("div", "report", summary(run), table, more, decided, visits, buttons, isOlder ? older(run.section) : null);
 }
 
-function saveReport({ section, of = section, begun, items, heads, cells, ...run }) {
+function saveReport({ section, of = section, begun, items, heads, cells, decided, ...run }) {
   const columns = [...heads.map((head) => head.toLowerCase()), "outcome", "by", "reason", "tried at"];
   const recordOf = (item) => [...cells(item), outcomeOf(item) || "not sent", ...(item.who ?? ["", "", ""])];
-  const [what, more] = isTakedown(run) ? ["Takedowns that were to be put", ` ${VISITS}`] : ["What was to be sent", ""];
-  const about = `${what}, and what became of each. It does not say what stands since. ${ANY_NAME}${more}`;
-  return saveTable(`${of}-report-of`, begun, about, columns, items, recordOf);
+  const [what, ...more] = isTakedown(run) ? ["Takedowns that were to be put", VISITS] : ["What was to be sent"];
+  const about = `${what}, and what became of each. It does not say what stands since.`;
+  const all = [about, ANY_NAME, ...more, decided].filter(Boolean).join(" ");
+  return saveTable(`${of}-report-of`, begun, all, columns, items, recordOf);
 }

@@ -1,10 +1,12 @@
 // Who put what stands, when and why, as the journal says; and what it says of a day that is over.
-import { Refused, counted, listOf, meaning } from "./shared.js";
+import { Refused, counted, meaning } from "./shared.js";
 import { UNKNOWN, bodyOf, changeWords, isUnknown, ruleOfBody, spaced, tried } from "./staff.changes.js";
 import { held, readHeld, standing } from "./staff.desk.js";
+import { isFor } from "./staff.forecast.js";
 import { readBack } from "./staff.lines.js";
-import { COLUMNS } from "./staff.verdicts.js";
-import { RULES, listed, ruleWords, today } from "./staff.words.js";
+import { COLUMNS, EFFECT_AT, effectOf, fileOf, given } from "./staff.verdicts.js";
+import { AUDIENCES, RULES, dayAfter, listed, ruleWords } from "./staff.words.js";
+import { keeper } from "./stream.js";
 
 // What stands: a word for it, the place of the changes that put it, and whether the body of one says what stands.
 const thing = (word, place, isSaid) => ({ word, place, isSaid });
@@ -17,10 +19,10 @@ export const standingDisk = ({ accession, kind, deed }) =>
 // Whether a change says what stands: the desk takes no body that is not of its form.
 const isOf = ({ isSaid }, change) => change.method === "PUT" && tried(() => isSaid(bodyOf(change)), false);
 
-// Changes by what they are of, each from the newest on.
+// Changes by what they are of, each from the newest on; whether they go back to a day; and whether one was done, as far
+// as anybody knows.
 const byPlaces = (changes) => Map.groupBy(changes, ({ place }) => place);
-
-// Whether a change was done, as far as anybody knows.
+const goBackTo = (day, changes) => changes.at(-1)?.moment.slice(0, 10) <= day;
 const counts = (change) => change.status === "200" || isUnknown(change);
 
 // The first change that put what stands, of those since which nothing else was put there, and what was there before;
@@ -51,80 +53,114 @@ async function journalTo(isEnough, tools) {
   return { changes, places: byPlaces(changes), far, none: fault ? none : "" };
 }
 
-// For each of some things that stand, the words that say who put it, when and why, and the change that did, if that is
-// in the journal; and the changes that were read, or why none could be.
-export async function originsOf(things, tools) {
-  // (what a deed's rule has replaced since the disk came may stand in older lines)
-  const isTold = (one, places, { put } = originOf(one, places)) =>
-    put && (one.name !== "rules" || places.get(one.place).at(-1).at <= originOf(things[0], places).put?.at);
-  const isEnough = (changes, places = byPlaces(changes)) => things.every((one) => isTold(one, places));
+// For each of some things that stand: words for who put it, when and why, and the change; and all changes that were
+// read, or why none could be. With files of a disk, the first thing, they go back to where they say since when.
+export async function originsOf(things, tools, { files = [], day } = {}) {
+  const isOpen = (found, own) => files.some((record) =>
+    Object.keys(AUDIENCES).some((audience) => turnOf(found, [record, audience], own, day).isOpen));
+  const isEnough = (changes, places = byPlaces(changes)) => {
+    const found = things.map((one) => ({ ...one, put: originOf(one, places).put }));
+    return found.every(({ put }) => put) && !(day && isOpen(found, changes.filter(isOfDisk(things[0]))));
+  };
   const { changes, places, far, none } = await journalTo(isEnough, tools);
   const toldOf = (one, found) => ({ origin: none || originWords(one, found, far), put: found.put });
   return { told: things.map((one) => toldOf(one, originOf(one, places))), changes, none, isWhole: far.isWhole };
 }
 
-export const SINCE = `In the journal since: from then on it has no change of the disk, of the rule that decides, or of \
-a rule before that. A rule that was replaced does not count where the journal says that it let these readers do the \
-same with the file on all days; nor do rules for another file by its slot, or for other readers. It may have been so \
-for longer: what other rules did before, the page does not reckon. A takedown counts as new where the journal has \
-nothing before it.`;
+export const SINCE = `In the journal since: so far back it has nothing by which these readers could do anything else \
+with the file, as the page reckons from all changes and days of the rules. A rule that was put counts as new where no \
+line says what stood there before.`;
 
-// The place of a rule in the order in which the desk tries them: takedowns come before the rules of a deed.
-function orderOf(place) {
-  const [, of, rank] = /^\/(images|deeds)\/[0-9]+\/rules\/([0-9]+)$/.exec(place) ?? [];
-  return Number(rank) + (of === "deeds" ? 10000 : 0);
+// Whether a change is of the takedowns of a disk or of the rules of its deed.
+function isOfDisk(disk, [, , accession, , deed] = disk.place.split("/")) {
+  const its = new RegExp(`^/(images/${accession}|deeds/${deed})/rules/[0-9]+$`);
+  return ({ place }) => its.test(place);
 }
 
-// Whether a rule can be for a file and an audience, by its slot and its audiences. One that is not known can be.
-const canBeFor = ({ audiences, select }, { slot, audience }) =>
-  (select?.slot ?? slot) === slot && (!Array.isArray(audiences) || audiences.includes(audience));
+// The order in which the desk tries rules, by their places, takedowns first; and words for a place.
+const partsOf = (place) => [place.startsWith("/deeds/"), ...place.match(/[0-9]+/g).map(Number)];
+const orderOf = (place, [isOfDeed, , rank] = partsOf(place)) => rank + (isOfDeed ? 10000 : 0);
+const placeWords = (place, [isOfDeed, ...of] = partsOf(place)) => RULES[isOfDeed ? "rules" : "takedowns"].words(...of);
 
-// Whether a change can concern a file and an audience, by the rule that it puts or by one that may have stood there.
-// Of a deed's rule older lines may not be read, so one that is not known may have stood; of a disk's takedowns all are.
-function concerns({ place, method, body, stood }, file) {
-  const before = place.startsWith("/deeds/") ? stood : stood.filter((one) => one !== undefined);
-  const bodies = method === "PUT" ? [body, ...before] : stood;
-  return bodies.some((one) => one !== null && canBeFor(bodyOf({ body: one }), file));
+// The rule that a body puts: null for none, undefined where nobody knows. What may have stood at the place of a change
+// before it (a disk's first takedown had none before it, as all lines of the disk are read), and after it.
+const ruleFrom = (body) => body && tried(() => [ruleOfBody(bodyOf({ body }))].find((one) => ruleWords(one)), undefined);
+const isSame = (one, other) => (one && other ? ruleWords(one) === ruleWords(other) : one === other);
+const isFirst = ({ place, method }) => method === "PUT" && !place.startsWith("/deeds/");
+const before = (change) => change.stood.map((body) => ruleFrom(body === undefined && isFirst(change) ? null : body));
+const after = (change) =>
+  [ruleFrom(change.method === "PUT" ? change.body : null), ...(isUnknown(change) ? before(change) : [])];
+
+// What decides on a file on a day, by what may have stood at the places of rules, in their order: each rule that may.
+function decidersOf(stood, file, day) {
+  const found = [];
+  for (const [place, rules] of stood) {
+    const hits = rules.filter((rule) => rule === undefined || (rule && isFor(rule, file, file.audience, day)));
+    found.push(...hits.map((rule) => ({ place, rule })));
+    if (hits.length === rules.length) return found;
+  }
+  return [...found, { place: "", rule: null }];
 }
 
-// The change since which the rule that decides, or those that it replaced, let an audience do the same with a file: the
-// latest at its place before which anything else may have stood. (Which files are of a name, a type or a user only the
-// desk says: rules with the same words for these are for the same files.)
-function firstOf({ rule, ...own }, { slot, audience }, changes) {
-  const words = JSON.stringify(rule.select);
-  const isFor = (select) => select?.all || select?.slot === slot || JSON.stringify(select) === words;
-  const isAlike = ({ audiences, effect, select, from, until }) =>
-    effect === rule.effect && listOf(audiences).includes(audience) && isFor(select) && !(from || until || rule.from);
-  const isSame = (body) => isOf(own, { method: "PUT", body }) || isAlike(bodyOf({ body }));
-  const isFirst = ({ stood }) => stood.length === 0 || !stood.every(isSame);
-  return changes.find((one) => one.place === own.place && counts(one) && isFirst(one));
+// What decided on a file, back from a day to when its disk came: at first then, and before each day on which a rule
+// began or ended, and each change. Where the desk has not what the latest change says, either may have stood since.
+function* stepsBack([disk, ...rules], file, changes, today) {
+  const since = changes.filter((one) => one.at > disk.put.at && counts(one) && isOfDisk(disk)(one));
+  const now = new Map([...since.map(({ place }) => [place, null]), ...rules.map(({ place, rule }) => [place, rule])]);
+  const inOrder = [...now].sort(([one], [other]) => orderOf(one) - orderOf(other));
+  const stood = new Map(inOrder.map(([place, rule]) => [place, [rule]]));
+  let last = today;
+  yield { found: decidersOf(stood, file, last) };
+  for (const change of [...since, disk.put]) {
+    const from = change.moment.slice(0, 10);
+    const all = new Set([...stood.values()].flat().flatMap((rule) => [rule?.from, rule?.until]));
+    const days = [...all].filter((day) => day > from && day <= last).sort().reverse();
+    for (const day of days) yield { day, found: decidersOf(stood, file, dayAfter(day, -1)) };
+    if (change === disk.put) return;
+    if (from < last) last = from;
+    const [rule, then] = [now.get(change.place), after(change)];
+    now.delete(change.place);
+    if (rule !== undefined && !then.some((one) => isSame(one, rule))) stood.get(change.place).push(...then);
+    yield { change, found: decidersOf(stood, file, last) };
+    stood.set(change.place, before(change));
+    yield { change, found: decidersOf(stood, file, last) };
+  }
+}
+
+// The latest change or day before which a file may have been otherwise to an audience, with what may have decided then;
+// what decides since, and now; and whether older lines may say more. No `now` where what stands has changed meanwhile.
+function turnOf(things, [record, audience], changes, day) {
+  const file = { ...fileOf(record), audience };
+  const isNow = ({ rule }) =>
+    rule !== undefined && given(rule?.effect ?? "deny", file.isServed) === effectOf(record, audience);
+  let [now, since] = [];
+  for (const { found, ...turn } of stepsBack(things, file, changes, day)) {
+    const isOpen = found.some(({ place, rule }) => rule === undefined && place.startsWith("/deeds/"));
+    if (!found.every(isNow)) return { ...turn, found, since, now, isOpen };
+    [now, since] = [now ?? found[0], found];
+  }
+  return { change: things[0].put, since, now };
 }
 
 // When and by whom something was done, and what, in short.
-function doneWords(change, what = changeWords({ ...change, body: "", stood: [] })) {
-  return byWords({ ...change, reason: isUnknown(change) ? `${what} (${UNKNOWN})` : what });
-}
+const doneWords = (change, what = changeWords({ ...change, body: "", stood: [] })) =>
+  byWords({ ...change, reason: isUnknown(change) ? `${what} (${UNKNOWN})` : what });
 
-// Since when a file is to an audience as it is now, as far as the changes of its disk and its deed say: the latest of
-// these, and of the days on which a rule began or ended, that can concern both. `label` is of the rule that decides.
-export function sinceWords([disk, ...rules], { label, isWhole, ...file }, changes) {
+// Since when a file is to an audience as it is now, as far as the changes of its disk and its deed say.
+export function sinceWords(things, record, audience, { changes, isWhole, asked }) {
+  const [[disk, ...rules], label] = [things, record[EFFECT_AT[audience] + 1]];
   const own = rules.find((one) => one.label === label);
   const far = isWhole ? "" : ", as far as it was read";
   if (!disk.put || !(own ? own.put : label === "D0")) return `since when: not in the journal${far}`;
-  const order = own ? orderOf(own.place) : Infinity;
-  const first = own && firstOf(own, file, changes);
-  const done = changes.filter((one) => counts(one) && orderOf(one.place) < order && concerns(one, file));
-  if (own) done.push(first);
-  done.sort((one, other) => one.at - other.at);
-  const later = own && first.at < own.put.at ? "; what has replaced it is the same for them" : "";
-  const before = rules.filter(({ place, rule }) => orderOf(place) < order && canBeFor(rule, file));
-  const days = [[own?.rule.from, label, "began"], ...before.map((one) => [one.rule.until, one.label, "ended"])];
-  const turns = days.filter(([day]) => day && day <= today()).map(([day, of, did]) => `${day} (${meaning(of)} ${did})`);
-  // These texts begin with their moments or days, and a day comes before its moments. Of one second the last counts.
-  const words = done.map((one) => doneWords(one) + (one === first ? later : ""));
-  const texts = [...turns, doneWords(disk.put, "taken in"), ...words];
-  const latest = texts.reduce((last, text) => (text.slice(0, 19) < last.slice(0, 19) ? last : text));
-  return `in the journal since ${latest}`;
+  const { change, day, found, since, now } = turnOf(things, [record, audience], changes, asked.day);
+  if (!now) return "since when: not known, for what stands has changed meanwhile";
+  if (change === disk.put) return `in the journal since ${doneWords(change, "taken in")}`;
+  const isLater = since.some(({ place, rule }) => place !== now.place || !isSame(rule, now.rule));
+  const turned = (some, key, did) =>
+    some.filter(({ rule }) => rule?.[key] === day).map(({ place }) => `${placeWords(place)} ${did}`);
+  const words = day && `${day} (${listed([...turned(found, "until", "ended"), ...turned(since, "from", "began")])})`;
+  const later = isLater ? "; what has come since is the same for them" : "";
+  return `in the journal since ${words ?? doneWords(change)}${later}`;
 }
 
 // What is not known to have been so on a day that is over: words for a disk or a rule that stands; "" where it was so.
@@ -134,12 +170,9 @@ function pastWords(name, { put, before }, { day, reach, isFar }) {
   const only = `${isDisk ? "not yet here on that day:" : name} put only on ${since}`;
   if (put && before) return only;
   if (put && isFar) return `${only}, not before in the journal, ${back}`;
-  const thing_ = isDisk ? "it was here" : `${name} stood`;
-  return `whether ${thing_} then the journal, ${back}, does not say${put ? `; put on ${since}` : ""}`;
+  const what = isDisk ? "it was here" : `${name} stood`;
+  return `whether ${what} then the journal, ${back}, does not say${put ? `; put on ${since}` : ""}`;
 }
-
-// Whether changes, from the newest on, go back to a day.
-const goBackTo = (day, changes) => changes.at(-1)?.moment.slice(0, 10) <= day;
 
 // What the journal says of a day that is over: `others` gives, of a file and the rule that decides, what was other or
 // is not known; `words` says how much has changed since. (A promise takes what has a `then` for another promise.)
@@ -151,28 +184,22 @@ export async function pastOf(day, tools) {
     [`${RULES[name].letter}${scope}.${rule.rank}`, standingRule(RULES[name].path(scope, rule.rank), rule)];
   const things = new Map(Object.keys(RULES).flatMap((name) => standing(name).map((one) => labelled(one, name))));
   const signed = new Map(held.deeds.map((one) => [String(one.deed), one.signed]));
-  const told = new Map();
-  const tell = (key, name, one) => {
-    if (!told.has(key)) told.set(key, one ? pastWords(name, originOf(one, places), known) : "");
-    return told.get(key);
-  };
+  const told = (name, one) => (one ? pastWords(name, originOf(one, places), known) : "");
+  const diskTold = keeper((place) => told("", { ...standingDisk({}), place }));
+  const ruleTold = keeper((label) => told(meaning(label), things.get(label)));
   const others = (record, label) => {
     const [accession, deed, kind] = record.slice(COLUMNS.accession, COLUMNS.slot);
     const unsigned = signed.get(deed) > day && `not then: deed ${deed} was signed on ${signed.get(deed)}`;
     if (none) return [unsigned, `what stood then is not known: ${none}`];
-    const disk = tell(accession, "", standingDisk({ accession, deed, kind }));
-    return [unsigned, disk, tell(label, meaning(label), things.get(label))];
+    return [unsigned, diskTold(standingDisk({ accession, deed, kind }).place), ruleTold(label)];
   };
   const words = none ? `What has changed since then is not known: ${none}.` : changedWords(changes, known);
   return { others, words, then: none ? `what stood then is not known: ${none}.` : thenWords(changes, day) };
 }
 
-// How many changes since a day are named.
+// How many changes since a day are named; and the places of changes, by words for them.
 const MOST_NAMED = 10;
-
-// The places of changes, by words for them.
 const SORTS = { disk: "/accessions/", takedown: "/images/.*rules", rule: "/deeds/.*rules", deed: "/deeds/[0-9]+$" };
-
 const isSort = (sort) => ({ place }) => new RegExp(`^${sort}`).test(place);
 const isSince = (day) => ({ moment, status }) => moment.slice(0, 10) > day && status === "200";
 

@@ -1,8 +1,9 @@
 // Which disks and which ranks a takedown gets.
 import { counted } from "./shared.js";
-import { RULES, ruleWords } from "./staff.words.js";
+import { RULES, isOver, listed, standingWords } from "./staff.words.js";
 
-const LAST_RANK = 9999;
+// The last rank; and how many takedowns before one are named.
+const [LAST_RANK, MOST_NAMED] = [9999, 5];
 // How far apart are ranks of takedowns of one file, and of others: one of a file has to fit before those.
 const [STEP, WIDE_STEP] = [10, 100];
 export const MOST_DISKS = 1000;
@@ -50,10 +51,12 @@ export function placeOf(name, scope, typed, rule, stand) {
 function placeWords(name, { scope, rank, replaced }, rule, stand) {
   if (rank === null) return `All ranks of disk ${scope} are in use.`;
   const words = RULES[name].words(scope, rank);
-  if (replaced) return `In use: ${words} stands, ${ruleWords(replaced)}. What you put replaces it.`;
+  if (replaced) return `In use: ${words} stands, ${standingWords(replaced)}. What you put replaces it.`;
   if (name === "rules") return "";
-  const [before, meets] = [stand, met(rule, stand)].map((some) => some.filter((one) => one.rank < rank).length);
-  const mind = meets ? ` Mind: ${counted(meets, "takedown")} before it may be for the same files and readers.` : "";
-  const all = counted(stand.length + 1, "takedown");
-  return `Rank ${rank} gives its place in the order: number ${before + 1} of ${all} of disk ${scope}.${mind}`;
+  const [before, meets] = [stand, met(rule, stand)].map((some) => some.filter((one) => one.rank < rank));
+  const all = meets.filter((one) => !isOver(one)).map((one) => `takedown ${one.rank} (${standingWords(one)})`);
+  const named = all.length > MOST_NAMED ? [...all.slice(0, MOST_NAMED), `${all.length - MOST_NAMED} more`] : all;
+  const mind = named.length ? ` Mind: before it may decide, for the same files and readers, ${listed(named)}.` : "";
+  const place = `number ${before.length + 1} of ${counted(stand.length + 1, "takedown")} of disk ${scope}`;
+  return `Rank ${rank} gives its place in the order: ${place}.${mind}`;
 }

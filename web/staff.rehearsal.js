@@ -2,24 +2,21 @@
 import { shownName } from "./names.js";
 import { box, button, counted, element, loaded, part } from "./shared.js";
 import { dated, refusedWork, sure } from "./staff.desk.js";
-import { COLUMNS, given, readVerdicts, verdictsOf } from "./staff.verdicts.js";
-import { EFFECTS, audienceWords, dayAfter, isOnNoDay, listed, today } from "./staff.words.js";
+import { isFor } from "./staff.forecast.js";
+import { COLUMNS, EFFECT_AT, effectOf, fileOf, given } from "./staff.verdicts.js";
+import { readVerdicts, ruleMeaning, verdictsOf } from "./staff.verdicts.js";
+import { AUDIENCES, EFFECTS, SHORT, audienceWords, dayAfter, isOnNoDay, listed, today } from "./staff.words.js";
 import { readTable } from "./stream.js";
 
 const ORDER = ["deny", "list", "read"];
-const MOST_NAMED = 10;
-const MOST_ALONE = 10;
-
+const [MOST_NAMED, MOST_ALONE] = [10, 10];
 const DAY_WORDS = { from: "its first day", last: "its last day", until: "the first day without it" };
 
 // The days of a rule on which something begins or ends.
-function turningDays({ from, until }) {
-  if (isOnNoDay({ from, until })) return {};
-  return { from, last: until && dayAfter(until, -1), until };
-}
+const turningDays = ({ from, until }) =>
+  isOnNoDay({ from, until }) ? {} : { from, last: until && dayAfter(until, -1), until };
 
-// On which days a change is rehearsed: today, and the days to come on which the rule or the one that it replaces begins
-// or ends; each with words that say what it is.
+// On which days a change is rehearsed: today, and those on which the rule or one that it replaces begins or ends later.
 export function rehearsalDays(rule, replaced = []) {
   const now = today();
   const days = new Map(replaced.flatMap((one) => Object.values(turningDays(one))).map((day) => [day, ""]));
@@ -28,13 +25,10 @@ export function rehearsalDays(rule, replaced = []) {
   return [{ day: now, words: `Today, ${now}` }, ...later.map(([day, more]) => ({ day, words: `On ${day}${more}` }))];
 }
 
-// The changes of a day in groups: how many files change from an effect to another for the same audiences, and the first
-// of them. The lines of one file come one after the other.
+// How many files change on a day, by effects and audiences, and the first of them. The lines of one file come together.
 export class Changes {
-  constructor() {
-    this.groups = new Map();
-    this.file = null;
-  }
+  groups = new Map();
+  file = null;
 
   take([accession, slot, kind, name, audience, now, then]) {
     if (this.file?.accession !== accession || this.file.slot !== slot) {
@@ -67,8 +61,7 @@ export class Changes {
 
 const isNoDisk = (fault) => fault.said?.error === "no-accession";
 
-// What a rehearsal does not say: the kind of each disk, and which files the desk gives out. For takedowns of some disks
-// the page asks for these alone.
+// What no rehearsal says: the kind of each disk, and which files the desk gives out. Few disks are asked for alone.
 async function readServed(commands, tools) {
   const known = { kinds: new Map(), served: new Set() };
   const disks = new Set(commands.filter(({ path }) => path.startsWith("/images/")).map(({ scope }) => scope));
@@ -85,8 +78,7 @@ async function readServed(commands, tools) {
   return known;
 }
 
-// Rehearses commands on days. Gives what changes on each day, and the commands that the desk refuses with
-// `no-accession`, which name no disk.
+// Rehearses commands on days: what changes on each, and the commands that the desk refuses since they name no disk.
 export async function rehearse(commands, days, tools) {
   const known = await readServed(commands, tools);
   const missing = new Set();
@@ -141,6 +133,28 @@ export function dayParts({ words, groups, past, none }, before) {
   if (isSame) return [heading, element("p", "The same as on the day above.")];
   return [heading, ...groups.flatMap((group) => groupParts(group, past))];
 }
+
+// What the desk's verdicts of a day say of the files of takedowns of a disk that were put, and which others decide.
+export function decidedWords(files, commands, day) {
+  const found = commands.flatMap(({ scope, rank, rule }) => rule.audiences.flatMap((audience) => {
+    const wordsOf = (record, label = record[EFFECT_AT[audience] + 1]) => {
+      const before = label.startsWith("T") && Number(label.split(".")[1]) < rank ? ", which comes before it" : "";
+      const by = label === `T${scope}.${rank}` ? "" : ` (${ruleMeaning(label)}${before})`;
+      return `${SHORT[effectOf(record, audience)]} ${AUDIENCES[audience]}${by}`;
+    };
+    const isOf = (record) => isFor({ ...rule, from: null, until: null }, fileOf(record), audience, day);
+    return files.filter(isOf).map((record) => wordsOf(record));
+  }));
+  const counts = [...Map.groupBy(found, (words) => words)];
+  const words = listed(counts.map(([text, { length }]) => `${counted(length, "file")} ${text}`));
+  return `What the desk's verdicts on ${day} say of the files that are meant: ${words || "there is none"}.`;
+}
+
+// The same, once the desk is asked.
+export const decidedNow = (commands, tools) => Promise.resolve()
+  .then(() => verdictsOf({ accession: commands[0].scope }, today(), tools))
+  .then((files) => decidedWords(files, commands, today()))
+  .catch(() => "The page could not ask the desk what readers get of it now.");
 
 // A button that saves who gets what of a disk, as the desk says now, before a question is answered, and what says so:
 // afterwards nobody can have it. While it saves, the answer cannot be yes; where the question is left, it stops.

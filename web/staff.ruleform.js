@@ -2,9 +2,8 @@
 import { box, element, own, part } from "./shared.js";
 import { AUDIENCES, EFFECTS, LIMITS, RULES, SELECTORS, isDay, selection } from "./staff.words.js";
 
-export function options(select, words, names = Object.keys(words)) {
+export const options = (select, words, names = Object.keys(words)) =>
   select.append(...names.map((name) => element("option", words[name], { value: name })));
-}
 
 const audienceBox = (value) =>
   box("label", "", element("input", null, { type: "checkbox", name: "audiences", value }), ` ${AUDIENCES[value]}`);
@@ -46,10 +45,8 @@ function chooseWay({ how, what }) {
 
 const chosenAudiences = (form) => Array.from(form.querySelectorAll("[name=audiences]:checked"), (box) => box.value);
 
-function needAudience(form) {
-  const lacks = chosenAudiences(form).length === 0;
+const needAudience = (form, lacks = chosenAudiences(form).length === 0) =>
   form.querySelector("[name=audiences]").setCustomValidity(lacks ? "Choose for whom it is." : "");
-}
 
 // Fills a form with a rule that stands.
 export function fillRule(form, rule) {
@@ -63,8 +60,7 @@ export function fillRule(form, rule) {
   needAudience(form);
 }
 
-// The rule that a form holds, as the desk shows rules but for its rank: the body that puts it. While nobody has chosen
-// its files, it selects none.
+// The rule that a form holds, without its rank: the body that puts it. While nobody has chosen files it selects none.
 export function ruleIn(form) {
   const { how, what, effect, from, until } = form.elements;
   return {

@@ -1,23 +1,17 @@
 // Rules of deeds, and takedowns: the forms that put and change them, and the tables of those that stand.
 import { listTable } from "./lists.js";
 import { cell, counted, element, loaded, part, row } from "./shared.js";
-import { buttonsCell, change, dated, diskCell, formOf, readHeld, rulesOf, send } from "./staff.desk.js";
+import { buttonsCell, change, dated, diskCell, formOf, listName, readHeld, rulesOf, send } from "./staff.desk.js";
 import { showChange, shownAnew, showsAnew, standing } from "./staff.desk.js";
 import { MOST_DISKS, accessionsIn, placeOf } from "./staff.ranks.js";
 import { fillRule, makeRuleForm, ruleIn } from "./staff.ruleform.js";
-import { RULES, VISITS, ruleTexts, ruleWords } from "./staff.words.js";
+import { RULES, VISITS, ruleTexts, ruleWords, standingWords } from "./staff.words.js";
 import { titleOf } from "./titles.js";
 
-// Of how many disks the page says one by one what their takedowns replace or follow.
+// Of how many disks the page says one by one what their takedowns replace or follow; the deeds or the disks that are
+// typed; and what only a change needs, which is loaded then.
 const MOST_NOTES = 10;
-
-// What is asked of the desk to have them anew.
-const READ = { rules: "deeds", takedowns: "takedowns" };
-
-// The deeds or the disks that are typed.
 const scopesIn = (name, typed) => (name === "rules" ? [Number(typed)] : (accessionsIn(typed) ?? []));
-
-// What only a change needs is loaded then.
 const rehearsals = () => loaded(import("./staff.rehearsal.js"));
 
 // Puts a rule at each place once the rehearsal is agreed to: at the rank that is typed, or else at a free one.
@@ -32,7 +26,7 @@ async function put(name, scopes, typedRank, rule, tools) {
   const replaced = places.flatMap((place) => place.replaced ?? []);
   const [word, done] = replaced.length === places.length ? ["Replace", "Replaced"] : ["Put", "Put"];
   const notes = [`It says: ${ruleWords(rule)}.`, ...placeNotes(places)];
-  const { rehearsalDays, rehearsed, saveFirst } = await rehearsals();
+  const { decidedNow, rehearsalDays, rehearsed, saveFirst } = await rehearsals();
   const days = rehearsalDays(rule, replaced);
   const isTakedown = name === "takedowns";
   const asked = { words: `${word} ${words}?`, notes, commands, days, isTakedown, go: `${word} it` };
@@ -43,7 +37,8 @@ async function put(name, scopes, typedRank, rule, tools) {
   const more = { after: () => showRules(name), heads: ["Accession", "Rank"], cells, verb: done.toLowerCase() };
   if (places.length > 1) return putMany(name, agreed, more, tools);
   await send("PUT", agreed[0].path, sent.body);
-  return [await shownAnew(name, `${done}: ${words}.`), ...(isTakedown ? [VISITS] : [])].flat();
+  const said = await shownAnew(name, `${done}: ${words}.`);
+  return isTakedown ? [said, await decidedNow(agreed, tools), VISITS].flat() : said;
 }
 
 // Puts takedowns one after the other, in a section; `more` has what else its report needs.
@@ -59,10 +54,8 @@ export async function putMany(section, commands, { heads, cells, ...more }, tool
   return sendMany(run, tools);
 }
 
-function placesWords(name, places) {
-  if (places.length === 1) return RULES[name].words(places[0].scope, places[0].rank);
-  return `a takedown of ${counted(places.length, "disk")}`;
-}
+const placesWords = (name, [{ scope, rank }, ...others]) =>
+  others.length ? `a takedown of ${counted(others.length + 1, "disk")}` : RULES[name].words(scope, rank);
 
 // What is to be said of the places: of one all, of many only what replaces something or comes after others.
 function placeNotes(places) {
@@ -76,7 +69,7 @@ async function drop(name, scope, rule, tools) {
   const { path, words } = RULES[name];
   const said = words(scope, rule.rank);
   const commands = [{ scope, rank: rule.rank, method: "DELETE", path: path(scope, rule.rank) }];
-  const notes = [`It stands: ${ruleWords(rule)}.`];
+  const notes = [`It stands: ${standingWords(rule)}.`];
   const { rehearsalDays, rehearsed, saveFirst } = await rehearsals();
   const asked = { words: `Drop ${said}?`, notes, commands, days: rehearsalDays(rule), go: "Drop it" };
   if (name === "takedowns") asked.first = saveFirst(scope, asked.words);
@@ -109,8 +102,7 @@ function ruleRow(name, { scope, rule }) {
 
 // Draws those that stand: of the deed or the disks that are typed, or all.
 function draw(name) {
-  const { of, word, thing } = RULES[name];
-  const typed = formOf(name).elements.scope.value;
+  const [{ of, word, thing }, typed] = [RULES[name], formOf(name).elements.scope.value];
   const scopes = new Set(scopesIn(name, typed));
   const all = standing(name);
   const shown = typed === "" ? all : all.filter(({ scope }) => scopes.has(scope));
@@ -125,27 +117,28 @@ function draw(name) {
 
 // Reads what stands anew, and shows it.
 async function showRules(name) {
-  await readHeld(READ[name]);
+  await readHeld(listName(name));
   draw(name);
   hint(name);
 }
 
-// Says below the fields which rank it will be, and what stands there.
+// Says below the fields which rank it will be, once they have a rule that does not stand, or what a typed one has.
 function hint(name) {
   const form = formOf(name);
-  const { scope, rank, how } = form.elements;
+  const { scope, rank } = form.elements;
   const [scopes, rule] = [scopesIn(name, scope.value), ruleIn(form)];
-  const isOpen = rank.value === "" && (name === "rules" || how.value === "");
-  const places = isOpen ? [] : scopes.map((one) => placeOf(name, one, rank.value, rule, rulesOf(name, one)));
+  const all = scopes.map((one) => placeOf(name, one, rank.value, rule, rulesOf(name, one)));
+  const isNew = (one) => !rulesOf(name, one.scope).some((that) => ruleWords(that) === ruleWords(rule));
+  const places = all.filter((one) => one.replaced || (form.matches(":valid") && isNew(one)));
   const title = name === "takedowns" && scopes.length === 1 ? titleOf(scopes[0]) : "";
   const words = [title && `\u201c${title}\u201d.`, ...placeNotes(places)].filter(Boolean).join(" ");
   form.querySelector(".hint").replaceChildren(...(words ? [dated("span", words)] : []));
 }
 
 // The section of rules or takedowns: where a deed or a disk is named, for that one.
-async function openRules(name, scope) {
+function openRules(name, scope) {
   if (scope !== undefined) formOf(name).elements.scope.value = scope;
-  await showRules(name);
+  return showRules(name);
 }
 
 function listenForRules(name) {
@@ -154,7 +147,7 @@ function listenForRules(name) {
   makeRuleForm(name, form);
   if (name === "takedowns") takeMany(form);
   form.elements.scope.addEventListener("input", () => draw(name));
-  form.addEventListener("input", () => hint(name));
+  for (const event of ["input", "change"]) form.addEventListener(event, () => hint(name));
   form.addEventListener("submit", () => {
     const { scope, rank } = form.elements;
     change(name, (tools) => put(name, scopesIn(name, scope.value), rank.value, ruleIn(form), tools));

@@ -2,26 +2,34 @@
 // heads say by whose clocks it is, and the name of the file at which moment the page asked for it.
 import { holder } from "./about.js";
 import { csvText, explainedHead } from "./csv.js";
-import { element } from "./shared.js";
+import { element, part } from "./shared.js";
 import { inParts, save } from "./stream.js";
 
-const clocks = () => `this table (moments: in UTC, or with their distance from it behind them; days of the journal: by \
-the museum's machine; days of rules: by the desk's zone; day of asking: by the computer that saved this, in the zone \
-${Intl.DateTimeFormat().resolvedOptions().timeZone})`;
+const CLOCKS = `this table (moments: in UTC; days of the journal: by the museum's machine; days of rules and of \
+asking: by the desk's clock, in its zone)`;
+
+// Columns of what people typed or sent, which stays as it is; in all others each moment is in UTC.
+const TYPED = ["name", "reason", "path", "body"];
+const MOMENT = /[0-9]{4}(?:-[0-9]{2}){2}[T ](?:[0-9]{2}:){2}[0-9]{2}[+-][0-9]{2}:[0-9]{2}/g;
+const utc = (moment) => new Date(moment.replace(" ", "T")).toISOString().replace("T", " ").replace(".000Z", " UTC");
+const inUtc = (text) => String(text ?? "").replace(MOMENT, utc);
 
 export async function saveTable(name, moment, about, heads, items, recordOf) {
-  const said = [holder() || "(the museum's name was not found)", about];
-  const texts = [csvText([["museum", clocks(), ...heads.map(explainedHead)], ...(items.length ? [] : [said])])];
-  await inParts(items, (some) => texts.push(csvText(some.map((one) => [...said, ...recordOf(one)]))));
+  const said = [holder() || "(the museum's name was not found)", inUtc(about)];
+  const recordIn = (one) => recordOf(one).map((text, at) => (TYPED.includes(heads[at]) ? text : inUtc(text)));
+  const texts = [csvText([["museum", CLOCKS, ...heads.map(explainedHead)], ...(items.length ? [] : [said])])];
+  await inParts(items, (some) => texts.push(csvText(some.map((one) => [...said, ...recordIn(one)]))));
   const file = `${name}-${moment.slice(0, 19).replaceAll(":", "")}Z.csv`;
   save(file, texts, "text/csv");
   return file;
 }
 
-// A button that saves a table, and what says beside it under which name, until it is pressed again.
+// A button that saves a table, and what says beside it under which name, until it is pressed again or has other work.
 export function saver(button, saved) {
-  const said = element("span", "", { role: "status" });
+  const said = element("span", "", { role: "status", className: "saved" });
   button.addEventListener("click", () => said.replaceChildren());
   button.addEventListener("click", async () => said.replaceChildren(`Saved: ${await saved()}`));
   return [button, said];
 }
+
+export const forgetSaved = (name) => part(name).querySelectorAll(".saved").forEach((said) => said.replaceChildren());

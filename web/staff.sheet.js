@@ -37,8 +37,7 @@ function rowOf([accession, kind, deed, sha256, file]) {
   return { accession, kind, deed, sha256: sha256.toLowerCase(), file, name, dump: null, problem };
 }
 
-// Gives each row its dump: by the name of the file, and of several with one name the one with the row's SHA-256. Gives
-// the dumps that no row names.
+// Gives each row its dump by the name of the file, of several that with its SHA-256; gives the dumps that no row names.
 export function matchRows(rows, dumps) {
   const left = giveByKey(rows, dumps, ({ name, sha256 }) => [name, sha256], ({ file, digest }) => [file.name, digest]);
   const others = rows.filter((row) => row.dump === null);

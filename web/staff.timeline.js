@@ -1,23 +1,23 @@
-// The timeline: the days of each rule that begins or ends by itself, the next change first; a day to drag, and who gets
-// what on it, as the desk's verdicts say.
+// The timeline: the days of each rule that begins or ends by itself; a day to drag, and who gets what on it.
 import { listTable } from "./lists.js";
-import { askObject, box, cell, element, listOf, loaded, part, row } from "./shared.js";
+import { askObject, box, button, cell, element, listOf, loaded, part, row } from "./shared.js";
 import { dated, formOf, work } from "./staff.desk.js";
 import { audienceCounts } from "./staff.forecast.js";
 import { Changes, dayParts } from "./staff.rehearsal.js";
 import { limitFields } from "./staff.ruleform.js";
-import { COLUMNS, effectOf, onDay, readVerdicts } from "./staff.verdicts.js";
-import { AUDIENCES, RULES, dayAfter, isDay, isOnNoDay, ruleWords, today } from "./staff.words.js";
+import { saveTable, saver } from "./staff.saved.js";
+import { COLUMNS, askedWords, effectOf, onDay, readVerdicts } from "./staff.verdicts.js";
+import { AUDIENCES, RULES, dayAfter, isDay, isOnNoDay, momentNow, standingWords, today } from "./staff.words.js";
 import { keeper } from "./stream.js";
 
 // How many days the bars show before today and after the last change, and how far from today that one may be.
 const DAYS = 365;
 const MOST_DAYS = 50 * DAYS;
-
 const numberOf = (day) => Date.parse(`${day}T00:00:00Z`) / 86400000;
 // The rules that begin or end some day, each with the next of these days; and the first and the last day of the bars.
 let [lines, range] = [[], { first: 0, last: 1 }];
-
+// The day on which the desk was asked for them, and the moment.
+let asked = { day: "", moment: "" };
 const field = () => formOf("timeline").elements.day;
 const stands = () => part("timeline").querySelector(".stands");
 const turnsOf = (rule) => (isOnNoDay(rule) ? [] : [rule.from, rule.until].filter(Boolean));
@@ -32,6 +32,7 @@ function share(day) {
 // (of the lists this view keeps no more than these rules)
 async function readLines() {
   const [now, most, found] = [today(), dayAfter(today(), MOST_DAYS), []];
+  asked = { day: now, moment: momentNow() };
   const nextOf = (rule) => turnsOf(rule).find((day) => day > now) ?? "none";
   for (const [name, list, of] of [["rules", "deeds", "deed"], ["takedowns", "takedowns", "accession"]]) {
     for (const { [of]: scope, rules } of listOf((await askObject(`/staff/${list}`))[list])) {
@@ -46,7 +47,7 @@ async function readLines() {
 
 const HEADS = {
   Rule: ({ name, scope, rule }) => RULES[name].words(scope, rule.rank),
-  "What it does": ({ rule }) => ruleWords(rule),
+  "What it does": ({ rule }) => standingWords(rule),
   "Next change": ({ next }) => next,
   Days: null,
 };
@@ -68,8 +69,24 @@ function draw() {
   });
   slider.addEventListener("change", look);
   const made = lines.length ? listTable("rules", HEADS, lines, lineRow) : element("p", "No rule begins or ends.");
-  stands().replaceChildren(slider, made, box("div", "day"));
+  const choices = box("div", "choices", ...saver(button("Save these rules as CSV"), saveLines));
+  stands().replaceChildren(slider, made, choices, box("div", "day"));
   mark();
+}
+
+// Saves the rules that begin or end; gives the name of the file.
+function saveLines() {
+  const { day, moment } = asked;
+  const all = `Rules that begin or end by themselves, as they stood on ${day}: ${lines.length}. ${askedWords(asked)}`;
+  const about = `${all} On the day until which a rule is it does not hold any more. Rules without days are not here, \
+and may decide before these. It does not say since when a rule stands, nor who gets what: the views Journal and Who \
+sees what do.`;
+  const recordOf = ({ name, scope, rule, next }) => {
+    const words = [`${RULES[name].letter}${scope}.${rule.rank}`, RULES[name].words(scope, rule.rank)];
+    return [day, moment, ...words, standingWords(rule), rule.from, rule.until, next];
+  };
+  const heads = ["day of asking", "asked at", "rule", "rule in words", "what it does", "from", "until", "next change"];
+  return saveTable(`timeline-${lines.length}-rules-${day}-asked`, moment, about, heads, lines, recordOf);
 }
 
 // Shows where the day is among the bars.
@@ -113,19 +130,20 @@ async function readDay(day, before, tools) {
 
 // Who gets what on a day, and what is other than today.
 async function showDay(day, tools) {
-  const now = await readDay(today(), null, tools);
-  const then = day === today() ? now : await readDay(day, now, tools);
-  const past = day < today() ? `on ${day}, by the rules of ${today()}, they` : "";
+  const [current, when] = [today(), onDay(day)];
+  const now = await readDay(current, null, tools);
+  const then = day === current ? now : await readDay(day, now, tools);
+  const past = day < current ? `on ${day}, by the rules of ${current}, they` : "";
   // what only a day that is over needs is loaded then
   const since = past ? await loaded(import("./staff.origins.js")).then(({ pastOf }) => pastOf(day, tools)) : {};
   const texts = audienceCounts((audience, effect) => {
     const at = Object.keys(AUDIENCES).indexOf(audience);
     return then.alike.reduce((sum, one) => sum + (one.now[at] === effect ? one.count : 0), 0);
   }).concat(since.words ?? []);
-  const words = past ? `What is other on ${day} than today, by the rules of ${today()}` : "What is other than today";
-  const none = past && `By the rules of ${today()} nothing is other on that day; ${since.then}`;
-  const more = day === today() ? [] : dayParts({ words, past, none, groups: then.groups });
-  const heading = dated("h2", `Who gets what ${onDay(day)}`);
+  const words = `What is other ${past && `on ${day} `}than today, ${past && "by the rules of "}${current}`;
+  const none = past && `By the rules of ${current} nothing is other on that day; ${since.then}`;
+  const more = day === current ? [] : dayParts({ words, past, none, groups: then.groups });
+  const heading = dated("h2", `Who gets what ${when}`);
   stands().querySelector(".day").replaceChildren(heading, ...texts.map((text) => dated("p", text)), ...more);
 }
 
@@ -133,8 +151,9 @@ async function showDay(day, tools) {
 let read = "";
 
 async function look() {
-  field().defaultValue = today();
   const doing = async (tools) => {
+    field().defaultValue = today();
+    if (asked.day !== today()) await open();
     read = field().value;
     mark();
     await showDay(read, tools);

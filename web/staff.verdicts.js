@@ -10,9 +10,8 @@ export const COLUMNS = { accession: 0, deed: 1, kind: 2, slot: 3, user: 4, name:
 export const EFFECT_AT = { public: 9, room: 11, staff: 13 };
 
 // Reads the verdicts of a day, and hands each record on.
-export function readVerdicts(day, take, { progress, signal }) {
-  return readTable(`/staff/verdicts/${day}`, { take, signal, progress: (count) => progress(`Reading ${day}`, count) });
-}
+export const readVerdicts = (day, take, { progress, signal }) =>
+  readTable(`/staff/verdicts/${day}`, { take, signal, progress: (count) => progress(`Reading ${day}`, count) });
 
 // The verdicts of one disk on a day.
 export async function verdictsOf({ accession, files }, day, { signal }) {
@@ -26,6 +25,12 @@ export async function verdictsOf({ accession, files }, day, { signal }) {
 export const nameOf = (record) => shownName(record[COLUMNS.kind], record[COLUMNS.name]);
 export const namesOf = (files) => new Map(files.map((record) => [Number(record[COLUMNS.slot]), nameOf(record)]));
 
+// A file as rules select it.
+export function fileOf(record) {
+  const [slot, user, name, type, size] = record.slice(COLUMNS.slot, COLUMNS.faults);
+  return { slot: Number(slot), user: user === "" ? null : Number(user), name, type, isServed: size !== "" };
+}
+
 // The desk gives out a file only where it has a size: without one, `read` is no more than `list`.
 export const given = (effect, isServed) => (effect === "read" && !isServed ? "list" : effect);
 export const effectOf = (record, audience) => given(record[EFFECT_AT[audience]], record[COLUMNS.size] !== "");
@@ -35,8 +40,7 @@ const MAY = {
   deny: "see only that a closed file is there, not its name",
 };
 
-// Why a file is only listed that a rule lets them read; and, of a day that is over, that its verdict is by the rules of
-// today, and what is known to have been other then.
+// Why a file is only listed that a rule lets them read; of a day that is over, by which rules, and what was other then.
 function because(record, audience, { rules, others }) {
   const faults = record[COLUMNS.faults].split(" ").map(explained).join("; ");
   const why = faults ? `damaged: ${faults}` : `the desk gives out no file of type ${record[COLUMNS.type]}`;
@@ -45,12 +49,10 @@ function because(record, audience, { rules, others }) {
   return [isListed && why, ...past].filter(Boolean).join("; ");
 }
 
-export function mayWords(record, audience, asked) {
-  const why = because(record, audience, asked);
-  return `${MAY[effectOf(record, audience)]}${why && ` (${why})`}`;
-}
+export const mayWords = (record, audience, asked, why = because(record, audience, asked)) =>
+  `${MAY[effectOf(record, audience)]}${why && ` (${why})`}`;
 
-const ruleMeaning = (label) => (label === "D0" ? "no rule matches" : meaning(label));
+export const ruleMeaning = (label) => (label === "D0" ? "no rule matches" : meaning(label));
 
 // The rule that decides, in words.
 export const ruleShown = (record, audience) =>

@@ -1,5 +1,6 @@
 // Words for what stands at a desk: audiences, effects, rules and days, and what the fields for them take.
 import { shownName } from "./names.js";
+import { Refused, askObject, textOf } from "./shared.js";
 
 export const AUDIENCES = { public: "the public", room: "the reading room", staff: "the staff" };
 // (the desk lists no closed file, but says that one is there and by which rule, and so does the page for readers)
@@ -100,20 +101,30 @@ export function daysWords({ from, until }) {
   return [from && `from ${from}`, until && `until ${until}`].filter(Boolean).join(", ");
 }
 
-// The texts of a rule, by the columns of its table.
+// The days of a rule that stands, with a mark where it decides nothing any more or nothing yet, if the day is known.
+export const isOver = ({ until }) => Boolean(until) && until <= told.day;
+function daysNow(rule) {
+  const words = daysWords(rule);
+  if (isOnNoDay(rule) || told.day === "") return words;
+  if (isOver(rule)) return words.replace("until", "ended on");
+  return rule.from > told.day ? `not begun: ${words}` : words;
+}
+
+// The texts of a rule that stands, by the columns of its table.
 export const ruleTexts = (rule, names) => ({
   Rank: String(rule.rank),
   "For whom": audienceWords(rule.audiences),
   "Which files": filesWords(rule, names),
   "They may": EFFECTS[rule.effect],
-  Days: daysWords(rule),
+  Days: daysNow(rule),
 });
 
-const SHORT = { read: "readable for", list: "only listed for", deny: "closed to" };
+export const SHORT = { read: "readable for", list: "only listed for", deny: "closed to" };
 
-// A rule in short.
-export const ruleWords = (rule, names) =>
-  `${filesWords(rule, names)} ${SHORT[rule.effect]} ${audienceWords(rule.audiences)}, ${daysWords(rule)}`;
+// A rule in short; and one that stands.
+export const ruleWords = (rule, names, days = daysWords) =>
+  `${filesWords(rule, names)} ${SHORT[rule.effect]} ${audienceWords(rule.audiences)}, ${days(rule)}`;
+export const standingWords = (rule, names) => ruleWords(rule, names, daysNow);
 
 // What is to be said of a takedown that is put.
 export const VISITS = `From which addresses files were fetched before, desk-visits.log on the museum's machine says \
@@ -136,8 +147,16 @@ export function dayAfter(day, days) {
 // The month before another, as in 2026-01.
 export const monthBefore = (month) => dayAfter(`${month}-01`, -1).slice(0, 7);
 
-// Today by the clock of this computer.
+// Today by the desk's clock, in its zone, as the desk told it last; or "", and why it did not.
+const untold = (fault) => ({ day: "", fault });
+let told = untold();
+
+export async function askToday(signal) {
+  const said = await askObject("/staff/today", { signal }).then(({ day }) => ({ day: textOf(day) }), untold);
+  if (!signal?.aborted) told = said;
+}
+
 export function today() {
-  const now = new Date();
-  return new Date(now.getTime() - now.getTimezoneOffset() * 60000).toISOString().slice(0, 10);
+  if (told.day) return told.day;
+  throw [401, 403].includes(told.fault?.status) ? told.fault : new Refused("day", {});
 }

@@ -44,8 +44,7 @@ export async function* partsOf(reply) {
   }
 }
 
-// Reads a table of the desk, hands its records on without the first, and says how many have come. A pace of 64 KB keeps
-// each piece of work short.
+// Reads a table of the desk, hands its records on without the first. A pace of 64 KB keeps each piece of work short.
 export async function readTable(path, { method = "GET", body, take, progress = () => {}, signal }) {
   const reply = await ask(path, { method, body, signal });
   const records = new Records();

@@ -15,7 +15,6 @@ function beforeEnd(bytes) {
 }
 
 const isText = (byte) => (byte >= 0x20 && byte <= 0x7e) || [0x09, 0x0a, 0x0c, 0x0d].includes(byte);
-
 const ascii = (bytes) => Array.from(bytes, (byte) => String.fromCharCode(byte)).join("").replace(/\r\n|\r/g, "\n");
 
 // A CP/M text: lines end with CR LF, and a ^Z ends it. A byte before it that is no text makes it none.

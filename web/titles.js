@@ -3,7 +3,6 @@ import { recordsOf } from "./csv.js";
 import { box, element } from "./shared.js";
 
 const COLUMNS = "accession,title,note";
-
 const titles = new Map();
 
 // Reads tables, of which a later one goes before an earlier one. A table that is not there, or is none, has no titles.

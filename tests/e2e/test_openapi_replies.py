@@ -14,15 +14,15 @@ OPERATIONS = {f"{method.upper()} " + re.sub(r"\{\w+\}", "[^/]+", path): operatio
 HOW = {"resolver": jsonschema.RefResolver("", DOCUMENT), "format_checker": jsonschema.FormatChecker()}
 DAY = "2001-01-01"
 RULE = {"audiences": ["public"], "effect": "list", "select": {"prefix": "H"}, "from": DAY, "until": None}
+ANSWERED = ["today", "deeds", "takedowns", "keys", "checks", f"verdicts/{DAY}", f"verdicts/{DAY}/15"]
 REHEARSED = [f"/staff/rehearsals/{DAY}/{path}/rules/1" for path in ("deeds/9", "images/15")]
 # Requests of each operation that are answered, and by which statuses, and others that are refused by each name.
 ASKED = {200: [get("/images"), get("/catalogue"), get("/images/15/files/0"), check(12), *map(survey, samples.IMAGES),
         put("/images/15/rules/1", RULE), put("/deeds/9/rules/1", RULE), put("/deeds/10", DEED),
         put_image(22, "cpm8", 9, samples.RECORD_DISK), put(badge("reader"), {"audience": "room"}),
-        *(get(f"/staff/{path}", STAFF) for path in ("deeds", "takedowns", "keys", "checks", f"verdicts/{DAY}")),
-        *(put(path, RULE) for path in REHEARSED), *(drop(path) for path in REHEARSED), drop(badge("reader")),
-        drop("/images/15/rules/1"), drop("/deeds/9/rules/1"), *(get(f"/images/{acc}", STAFF) for acc in samples.IMAGES),
-        get(f"/staff/verdicts/{DAY}/15", STAFF)],
+        *(get(f"/staff/{path}", STAFF) for path in ANSWERED), *(put(path, RULE) for path in REHEARSED),
+        *(drop(path) for path in REHEARSED), drop(badge("reader")), drop("/images/15/rules/1"),
+        drop("/deeds/9/rules/1"), *(get(f"/images/{acc}", STAFF) for acc in samples.IMAGES)],
     400: [put("/deeds/10", {"donor": "D"})], 401: [get("/images", NOBODY), get("/staff/keys", NOBODY)],
     403: [survey(12, ROOM), get("/images/12/files/0"), put("/deeds/10", DEED, None)],
     404: [get("/images/99"), get("/images/15/files/9"), put_rule("/deeds/99/rules/1", "read", EVERY, "room")],

@@ -21,7 +21,7 @@ def test_reply_of_the_desk_comes_as_it_is(room, door, path, key):
 
 @pytest.mark.parametrize("key", [STAFF, ROOM, None, NOBODY])
 def test_questions_of_the_staff_are_answered_at_their_door(room, staff, key):
-    for path in ("deeds", "takedowns", "keys", "checks", "verdicts/2030-01-01", "none"):
+    for path in ("today", "deeds", "takedowns", "keys", "checks", "verdicts/2030-01-01", "none"):
         reply = staff.get(f"/staff/{path}", key=key)
         assert (reply.status, reply.body) == room.ask_desk(get(f"/staff/{path}", key)), path
 

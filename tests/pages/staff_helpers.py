@@ -42,6 +42,11 @@ def saved_table(page, name, button="Save what is shown as CSV"):
 def moment(at):
     return datetime.datetime.fromtimestamp(at, datetime.timezone.utc).strftime("%Y-%m-%dT%H:%M:%S+00:00")
 
+in_utc = lambda text: text.replace("+00:00", " UTC")
+
+def is_said_saved(page):
+    return "Saved: " in "".join(page.texts("[role=status]"))
+
 def journal_lines(number, at, status, method, path, staff="", note="", body=""):
     """The lines of a change in the journal, as nginx writes them: when it came, and, with its status, when it ended."""
     keys = {"id": f"{int(number):032x}", "method": method, "path": path, "staff": staff, "note": note, "body": body}

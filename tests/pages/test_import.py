@@ -86,7 +86,7 @@ def test_dumps_of_a_sheet_are_found_compared_and_put(museum, staff, choose):
     heads = [*"accession kind deed sha-256 file outcome by reason".split(), "tried at"]
     assert [head.partition(" (")[0] for head in rows[0]] == heads
     assert rows[4][:8] == ["2007", "cpm8", "99", digest(RECORD), "'=1+1", NO_DEED, "Ada Archivist", "a letter of today"]
-    assert rows[4][8].startswith(f"{TODAY}T12:") and rows[-1][:6] == [*ROWS[4][:4], "gone.d64", NO_FILE]
+    assert rows[4][8].startswith(f"{TODAY} 12:") and rows[-1][:6] == [*ROWS[4][:4], "gone.d64", NO_FILE]
     assert {one[2:] for one in staff.door.sent()} == {("Ada%20Archivist", "a%20letter%20of%20today")}
     museum.deeds[99] = "Late Donor", "2020-01-01"
     assert staff.push("Go on with the rest")["result"][0] == "4 disks put, 0 failed, 5 left out."
@@ -110,6 +110,10 @@ def test_dumps_are_described_and_numbered_by_hand(staff, choose):
         f"What they get from today, {TODAY}, as this page reckons it from the dumps and these rules:",
         *(f"The {who}: 1 to read, 1 only in the list, 0 closed." for who in ("public", "reading room", "staff"))]
     assert (staff.answer(False)["result"], staff.door.sent()) == (["Nothing is sent."], [])
+    staff.door.before = lambda _, path: b"" if path == "/staff/today" else None
+    said, rows = "The desk did not tell which day it is there. Try again.", staff.go("disks")["list"]
+    assert staff.push("Put the disks")["result"] == [said] and staff.read()["list"] == rows != [], "a guess, or no list"
+    staff.door.before = lambda _, path: None
     staff.push("Put the disks")
     staff.door.before = lost_at(1)
     staff.answer(True)

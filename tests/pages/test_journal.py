@@ -2,7 +2,7 @@
 
 import threading
 
-from staff_helpers import CANNOT_REACH, journal_lines, moment, saved_table
+from staff_helpers import CANNOT_REACH, is_said_saved, journal_lines, moment, saved_table
 from support.browser import LIMIT, TODAY
 from support.museums import HARMFUL
 from support.samples import digest, refused
@@ -13,6 +13,7 @@ KEY, HARM = digest(b"room 3"), HARMFUL[2]
 RULE = '{"audiences":["room","public"],"select":{"slot":2},"effect":"deny","until":"2030-01-01"}'
 HIDDEN = "the file at slot 2 closed to the public and the reading room, until 2030-01-01"
 ELSEWHERE = HIDDEN.replace(" closed", " (named on the page of disk 99) closed")
+MAY_REPLACE = "they may say that a change replaced something."
 UNKNOWN, NOT_THERE = "nobody knows whether the desk did it", "refused: that cannot be done there"
 DEED = "/deeds/7", "Ada%20M%C3%BCller", "a%20letter%20of%203%20May", '{"donor":"A. <b>C</b>","signed":"2019-05-04"}'
 NO_DISK = "refused: there was no such disk, deed or address"
@@ -54,8 +55,8 @@ def asked(staff):
 
 def test_changes_stand_with_who_what_outcome_and_reason(staff):
     shown = read(staff, JOURNAL)
-    summary = f"11 changes read, from {time_of(0)}+00:00 to {time_of(10)}+00:00; older lines, if any, were not read. "
-    summary += f"Of 3 {UNKNOWN}, or it has not ended yet. 1 line cannot be read."
+    summary = f"11 changes read, from {time_of(0)}+00:00 to {time_of(10)}+00:00; older lines, if any, were not read: "
+    summary += f"{MAY_REPLACE} Of 3 {UNKNOWN}, or it has not ended yet. 1 line cannot be read."
     assert shown["stands"] == [summary, "Shown: 10 changes of these, without checks of disks."]
     assert (shown["result"], shown["rows"]) == (["Read: 11 changes."], rows_of(0, 1, 2, 3, 4, 6, 7, 8, 9, 10))
     assert (staff.harmed(), staff.one("#who").is_displayed()) == ([None, 0], False)
@@ -78,8 +79,13 @@ def test_what_is_looked_for_is_found_and_saved_without_a_formula(staff):
     assert heads[2:] == ["moment", "name", "reason", "of", "what", "outcome", "method", "path", "status", "body"]
     what, path = rows_of(3)[0][2], CHANGES[3][1][1]
     assert (len(records), records[2][3:]) == (3, ["'=1+1", "100%", "disk 1002", what, "done", "PUT", path, "200", ""])
-    due = f"+00:00: 11 changes read, from {time_of(0)}+00:00 to {time_of(10)}+00:00; older lines, if any"
-    assert f"The journal, read at {TODAY}T12:{records[0][1][35:40]}{due}" in records[0][1], "saved without its hour"
+    due = f" UTC: 11 changes read, from {time_of(0)} UTC to {time_of(10)} UTC; older lines, if any"
+    assert f"The journal, read at {TODAY} 12:{records[0][1][35:40]}{due}" in records[0][1], "saved without its hour"
+    staff.fill("journal", accession="", checks=False).read()
+    assert not is_said_saved(staff), "a file speaks for what is shown since"
+    _, *records = saved_table(staff, f"journal-10-of-11-changes-back-to-{moment(START)[:10]}-asked")
+    named = "(this table does not have its name: the one saved on the staff's page does, of who gets what of disk 99)"
+    assert named in str(records) and "named on the page" not in str(records), "a table that leads to a page"
 
 def test_no_change_of_an_earlier_reading_is_shown_while_the_journal_is_read_anew(staff):
     is_seen, _ = threading.Event(), read(staff, JOURNAL)
@@ -93,7 +99,8 @@ def test_journal_of_a_disk_has_the_changes_of_its_deed_and_the_names_of_files(st
     came = [("/deeds/7/rules/20", RULE), ("/deeds/9/rules/20", RULE), ("/images/1002/rules/1", RULE)]
     lines = [journal_lines(at, START + at, "200", "PUT", path, "Ada", "", body) for at, (path, body) in enumerate(came)]
     lines.append(journal_lines(3, START + 3, "200", "DELETE", "/images/1002/rules/1"))
-    shown, named = read(staff, b"".join(lines), place="journal/1002"), HIDDEN.replace(" closed", " (GUIDE) closed")
+    here = b"".join(lines).replace(b"+00:00", b"+02:00")
+    shown, named = read(staff, here, place="journal/1002"), HIDDEN.replace(" closed", " (GUIDE) closed")
     words = [f"Put takedown 1 of disk 1002: {named}", f"Put rule 20 of deed 9: {named}"]
     due = [f"Drop takedown 1 of disk 1002, which said: {named}", words[0], f"Of its deed: {words[1]}"]
     assert [row[2] for row in shown["rows"]] == due, "a deed's rules stand elsewhere"
@@ -101,6 +108,9 @@ def test_journal_of_a_disk_has_the_changes_of_its_deed_and_the_names_of_files(st
     assert [row[5:7] for row in rows[1:]] == [["disk 1002", words[0]], ["deed 9, the deed of disk 1002", words[1]]]
     holds = "Here: 3 changes of these, of disk 1002 and of its deed 9, which decides about it too, without checks"
     assert holds in rows[0][1], "a saved journal says not which lines it has"
+    day, hour = moment(START - 7200)[:19].split("T")
+    assert f"{day} {hour}" in rows[0][1] and rows[2][2][:16] == f"{day} {hour[:5]}" and rows[2][2].endswith(" UTC")
+    assert "+0" not in str(rows), "two zones in one file"
 
 def many(count, first=0, begun=START):
     """The changes of so many deeds, each with two lines."""
@@ -115,7 +125,8 @@ def test_long_journal_is_read_in_pieces_and_then_month_by_month(staff):
     for until in range(len(data) - PIECE, 0, -PIECE):
         shown = staff.push("Read what is older")
         assert asked(staff) == [("/journal", f"bytes={max(0, until - PIECE)}-{until - 1}")]
-    back = f"from {time_of(0)}+00:00 to {moment(START + 6999.5).replace('T', ' ')}; older lines, if any, were not read."
+    back = f"from {time_of(0)}+00:00 to {moment(START + 6999.5).replace('T', ' ')}; "
+    back += f"older lines, if any, were not read: {MAY_REPLACE}"
     assert shown["stands"] == [f"7,000 changes read, {back}", "Shown: 7,000 changes of these, without checks of disks."]
     months = ["/journal-2027-01", *(f"/journal-{2026 - at // 12}-{12 - at % 12:02}" for at in range(120))]
     for begin, end, more in ((0, 5, 40), (5, 14, 50), (14, 120, 0)):
@@ -133,7 +144,7 @@ def test_journal_that_has_become_shorter_is_another_one(staff):
         read(staff, data)
         staff.door.journals = {"/journal": data[:length], "/journal-2026-06": LINES[0]}
         assert staff.push("Read what is older")["result"] == [words]
-    assert staff.push("Read it anew")["stands"][0] == "0 changes read; older lines, if any, were not read."
+    assert staff.push("Read it anew")["stands"][0].startswith("0 changes read; older lines, if any, were not")
     assert staff.push("Read what is older")["stands"][0].startswith("1 change read, ")
 
 def test_journal_that_cannot_be_read_says_why(staff):

@@ -1,7 +1,7 @@
 """One disk on one page: what it is, who gets what by which rules, who put these; takedowns of ticked files."""
 
 import pytest
-from staff_helpers import CANNOT_REACH, journal_lines, lost_at, moment, saved_table, takedown
+from staff_helpers import CANNOT_REACH, in_utc, is_said_saved, journal_lines, lost_at, moment, saved_table, takedown
 from support import museums
 from support.browser import TODAY, wait_for
 from support.samples import DONOR_OF_9, refused
@@ -53,8 +53,13 @@ def test_disk_says_what_it_is_and_who_gets_what_by_which_rule(museum, disk):
     keys = "day", "audience", "they may", "rule", "what the rule says", PUT, "since when", "name as shown", "size"
     said, file = f"the file at slot 2 (GUIDE) {ALWAYS}", [UNKNOWN, "GUIDE", "532"]
     assert [[dict(zip(heads, one))[key] for key in keys] for one in rows[6:9:2]] == [
-        [TODAY, "the public", SHUT, "T1002.1000", said, NOT, *file],
-        [TODAY, "the staff", "read it", "R9.20", f"all files readable for {ALL}", BY + NOTHING, *file]]
+        [TODAY, "the public", SHUT, "T1002.1000", said, in_utc(NOT), *file],
+        [TODAY, "the staff", "read it", "R9.20", f"all files readable for {ALL}", in_utc(BY + NOTHING), *file]]
+    assert f"{in_utc(NOT)}; its SHA-256: not known from the journal: the store has it" in rows[0][1]
+    disk.door.journals["/journal"] += journal_lines(2, START - 9, "200", "PUT", TAKEN_IN)
+    assert disk.go("disk/1002") and not is_said_saved(disk), "a file speaks for what is shown since"
+    _, *rows = saved_table(disk, f"disk-1002-{TODAY}-asked", "Save who gets what as CSV")
+    assert f"; its SHA-256: {'0' * 64}, as the journal has it. It has all" in rows[0][1]
 
 def test_rule_says_what_was_there_before_it_or_how_far_the_journal_is_read_or_that_it_is_not(disk):
     disk.door.journals["/journal"] += journal_lines(2, START, "200", "PUT", TAKEN_IN)
@@ -74,20 +79,25 @@ def test_file_says_since_when_the_journal_has_no_change_that_can_concern_it_and_
     by = lambda far, what, who="nobody who is named": f"{when(far + 0.5)} by {who}: {what}"
     ranked = lambda word, rank, far: by(far, f"{word} takedown {rank} of disk 1002")
     at, of_deed, ended = "/images/1002/rules/", "/deeds/9/rules/", "2026-06-01 (takedown 1 of disk 1002 ended)"
-    ruled, drop5, drop6 = by(0, f"Put {BY_DEED}", "Ada"), ranked("Drop", 5, 30.3), ranked("Drop", 6, 60)
+    ruled, drop6 = by(0, f"Put {BY_DEED}", "Ada"), ranked("Drop", 6, 60)
     five, maybe = by(50, "Put rule 5 of deed 9"), by(90, "Put rule 10 of deed 9 (nobody knows whether the desk did it)")
+    seven, again = ranked("Put", 7, 10), f"{ranked('Put', 5, 30)} in the place of another"
+    uncertain = f"{ranked('Put', 1, 99)}; what has come since is the same for them", ranked("Put", 1, 99)
+    over = READ.replace('"read"', '"deny","until":"2023-01-01"')
     cases = [(-60, "200", TAKEN_IN, "{}", None), (20, "200", f"{at}5", every, None),
-             (10, "200", f"{at}7", one, (*[ranked("Put", 5, 20)] * 2, ruled)),
-             (30, "200", f"{at}5", one, (*[ranked("Replace", 5, 30)] * 2, ruled)), (30.2, "502", f"{at}5", "", None),
-             (30.3, "200", f"{at}5", "", (ranked("Replace", 5, 30), drop5, ruled)),
-             (50, "200", f"{of_deed}5", every.replace('"public",', ""), (five, drop5, five)),
+             (10, "200", f"{at}7", one, (ranked("Put", 5, 20), seven, ruled)),
+             (30, "200", f"{at}5", one, (again, seven, ruled)), (30.2, "502", f"{at}5", "", None),
+             (30.3, "200", f"{at}5", "", (again, seven, ruled)),
+             (50, "200", f"{of_deed}5", every.replace('"public",', ""), (five, seven, five)),
              (60, "200", f"{at}6", "", None), (70, "200", f"{of_deed}30", "{}", None),
              (80, "404", f"{of_deed}10", "{}", [drop6] * 3), (90, "502", f"{of_deed}10", "{}", (maybe, drop6, maybe)),
-             (99, "200", f"{at}1", "{}", (ended, ended, ranked("Put", 1, 99))), (120, "200", f"{of_deed}20", "", None)]
+             (99, "200", f"{at}1", "{}", (ended, *uncertain)), (110, "200", f"{at}2", over, (ended, *uncertain)),
+             (120, "200", f"{of_deed}20", "", None)]
     museum.rules["T1002"] = takedown(7, 2)
+    stands = {f"{at}1": museums.rule(1, "deny", ["public"], until=ended[:10]),
+              f"{at}2": museums.rule(2, "deny", ["public", "room", "staff"], until="2023-01-01")}
     for number, (far, status, path, body, due) in enumerate(cases, 2):
-        if path == f"{at}1":
-            museum.rules["T1002"][1] = museums.rule(1, "deny", ["public"], until=ended[:10])
+        museum.rules["T1002"] |= {rule["rank"]: rule for rule in [stands.get(path)] if rule}
         came = status, "PUT" if body else "DELETE", path
         disk.door.journals["/journal"] += journal_lines(number, START + far, *came, body=body)
         rows = disk.go("disk/1002")["rows"] if due else []
@@ -97,17 +107,19 @@ def test_file_says_since_when_the_journal_has_no_change_that_can_concern_it_and_
     museum.rules["R9"], gone = {}, by(120, f"Drop {BY_DEED}")
     assert disk.go("disk/1002")["rows"][0][7].endswith(f" no rule matches in the journal since {gone}")
     said = disk.text("#disk .stands")
-    assert "from then on it has no change of the disk" in said and "A day of a rule begins at midnight by" in said
+    assert all(words in said for words in ("so far back it has nothing", "A day of a rule begins at midnight by"))
 
 def test_time_goes_back_past_what_was_replaced_where_the_journal_says_that_it_was_the_same_for_them(disk):
     """Cases: when the disk came in; what rule 20 said otherwise a month before; is it the same for public, staff."""
     put, month, of_deed, nobody = disk.door.journals["/journal"], -4e6, "/deeds/9/rules/20", "nobody who is named"
     line = lambda far, path, body="": journal_lines(far, START + far, "200", "PUT", path, body=body)
-    ruled, taken = f"{when(0.5)} by Ada: Replace {BY_DEED}", f"{when(-8.5)} by {nobody}: taken in"
-    back = f"{when(month + 0.5)} by {nobody}: Put {BY_DEED}; what has replaced it is the same for them"
+    ruled, taken = f"{when(0.5)} by Ada: Put {BY_DEED} in the place of another", f"{when(-8.5)} by {nobody}: taken in"
+    back = f"{when(month + 0.5)} by {nobody}: Put {BY_DEED}; what has come since is the same for them"
     some, every = ('"public",', ""), '"all":true'
-    cases = [(-9, *some, 0, 1), (-9, every, '"slot":0', 1, 1), (-9, every, '"prefix":"T"', 0, 0),
-             (-9, "read", "list", 0, 0), (-9, '"read"', '"read","until":"2099-01-01"', 0, 0), (month - 9, *some, 0, 1)]
+    cases = [(-9, *some, 0, 1), (-9, every, '"slot":0', 1, 1), (-9, every, '"prefix":"T"', 1, 1),
+             (-9, every, '"prefix":"G"', 0, 0), (-9, every, '"type":"SEQ"', 0, 0), (-9, "read", "list", 0, 0),
+             (-9, '"read"', '"read","until":"2099-01-01"', 1, 1), (-9, '"read"', '"read","until":"2023-11-14"', 0, 0),
+             (-9, '"read"', '"read","from":"2023-11-01"', 1, 1), (month - 9, *some, 0, 1)]
     # (the page asks once for a month without a file, and for what is older than all that it has read)
     disk.door.journals["/journal-2023-09"] = line(month - 99, "/deeds/8")
     assert disk.load() and disk.begin()
@@ -119,6 +131,11 @@ def test_time_goes_back_past_what_was_replaced_where_the_journal_says_that_it_wa
     gone = journal_lines(2, START - 1, "502", "DELETE", of_deed)
     disk.door.journals["/journal"] = line(-5, of_deed, READ) + gone + put
     assert f"{when(0.5)} by Ada: Put" in disk.go("disk/1002")["rows"][0][5], "what may have been dropped stood"
+    later = line(-20, of_deed, READ) + line(-9, TAKEN_IN) + line(5, "/deeds/9/rules/30", READ.replace("read", "deny"))
+    disk.door.journals = {"/journal": later, "/journal-2023-09": line(month, "/deeds/8")}
+    assert disk.load() and disk.begin() and disk.door.visits.clear() is None
+    assert disk.go("disk/1002")["rows"][0][5].endswith(taken)
+    assert [path for _, path, _ in disk.door.visits if "journal" in path] == ["/journal"], "more is read than is needed"
 
 def test_files_ticked_by_their_shown_names_are_taken_down_and_what_stands_after_a_failure_is_said(museum, disk):
     museums.put_files(museum, 1002, "d64", 9, [("%CCETTER", "SEQ", b"A"), ("-", "DEL", None), ("GUIDE", "SEQ", b"A")])
@@ -151,15 +168,25 @@ def test_files_ticked_by_their_shown_names_are_taken_down_and_what_stands_after_
         shown = disk.push("Go on with the rest")
         assert (shown["result"][0], *disk.script(SEEN)) == ("2 takedowns put, 0 failed.", True, "status")
     assert [row[5] for row in shown["rows"][:3]] == [CLOSED.format(10), LISTS, CLOSED.format(20)]
+    says = f"What the desk's verdicts on {TODAY} say of the files that are meant: 2 files closed to the public"
+    assert f"{says} and 2 files closed to the reading room." in shown["result"]
     assert "Save the report" not in str(disk.go("disk/1003")["result"]) and disk.go("keys") and disk.go("disk/1002")
     due = [["1002", slot, name, rank, f"the file at slot {slot} {ALWAYS}", "done"] for name, rank, slot in rules]
     heads, *rows = saved_table(disk, "disk-1002-report-of", "Save the report")
     assert [row[2:8] for row in rows] == due and "of each. It does not say what stands since. Whoever" in rows[0][1]
     assert "desk-visits.log on the museum's machine says for 14" in rows[0][1], "who fetched them before is not said"
-    zone = disk.script("return Intl.DateTimeFormat().resolvedOptions().timeZone")
-    assert heads[1].endswith(f"by the computer that saved this, in the zone {zone})"), "in nobody's zone"
+    assert heads[1].endswith("by the desk's clock, in its zone)"), "in nobody's zone"
     words = "slot (the file's place on its disk, counted from 0)", "rank (a place in the order of rules, lowest first)"
-    assert (heads[3], heads[5]) == words
+    assert (heads[3], heads[5]) == words and f"(OPERATING, Logs). {says} and 2" in rows[0][1]
+
+def test_coming_back_shows_the_disk_that_was_looked_at_asked_anew(museum, disk):
+    museum.rules["T1002"] = takedown(1000, 2)
+    assert disk.go("keys") and disk.named("link", "One disk").click() is None
+    back = disk.read(lambda state: state["here"] == "#/disk/1002" and len(state["rows"]) > 3)
+    assert (back["heading"], back["rows"][0][2], back["result"]) == ("Disk 1002", "TOUR", [])
+    assert back["rows"][3][0] == "takedown 1000 of disk 1002 (T1002.1000)", "what stood when somebody left"
+    assert disk.one("#disk [name=accession]").get_property("value") == "1002"
+    assert disk.go("disk/99")["refusal"] and disk.go("disk/1003")["heading"] == "Disk 1003", "no other disk is shown"
 
 def test_each_number_of_a_disk_leads_to_its_page(museum, disk):
     museum.rules["T1002"] = takedown(1000, 2)

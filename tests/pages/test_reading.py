@@ -11,8 +11,8 @@ import zipfile
 
 import pytest
 from staff_helpers import CANNOT_REACH
-from support import model_disks, museums
-from support.browser import LIMIT, wait_for
+from support import model_disks, museums, stand_in
+from support.browser import LIMIT, STAFF, ReadersPage, wait_for
 from support.museums import HARMFUL
 from support.samples import digest
 from support.server import bytes_of
@@ -262,7 +262,8 @@ def test_zip_has_all_files_that_may_be_read_by_harmless_names_and_says_what_it_i
     assert [row[2] for row in rows[1:-2]] == [name if name[0] != "=" else f"'{name}" for name, _ in GIVEN]
     assert all(row[8] and row[8] in about.replace("\n", " ") for row in rows[-2:]), "what it lacks is not in the table"
     zip_says(reader, "Saved: 8 files.")
-    for words in (f"number 2001. {reader.door.address}#/2001, an ", "desk on 15 June 2026 at [0-9:]+ .* without a key.",
+    for words in (f"number 2001. {reader.door.address}#/2001, an ",
+                  "desk on 15 June 2026 at [0-9:]+ .* without a key[.] This zip is made with the eyes of the public[.]",
                   "had come by 15 June .*[.]\n", "zip: 8 files, .*\nfiles/HELLO.prg: HELLO, slot 0, rule 20 of deed 9 ",
                   "zip: 0 files[.]\n\n1 more file is closed to the public, .*: takedown 1 of disk 2001 .T2001.1.[.]"):
         assert re.search(words, about), (words, about)
@@ -286,7 +287,16 @@ def test_zip_asks_in_a_pace_again_after_429_and_leaves_out_what_was_closed_meanw
     left = f"TOUR, slot 2: a file of records, which the desk cannot give out\n{HARMFUL[0]}, slot 3: {words}\n"
     end = "This text does not say what was open or closed at any other time.\n"
     assert f"2 files.\n{left}\nThe desk tells of no other file that is closed.\n{end}" in about
+    zip_says(reader, "Saved: 7 files. 2 listed files left out: about.txt in the zip says why. The desk tells of no")
     assert made.namelist()[:3] == ["files/HELLO.prg", "files/LETTER.seq", "files/_CON.usr"]
+
+@pytest.mark.parametrize("is_outside, key, eyes", [(False, STAFF, "the staff"), (False, "hello", "the reading room"),
+    (True, STAFF, "the reading room or the staff: the desk does not tell at this address of which")])
+def test_zip_says_with_whose_eyes_it_was_made(driver, museum, tmp_path, is_outside, key, eyes):
+    with stand_in.Door(museum, outside=is_outside, folder=tmp_path) as door:
+        door.address += "index.html"
+        page = ReadersPage(driver, door)
+        assert page.give(key) and f" with a key. This zip is made with the eyes of {eyes}. " in zipped(page)[2]
 
 @pytest.mark.parametrize("at, then, words", ids=["lost", "stopped", "another key", "late"], argvalues=[
     (1, 3, CANNOT_REACH), (1, 3, "Stopped."), (1, 3, ""), (2, 9, "Stopped.")])

@@ -28,6 +28,8 @@ def takedowns(museum, staff):
 ranks = lambda shown: [row[1] for row in shown["rows"]]
 
 def test_takedowns_are_rehearsed_and_put_each_before_the_others(takedowns):
+    for typed in ({"scope": "1002"}, {"how": "slot", "effect": "deny"}, {"what": "2"}):
+        assert takedowns.fill("takedowns", **typed).read()["hint"] == "", "a place of a takedown that is for nobody yet"
     guide, rank = "GUIDE (disk 1002, slot 2)", PLACE.format(10, "1 of 1 takedown", 1002)
     words = ["Put takedown 10 of disk 1002?", f"It says: {HIDDEN.format(2)}", rank, NOW, CLOSES, guide]
     for is_agreed, said in ((False, "Not put: takedown 10 of disk 1002."), (True, "Put: takedown 10 of disk 1002.")):
@@ -38,6 +40,7 @@ def test_takedowns_are_rehearsed_and_put_each_before_the_others(takedowns):
         assert str(saved).count("'read it'") == 6 and "an answer to: “Put takedown 10 of disk 1002?”" in saved[1][1]
         shown = takedowns.answer(is_agreed)
         assert (shown["result"][0], len(takedowns.door.sent())) == (said, is_agreed)
+        assert shown["hint"] == ("" if is_agreed else rank), "a rank that is not that of what was put"
         assert "desk-visits.log" in shown["result"][-1] or not is_agreed, "where it stands who fetched it is not said"
     row = ["1002", "10", "the public and the reading room", "the file at slot 2", SHUT]
     assert [cells[:5] for cells in shown["rows"]] == [row]
@@ -52,10 +55,28 @@ def test_rank_in_use_is_said_to_be_replaced_and_one_that_may_decide_before_anoth
     assert (shown["hint"], shown["sure"][2:]) == (words, [words, NOW, *TURNS])
     assert shown["sure"][0] == "Replace takedown 1 of disk 1005?" and takedowns.answer(False)
     words = PLACE.format(2, "2 of 2 takedowns", 1005)
-    words += " Mind: 1 takedown before it may be for the same files and readers."
+    words += f" Mind: before it may decide, for the same files and readers, takedown 1 ({HIDDEN.format(0)[:-1]})."
     shown = takedowns.put_rule("takedowns", "1005", "", "all", None, "public")
     assert (shown["hint"], shown["sure"][2]) == (words, words)
     assert ranks(takedowns.answer(True)) == ["1", "2"]
+
+def test_what_is_said_after_a_takedown_is_what_the_desk_says_and_names_what_still_decides_before_it(museum, takedowns):
+    museum.rules["T1005"] |= {rank: museums.rule(rank, "list", ["room"], {"slot": 2}, None, until)
+                              for rank, until in ((3, TODAY), (5, None))}
+    shown = takedowns.take_down("1005", "20", "2", *BOTH)
+    mind = "readers, takedown 5 (the file at slot 2 only listed for the reading room, until further notice)."
+    assert shown["hint"].endswith(mind), "it does not say which, or names one that is over"
+    says = f"What the desk's verdicts on {TODAY} say of the files that are meant: "
+    by = "1 file only listed for the reading room (takedown 5 of disk 1005, which comes before it)"
+    assert takedowns.answer(True)["result"][1] == f"{says}1 file closed to the public and {by}."
+    assert takedowns.take_down("1005", "21", "2", "room", start="2026-06-16") and takedowns.answer(True)
+    assert takedowns.take_down("1005", "30", "1", "public", start="2026-06-16")
+    later = f"{says}1 file only listed for the public (rule 20 of deed 7)."
+    assert takedowns.answer(True)["result"][1] == later, "as if it held before its first day"
+    takedowns.take_down("1005", "40", "0", "room")
+    takedowns.door.before = lambda method, path: b"" if "/verdicts/" in path else None
+    lost = "The page could not ask the desk what readers get of it now."
+    assert takedowns.answer(True)["result"][:2] == ["Put: takedown 40 of disk 1005.", lost]
 
 def test_drop_is_rehearsed_and_done(takedowns):
     shown = takedowns.of_row("takedown 1 of disk 1005", "Drop")

@@ -2,13 +2,16 @@
 
 from staff_helpers import OLDER, journal_lines, lost_at, moment, put_deed
 from support import museums
-from support.browser import TODAY
+from support.browser import TODAY, wait_for
 from support.samples import digest
 
 EVERYBODY = "the public, the reading room and the staff"
 RULE_20 = ["20", EVERYBODY, "all files", "read them", "until further notice", "ChangeDrop"]
 STAFF, OTHER, RESTORE = digest(b"abc"), digest(b"another"), " Restore a backup of what is changed."
 START, NOBODY = 1_800_000_000, "Nobody can use it any more."
+# A script: the index that each row of the list has for a screen reader, and its number.
+ROWS = """return Array.from(document.querySelectorAll("#checks tbody tr:not(.space)"),
+  (row) => [Number(row.ariaRowIndex), Number(row.cells[0].textContent)]);"""
 NOT = f"not in the journal, back to {moment(START).replace('T', ' ')}, where it begins"
 
 def test_deed_is_put_with_name_and_reason(staff):
@@ -52,6 +55,15 @@ def test_rule_is_put_changed_and_dropped(staff):
     assert shown["result"] == ["Done: there is no rule 20 of deed 8 now."]
     assert (shown["stands"], shown["rows"]) == (["There is no rule of deed 8."], [])
 
+def test_rule_that_is_over_or_has_not_begun_is_marked_where_it_stands(museum, staff):
+    days = [(None, TODAY), ("2020-01-01", "2026-06-15"), ("2026-06-16", None), ("2020-01-01", "2026-06-16")]
+    due = [f"ended on {TODAY}", f"from 2020-01-01, ended on {TODAY}", "not begun: from 2026-06-16",
+           "from 2020-01-01, until 2026-06-16"]
+    museum.rules["R9"] = {rank: museums.rule(rank, "deny", ["public"], None, *of) for rank, of in enumerate(days, 1)}
+    for place, at in (("rules/9", 5), ("disk/1002", 4)):
+        assert [row[at] for row in staff.go(place)["rows"] if "deed 9" in row[0] or len(row) > 6][-4:] == due, place
+    assert [f"closed to the public, {words}" in staff.go("deeds")["rows"][2][4] for words in due] == [True] * 4
+
 def test_rules_that_are_put_again_stay_as_they_were(museum, staff):
     ways = [({"slot": 0}, "the file at slot 0"), ({"user": 15}, "files of user 15"),
             ({"type": "PRG"}, "files of type \u201cPRG\u201d"), ({"type": ""}, "files without a type"),
@@ -78,6 +90,24 @@ def test_long_list_stays_sorted_and_filtered_when_it_is_read_anew(museum, staff)
     assert numbers() == [*range(1006, 1000, -1), *range(30, 0, -1)]
     staff.type("Only rows with", "2026-01")
     assert (numbers(), staff.text("#checks label [role=status]")) == ([1003, 1002, 1001], "3 of 36 shown")
+
+def test_long_list_has_its_rows_in_order_keeps_the_focus_and_is_printed_whole(museum, staff):
+    for number in range(1, 91):
+        museums.put(museum, number, "cpm8", 9, museum.images[1001].bytes)
+    due = [*range(1, 91), *range(1001, 1007)]
+    assert staff.go("checks") and staff.script(ROWS)[-1][0] < 90, "the test needs a list that is drawn in part"
+    staff.script("document.querySelector('[aria-label=\"Check disk 30\"]').focus()")
+    for far in (0, 1e6, 900, 0):
+        staff.script("scrollTo(0, arguments[0]); window.later = 0; setTimeout(() => (window.later = 1), 300)", far)
+        wait_for("what comes with the scrolling", lambda: staff.script("return window.later"))
+        drawn = staff.script(ROWS)
+        assert drawn == [[due.index(number) + 2, number] for _, number in drawn] == sorted(drawn) and drawn, far
+        assert due[-1] in [number for _, number in drawn] or far < 1e6, "the end is not drawn where it is seen"
+        assert staff.focused() == "Check disk 30", "a row with the focus is gone"
+    staff.script(f"addEventListener('afterprint', () => (window.printed = (() => {{ {ROWS} }})()))")
+    assert staff.cdp("Page.printToPDF")["data"]
+    assert staff.script("return window.printed") == [[at, number] for at, number in enumerate(due, 2)]
+    wait_for("rows that the screen has no need of to go", lambda: len(staff.script(ROWS)) < 96)
 
 def test_key_is_put_given_away_and_dropped(museum, staff):
     rows = staff.go("keys")["rows"]

@@ -5,9 +5,10 @@ import csv
 import datetime
 
 import pytest
-from staff_helpers import journal_lines, saved_table, takedown
+from staff_helpers import is_said_saved, journal_lines, saved_table, takedown
 from support import museums, stand_in
-from support.browser import CLOCK, TODAY
+from support.browser import TODAY
+from support.samples import refused, told
 
 DAYS = ["2026-06-25", "2026-07-05", "2027-06-15", "2027-06-16"]
 AUDIENCES = {"public": "the public", "room": "the reading room", "staff": "the staff"}
@@ -25,6 +26,11 @@ UNSAID = "It does not say who has read or copied a file, nor what stands on othe
 STOOD, PAST = f"by the rules of {TODAY} when it was asked", f"by the rules of {TODAY}, not by those that stood then"
 NO_JOURNAL = "what stood then is not known: there is no journal"
 SINCE = "What has changed since then is not known: there is no journal."
+
+def night(museum):
+    """Midnight comes at the desk."""
+    museum.day = str(datetime.date.fromisoformat(museum.day) + datetime.timedelta(1))
+    return museum
 
 def look(staff, day, audience="public", closed=False, words=""):
     assert staff.go("eyes") and staff.fill("eyes", day=day, audience=audience).push("Look")
@@ -52,15 +58,17 @@ def test_each_audience_sees_and_counts_what_the_desk_gives_out(museum, staff, da
 
 def test_file_is_found_by_name_disk_or_rule_and_saved_without_formula(museum, staff):
     museums.harmful_disk(museum, 1066, 7)
-    for words, count in {"guide": 2, "1002": 3, "r9.20": 7, "=1+1": 1, "no such": 0, "1066": 5}.items():
+    for words, count in {"guide": 2, "1002": 3, "r9.20": 7, "=1+1": 1, "no such": 0, "Disk 1066": 5, "1066": 5}.items():
         shown = look(staff, TODAY, "staff", True) and staff.one("#eyes [name=words]").send_keys(words) or staff.read()
         assert (len(shown["rows"]), int(shown["stands"][1].split()[1])) == (count, count), words
-    staff.script(CLOCK % 86_400_000)
+    night(museum)
     _, *rows = saved_table(staff, f"who-sees-what-staff-of-disk-1066-{TODAY}-5-of-19-files-asked")
     assert "5 of 19 files, found by “1066”, only of disk 1066, which has 5. The desk was asked on" in rows[0][1]
     assert [row[16] for row in rows] == [name if name[0] != "=" else f"'{name}" for name in museums.HARMFUL]
     words = ["the staff", "read it", "", "R7.20", "rule 20 of deed 7", "1066", "", "7", "d64", "0", "", "../../X"]
     assert (rows[0][3], rows[0][5:]) == (STOOD, [*words, "../../X", "SEQ", "4", ""]), "saved a day after it was asked"
+    staff.fill("eyes", words="guide").wait(lambda state: len(state["rows"]) == 2)
+    assert not is_said_saved(staff), "a file speaks for what is shown since"
 
 def test_table_has_the_day_of_its_field_and_is_asked_anew_once_something_was_changed(staff):
     look(staff, DAYS[1], "room", True, "1002")
@@ -82,16 +90,76 @@ def test_day_that_nobody_typed_is_today_also_where_a_page_stays_open_overnight(m
         staff.go(view)
         for day in (first, first + 1):
             assert staff.push(button)["result"] == [f"Read: {words}2026-06-{day}."], "a today that is over"
-            staff.script(CLOCK % 86_400_000)
+            night(museum)
     assert staff.go("eyes") and staff.texts("#eyes h2") == ["What the public gets on 2026-06-19"], "what stood days ago"
-    assert look(staff, "2026-06-19") and staff.script(CLOCK % 86_400_000) is None
+    assert look(staff, "2026-06-19") and night(museum)
     assert staff.go("eyes") and "on 2026-06-19, by" in staff.push("Look")["result"][0], "not the day that was typed"
     for day, due in (("2030-01-01", "2030-01-01, by the rules of 2026-06-21"), ("2026-06-21", "2026-06-22")):
-        assert look(staff, day) and staff.fill("eyes", day="2026-02-30").script(CLOCK % 86_400_000) is None
+        assert look(staff, day) and staff.fill("eyes", day="2026-02-30") and night(museum)
         assert staff.go("eyes") and f"gets on {due}" in staff.text("#eyes h2"), "of an older day, or of none"
     museum.latest |= dict.fromkeys(museum.images, ("2025-06-22", "sound"))
     assert staff.go("checks") and staff.one("[name=before]").get_property("value") == "2025-06-22"
-    assert staff.script(CLOCK % 86_400_000) is None and "6 sound" in staff.push("Check all of these")["result"][0]
+    assert night(museum) and "6 sound" in staff.push("Check all of these")["result"][0]
+    assert staff.go("takedowns") and staff.take_down("1002", "", "2", "public")["sure"][3] == "Today, 2026-06-23"
+    assert night(museum) and staff.push("Save what stands now, first")
+    assert staff.saved("disk-1002-before-a-change-2026-06-24-asked-*.csv"), "a question that stands open overnight"
+    staff.answer(False)
+
+@pytest.mark.parametrize("zone, day", [("Pacific/Kiritimati", TODAY), ("America/New_York", "2026-06-16")])
+def test_today_is_the_day_of_the_desk_in_whatever_zone_the_browser_is(museum, staff, zone, day):
+    """It is noon of the first of these days in UTC: in the one zone it is the second, and in the other not yet."""
+    museum.day, museum.rules["R7"][10] = day, museum.rules["R7"][10] | {"until": "2026-06-16"}
+    staff.cdp("Emulation.setTimezoneOverride", timezoneId=zone)
+    try:
+        is_open = day == "2026-06-16"
+        heads, *rows = saved_table([staff, staff.go("disk/1004")][0], f"disk-1004-{day}-asked", "Save who gets what as")
+        assert staff.texts("#disk h2")[0] == f"Who gets what on {day}", "the day of the computer"
+        assert {row[2] for row in rows} == {day} and (rows[0][6] == "read it") == is_open, "another day in the file"
+        assert heads[1].endswith("days of rules and of asking: by the desk's clock, in its zone)")
+        assert staff.go("eyes") and f"gets on {day}." in staff.push("Look")["result"][0]
+        assert staff.go("timeline") and staff.push("Look at")["result"] == [f"Read: {day}."]
+        assert staff.go("takedowns") and f"Today, {day}" in staff.take_down("1002", "", "2", "public")["sure"]
+        staff.answer(False)
+    finally:
+        staff.cdp("Emulation.setTimezoneOverride", timezoneId="")
+
+def test_desk_that_does_not_tell_its_day_is_said_and_no_view_guesses_it(staff):
+    assert staff.go("disk/1002") and staff.go("timeline")["rows"]
+    for reply in (b"", refused(404, "no-route"), told(day=7)):
+        staff.door.before = lambda _, path: reply if path == "/staff/today" else None
+        for view in ("eyes", "disk/1002", "timeline", "checks"):
+            assert staff.go(view)["result"] == ["The desk did not tell which day it is there. Try again."], view
+            assert TODAY not in staff.text(f"#{view[:4]}{view[4:].partition('/')[0]} .stands"), view
+        assert staff.go("takedowns")["result"] == [] and staff.take_down("1002", "", "2", "public")["sure"] is None
+        assert "The desk did not tell" in staff.text("#takedowns .result"), "a rehearsal of a day that nobody knows"
+    staff.door.before = lambda _, path: refused(401, "unknown-key") if path == "/staff/today" else None
+    assert staff.go("eyes")["result"] == ["The desk does not know this key. Type it again, or use another.",
+                                          "Refusal: unknown-key"]
+    staff.door.before = lambda _, path: None
+    assert staff.door.sent() == [] and staff.go("eyes")["result"] == []
+
+def test_rules_stand_without_marks_where_the_desk_does_not_tell_its_day(museum, staff):
+    days, place = [("2027-01-01", None), (None, "2026-01-01")], "/staff/today"
+    deny = lambda *of: {1: museums.rule(1, "deny", ["public"], {"slot": 2}, *of)}
+    museum.rules["R8"], museum.rules["T1002"] = (deny(*of) for of in days)
+    begins, ends = "from 2027-01-01", "until 2026-01-01"
+    for words, reply in ((f"not begun: {begins}", "ended on 2026-01-01"), None), ((begins, ends), b""):
+        staff.door.before = lambda _, path: reply if path == place else None
+        for view, due in zip(("rules/8", "takedowns/1002"), words):
+            shown = staff.go(view)
+            assert (shown["result"], [row[5] for row in shown["rows"]]) == ([], [due]), view
+        mind = staff.take_down("1002", "2", "2", "public")["hint"].partition(" Mind: ")[2]
+        assert mind.endswith(f", {ends}).") == (reply is not None) == bool(mind), "which takedown may come before it"
+        shown = staff.answer(False) and staff.go("deeds") if reply is None else staff.go("deeds")
+        due = f"1: the file at slot 2 closed to the public, {words[0]}Rules"
+        assert (shown["result"], shown["rows"][1][4]) == ([], due)
+    staff.door.before = lambda _, path: None
+    assert staff.go("takedowns") and staff.take_down("1002", "2", "2", "public")["sure"]
+    staff.door.before = lambda _, path: b"" if path == place else None
+    shown = staff.answer(True)
+    words = ["Put: takedown 2 of disk 1002.", "The page could not ask the desk what readers get of it now."]
+    assert shown["result"][:2] == words and [row[5] for row in shown["rows"]] == [ends, "until further notice"]
+    assert [path for _, path, _, _ in staff.door.sent()] == ["/images/1002/rules/2"]
 
 def test_day_that_is_over_is_said_to_be_by_rules_of_today_and_a_saved_table_says_what_it_has(staff, tmp_path):
     (tmp_path / "about.csv").write_text("name,value\nmuseum,Museum of the River\n")
@@ -109,7 +177,7 @@ def test_day_that_is_over_is_said_to_be_by_rules_of_today_and_a_saved_table_says
         _, saved = saved_table(staff, f"{name}-{count}-of-14-files-asked")
         about = f"{heading}: {shown} It says nothing of what others than the public get. {SINCE} {UNSAID}"
         assert saved[:2] == ["Museum of the River", about], "a saved table looks as if it had all"
-    assert (saved[2:4], saved[4][:14]) == (["1999-01-01", PAST], f"{TODAY}T12:")
+    assert (saved[2:4], saved[4][:14], saved[4][19:]) == (["1999-01-01", PAST], f"{TODAY} 12:", " UTC")
     assert saved[5:8] == ["the public", EFFECTS["list"], f"{UNSERVED['SEQ']}; {PAST}; {NO_JOURNAL}"]
     later = f"{EFFECTS['deny']} ({PAST}; not then: deed 7 was signed on 2019-05-04; {NO_JOURNAL})"
     assert look(staff, "1999-01-01", closed=True, words="1004")["rows"][0][5] == later, "a day before the deed"
@@ -137,6 +205,11 @@ def test_timeline_has_the_next_change_first_and_says_what_is_other_on_each_day(m
     museum.rules["T1002"] = {1: museums.rule(1, "list", ["room", "public"], None, *DAYS[2:])}
     rules = [["rule 5 of deed 9", DAYS[0]], ["takedown 1 of disk 1002", DAYS[2]], ["rule 10 of deed 7", "2030-01-01"]]
     assert [[row[0], row[2]] for row in staff.go("timeline")["rows"]] == rules
+    _, *rows = saved_table(staff, f"timeline-3-rules-{TODAY}-asked", "Save these rules as CSV")
+    assert [[row[2], row[5], row[9]] for row in rows] == [[TODAY, *rule] for rule in rules]
+    assert rows[0][4] == "R9.5" and rows[0][6].startswith("the file at slot 0 closed to the public, not begun: from ")
+    assert (rows[0][7:9], rows[2][7:9]) == (DAYS[:2], ["", "2030-01-01"])
+    assert f"as they stood on {TODAY}: 3. The desk was asked on" in rows[0][1] and "nor who gets what" in rows[0][1]
     # slot 0 of the disks of deed 9: that of the last is damaged, so nobody is given it, and it is closed all the same
     may, see = "Now they may read them; then they may ", "see their names, not read them"
     nothing = "see only that closed files are there, not their names."
@@ -152,7 +225,7 @@ def test_timeline_has_the_next_change_first_and_says_what_is_other_on_each_day(m
         words = "The public: {} to read, {} only in the list, {} closed.".format(*counts)
         due = f"Who gets what on {day}, by the rules of {TODAY}, which may change until then"
         assert (heading, public) == (due, words)
-        assert more == ["What is other than today", *turns]
+        assert more == [f"What is other than today, {TODAY}", *turns]
     put = journal_lines(1, 1781078400, "200", "PUT", "/deeds/9/rules/4", "Ada", "a%20letter")
     says = ". Since then it has: Put rule 4 of deed 9, 2026-06-10 08:00:00+00:00 by Ada: a letter"
     for lines, words in [({"/journal": put}, f", the journal says{says}"), ({}, " is not known: there is no journal")]:
@@ -163,6 +236,9 @@ def test_timeline_has_the_next_change_first_and_says_what_is_other_on_each_day(m
     museum.rules["R9"][6] = museums.rule(6, "deny", ["public"], {"slot": 1}, None, "2025-07-01")
     staff.set("#timeline [type=range]", int(staff.one("#timeline [type=range]").get_property("min")))
     staff.read(lambda state: state["result"] == ["Read: 2025-06-15."])
+    ended = "the file at slot 1 closed to the public, ended on 2025-07-01"
+    assert staff.go("timeline")["rows"][-1][:3] == ["rule 6 of deed 9", ended, "none"]
+    staff.push("Look at")
     heading, _, _, _, since, other, closes, *_ = staff.texts("#timeline .day > :not(ul)")
     assert (heading, since) == (f"Who gets what on 2025-06-15, {PAST}", SINCE)
     assert other == f"What is other on 2025-06-15 than today, by the rules of {TODAY}"

@@ -22,8 +22,7 @@ from support.server import HOST, LIMIT, ROOT
 
 DAY = "([0-9]{4}-[0-9]{2}-[0-9]{2})"
 STAFF_ROUTES = [(re.compile(f"/staff/{path}"), methods) for path, methods in [
-    ("deeds", {"GET": "show deeds"}), ("takedowns", {"GET": "show takedowns"}), ("keys", {"GET": "show keys"}),
-    ("checks", {"GET": "show checks"}),
+    *((word, {"GET": f"show {word}"}) for word in ("today", "deeds", "takedowns", "keys", "checks")),
     *((path, {"GET": "show verdicts"}) for path in (f"verdicts/{DAY}", f"verdicts/{DAY}/{NUMBER}")),
     (f"rehearsals/{DAY}/(deeds|images)/{NUMBER}/rules/{RANK}", {"PUT": "rehearse", "DELETE": "rehearse"})]]
 FILE_COLUMNS = ("slot", "user", "name", "type", "size", "faults")
@@ -42,6 +41,9 @@ class Museum(model.Desk):
     def shown_rules(self, label):
         """Rules as the staff is shown them."""
         return [{**rule, "audiences": sorted(rule["audiences"], key=AUDIENCES.index)} for rule in self.by_rank(label)]
+
+    def show_today(self, _):
+        return Due(told(day=self.day))
 
     def show_deeds(self, _):
         under = collections.Counter(image.deed for image in self.images.values())
