@@ -9,8 +9,8 @@ use Rattle.rd_holdings.specs.declared.rows.ImageRow.{ImageRow}
 use Rattle.rd_holdings.proofs.KeyOrders.{number_order}
 use Rattle.rd_holdings.proofs.Members.{Has, entry_got}
 use Rattle.rd_history.specs.Bases.{AreBaseLines, image_puts, puts_at}
-use Rattle.rd_history.specs.Entries.{IsEntry, TellsDigests}
-use Rattle.rd_history.specs.Histories.{AreNumbered, AreParts, IsHistory, IsPut, base_entries, base_entry, base_lines, changes_of}
+use Rattle.rd_history.specs.Entries.{HasDigests, IsEntry, TellsDigests}
+use Rattle.rd_history.specs.Histories.{AreLinesOf, AreNumbered, AreParts, IsHistory, IsPut, base_entries, base_entry, base_lines, changes_of}
 use Rattle.rd_history.specs.Lines.{line_of}
 use Rattle.rd_history.specs.Settled.{IsTold}
 use Rattle.rd_history.specs.Stages.{Arrives, EndsSo, Follows, Path, START, Steps}

@@ -10,3 +10,5 @@ pub mod Appended
 pub mod SoLemmas
 pub mod NearLemmas
 pub mod BaseLines
+pub mod Carried
+pub mod Composed

@@ -7,6 +7,7 @@ pub mod Reading
 pub mod Standings
 pub mod Histories
 pub mod Settled
+pub mod Remembered
 pub mod Laws
 -- ---- inside: what only private functions and proofs cite
 pub mod Stages

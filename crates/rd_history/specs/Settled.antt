@@ -11,6 +11,7 @@ use Rattle.rd_history.specs.Entries.{HasDigests, IsEntry}
 use Rattle.rd_history.specs.Histories.{AreLinesOf, AreParts, IsAsked, changes_of, line_at}
 use Rattle.rd_history.specs.Reading.{IsLineOf}
 use Rattle.rd_history.specs.Standings.{Deposit, Standing, standing_after}
+use Rattle.rd_history.specs.declared.entry.Cause.{Cause}
 use Rattle.rd_history.specs.declared.entry.Cause.TheVariants.{Lost}
 use Rattle.rd_history.specs.declared.entry.Change.{Change}
 use Rattle.rd_history.specs.declared.entry.Change.TheVariants.{Deed, Image, Rule, DropRule, Key, DropKey, Void}
@@ -63,10 +64,10 @@ pub record EndIn (lines : List (List ℕ)) (entry : Entry) : Type 0 where
   pub are : lines ≡ before ++ line ∷ []
   pub of : IsLineOf line entry
 
--- An entry was put that takes the last one back, as found undone; or it was not, as the result says.
-pub record TakesBack {S T X : Type 0} (g : Ghosts S) (old new : Held S) (result : Result T X) : Type 0 where
+-- An entry was put that takes the last one back, for a cause; or it was not, as the result says.
+pub record TakesBack {S T X : Type 0} (g : Ghosts S) (cause : Cause) (old new : Held S) (result : Result T X) : Type 0 where
   pub void : Entry
-  pub change : void.change ≡ Void Lost
+  pub change : void.change ≡ Void cause
   pub digests : HasDigests void
   pub within : IsOpen g old → OnOk result (IsEntry (record void { number = length (lines g old) + 1 }))
   pub appends : Appends g old new (line_at (length (lines g old) + 1) void ∷ []) result
@@ -76,4 +77,4 @@ pub record TakesBack {S T X : Type 0} (g : Ghosts S) (old new : Held S) (result 
 pub record Settles {S T X : Type 0} (g : Ghosts S) (old new : Held S) (result : Result T X) : Type 0 where
   pub middle : Held S
   pub keeps : Keeps g old middle
-  pub last : (new ≡ middle) ⊎ TakesBack g middle new result
+  pub last : (new ≡ middle) ⊎ TakesBack g Lost middle new result

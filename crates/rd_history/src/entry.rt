@@ -1,7 +1,7 @@
 ghost use Rattle.std.specs.Prelude.{◌≡◌, ◌≢◌, ◌↔◌, IfNone, IfSome, IsTrue};
 ghost use Rattle.rd_policy.specs.Days.{HasDay};
 ghost use Rattle.rd_policy.specs.Rules.{IsPlainText};
-ghost use Rattle.rd_history.specs.Entries.{IsChange, IsDigest, IsEntry, IsSigned};
+ghost use Rattle.rd_history.specs.Entries.{HasDigests, IsChange, IsDigest, IsEntry, IsSigned};
 
 use rd_geometry::{Kind, Text};
 use rd_holdings::is_donor;
@@ -220,6 +220,17 @@ impl Entry {
             && (1..=LAST_NUMBER).contains(&self.number)
             && is_remark(self.staff.as_str())
             && self.is_signed_as_due()
+    }
+
+    /// Whether each digest is 32 bytes, which its type says.
+    pub(crate) fn has_whole_digests(&self) -> bool
+        ensures { IsTrue result → HasDigests self.now }
+    {
+        let is_whole = match &self.badge {
+            Some(badge) => is_digest(badge),
+            None => true,
+        };
+        is_whole && self.change.has_whole_digests()
     }
 
     /// Whether nobody's key stands beside a change that no request asks, and no word of the staff beside one that takes

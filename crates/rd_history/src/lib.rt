@@ -8,6 +8,7 @@ mod entry;
 mod history;
 mod laws;
 mod reading;
+mod remembering;
 mod settling;
 mod stage;
 #[cfg(test)]
@@ -20,5 +21,6 @@ pub use entry::{Cause, Change, Entry, LAST_NUMBER};
 pub use history::History;
 pub use laws::{bases_tell, changes_may_come, lines_are_entries, voids_take_back};
 pub use reading::read_line;
+pub use remembering::{Recorder, Signature, answer_on};
 pub use settling::{Unsettled, settle};
 pub use writing::line;

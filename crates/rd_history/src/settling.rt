@@ -2,7 +2,7 @@
 
 ghost use Rattle.std.specs.Prelude.{◌≡◌, ◌≢◌, ◌↔◌, All, Contains, IsTrue, IfOk, MatchBool, MatchOption, OnOk};
 ghost use Rattle.rd_policy.specs.Days.{HasDay};
-ghost use Rattle.rd_tables.specs.Connections.{IsOpen};
+ghost use Rattle.rd_tables.specs.Connections.{IsClean, IsOpen};
 ghost use Rattle.rd_store.specs.Held.{Keeps, Reads, desk};
 ghost use Rattle.rd_holdings.specs.State.{terms_of};
 ghost use Rattle.rd_chain.specs.Held.{lines};
@@ -133,16 +133,16 @@ fn is_so<S: Alter>(alloc: Global, store: &mut Store<S>, change: &Change) -> Resu
     }
 }
 
-/// An entry that takes the one before it back, as it was found undone.
-fn lost(alloc: Global, moment: i64) -> Entry
+/// An entry that takes the one before it back.
+fn void(alloc: Global, moment: i64, cause: Cause) -> Entry
     requires { HasDay moment }
     ensures fits { IsEntry result }
     ensures digests { HasDigests result }
-    ensures change { result.change ≡ Change.Void Cause.Lost }
+    ensures change { result.change ≡ Change.Void cause }
 {
     Entry {
         badge: None,
-        change: Change::Void(Cause::Lost),
+        change: Change::Void(cause),
         moment,
         note: Text::of(String::new(alloc)),
         number: 1,
@@ -150,18 +150,19 @@ fn lost(alloc: Global, moment: i64) -> Entry
     }
 }
 
-/// Takes the last entry of a history back, as found undone.
-fn take_back<H: Alter>(
+/// Takes the last entry of a history back.
+pub(crate) fn take_back<H: Alter>(
     alloc: Global,
     moment: i64,
+    cause: Cause,
     history: &mut History<H>,
 ) -> Result<(), Unsettled>
     requires moment { HasDay moment }
     requires comes { IsOpen H.Store history.old → MayBeTakenBack (lines H.Store history.old) }
-    ensures takes { TakesBack H.Store history.old history.new result }
+    ensures takes { TakesBack H.Store cause history.old history.new result }
     ensures history { IsOpen H.Store history.new → IsHistory (lines H.Store history.new) }
 {
-    let put = history.append(alloc, lost(alloc, moment));
+    let put = history.append(alloc, void(alloc, moment, cause));
     history.between_calls();
     match put {
         Ok(()) => Ok(()),
@@ -183,6 +184,7 @@ pub fn settle<S: Alter, H: Alter>(
 ) -> Result<(), Unsettled>
     requires { HasDay moment }
     ensures store { Keeps S.Store store.old store.new }
+    ensures opens { (IsClean S.Store store.old → IsOpen S.Store store.old) → OnOk result (IsClean S.Store store.new → IsOpen S.Store store.new) }
     ensures told { IsOpen S.Store store.new → IsOpen H.Store history.new → (entries : _) → AreLinesOf entries (lines H.Store history.old)
         → StandsNear (desk S.Store store.old) entries → OnOk result (IsTold (desk S.Store store.old) (lines H.Store history.new)) }
     ensures history { Settles H.Store history.old history.new result }
@@ -201,7 +203,7 @@ pub fn settle<S: Alter, H: Alter>(
     };
     match is_so(alloc, store, &entry.change) {
         Ok(true) => Ok(()),
-        Ok(false) => take_back(alloc, moment, history),
+        Ok(false) => take_back(alloc, moment, Cause::Lost, history),
         Err(_) => Err(Unsettled),
     }
 }

@@ -1,7 +1,9 @@
 use Rattle.std.proofs.Common.{◌≡◌, ◌+◌, ◌∷◌, [], ◌++◌, FitsSigned, arith, length, length-append, rules, subst, sym, w64}
 use Rattle.std.proofs.lemmas.Int.{to_z-of_z}
 use Rattle.rd_history.specs.Bases.{AreBaseLines}
-use Rattle.rd_history.specs.Histories.{IsPut}
+use Rattle.rd_history.specs.Entries.{IsEntry}
+use Rattle.rd_history.specs.Histories.{IsPut, base_entry}
+use Rattle.rd_history.specs.Lines.{line_of}
 use Rattle.rd_history.specs.declared.entry.Change.TheVariants.{Begin}
 use Rattle.rd_history.proofs.BaseLines.{base_line_more}
 use Rattle.rd_history.proofs.StageLemmas.{each_more}

@@ -2,8 +2,10 @@ use Rattle.std.proofs.Common.{◌≡◌, ◌∙◌, ◌+◌, ◌++◌, FitsSigne
 use Rattle.std.proofs.lemmas.Int.{to_z-of_z}
 use Rattle.rd_tables.specs.Connections.{IsOpen}
 use Rattle.rd_chain.specs.Held.{Appends, lines}
+use Rattle.rd_history.specs.Bases.{AreBaseLines}
 use Rattle.rd_history.specs.Histories.{base_lines}
 use Rattle.rd_history.specs.Stages.{EndsSo}
+use Rattle.rd_history.specs.declared.entry.Change.TheVariants.{Begin}
 use Rattle.rd_history.specs.declared.settling.Unsettled.{Unsettled}
 use Rattle.rd_history.proofs.Appended.{appended_err, appended_ok}
 use Rattle.rd_history.proofs.BaseLines.{ends_base}
