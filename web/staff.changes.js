@@ -1,10 +1,9 @@
 // The changes of the journal, each of which has two lines there: one when it came, and one with what became of it.
 import { kindWords, own, textOf } from "./shared.js";
-import { AUDIENCES, RULES, ruleWords } from "./staff.words.js";
+import { AUDIENCES, RULES, quoted, ruleWords } from "./staff.words.js";
 
-// How many signs of a path or a donor are shown at most.
-const LONGEST_WORDS = 300;
-const short = (text) => (text.length > LONGEST_WORDS ? `${text.slice(0, LONGEST_WORDS)} ..` : text);
+// A text of which so many signs are shown at most: fewer of a donor, so that what follows is shown, too.
+const short = (text, most = 300) => (text.length > most ? `${text.slice(0, most)} ..` : text);
 
 // What comes of reading something that may be no whole line, text or rule; where it is none, something else.
 export function tried(read, otherwise) {
@@ -21,7 +20,6 @@ export const ruleOfBody = (body) => ({ from: null, until: null, ...body, audienc
 
 // What a body says, or nothing where the page cannot read it: the desk may have refused it.
 const said = (change, words, text = tried(() => words(bodyOf(change)), "")) => text && `: ${short(text)}`;
-
 const ruleSaid = (change, names) => said(change, (body) => ruleWords(ruleOfBody(body), names));
 
 // What the rule said that is dropped, where the journal has it for sure.
@@ -29,7 +27,7 @@ const droppedSaid = ({ stood }, names, words = stood.length === 1 ? ruleSaid({ b
   words && `, which said${words}`;
 
 const deedSaid = (change) =>
-  said(change, ({ donor, signed }) => textOf(donor) && `${donor}, signed on ${textOf(signed)}`);
+  said(change, ({ donor, signed }) => textOf(donor) && `${quoted(short(donor, 250))}, signed on ${textOf(signed)}`);
 
 const keySaid = (change, { digest }) =>
   `Put a key${own(AUDIENCES, textOf(bodyOf(change).audience)).replace(/^./, " of $&")}, SHA-256 ${digest}`;

@@ -5,7 +5,7 @@ import { buttonsCell, change, changed, dated, diskCell, formOf, held, readHeld }
 import { shownAnew, showsAnew } from "./staff.desk.js";
 import { isDone, sendMany } from "./staff.many.js";
 import { limitFields } from "./staff.ruleform.js";
-import { dayAfter, today } from "./staff.words.js";
+import { dayAfter, quoted, signedWords, today } from "./staff.words.js";
 
 // After how many days a disk is due to be checked again.
 const DAYS = 365;
@@ -16,10 +16,10 @@ const finding = (text, isBad, more = isBad ? " Restore a backup of what is chang
   dated("p", `${text}${more}`, { className: isBad ? "refused" : "callout" });
 
 export function surveyed(survey, more = {}) {
-  const { donor, signed, files, served, faulty, label, directory, map } = survey;
+  const { files, served, faulty, label, directory, map } = survey;
   const pairs = {
-    Disk: `${survey.accession}, ${kindWords(survey.kind)}${label && `, called \u201c${label}\u201d`}`,
-    Deed: `${survey.deed}, of ${donor}, signed on ${signed}`,
+    Disk: `${survey.accession}, ${kindWords(survey.kind)}${label && `, called ${quoted(label)}`}`,
+    Deed: `${survey.deed}, of ${signedWords(survey)}`,
     Files: `${counted(files, "file")}: ${served} can be given out, ${faulty} damaged`,
     Directory: own(DIRECTORIES, directory),
   };

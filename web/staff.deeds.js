@@ -4,9 +4,7 @@ import { box, cell, counted, element, grouped, part, row } from "./shared.js";
 import { buttonsCell, change, dated, formOf, held, readHeld, send } from "./staff.desk.js";
 import { showChange, shownAnew, showsAnew, sure } from "./staff.desk.js";
 import { limitFields } from "./staff.ruleform.js";
-import { standingWords } from "./staff.words.js";
-
-const signedWords = ({ donor, signed }) => `${donor}, signed on ${signed}`;
+import { signedWords, standingWords } from "./staff.words.js";
 
 // Puts a deed. One that stands and has another donor or day is replaced only when that is said once more.
 async function put(deed, body) {

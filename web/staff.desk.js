@@ -1,6 +1,6 @@
 // The staff's side of the desk: what stands there, changes to it, and the work of a section of the page.
 import { Refused, askObject, box, button, cell, element, fields, grouped, listOf, part, refusal } from "./shared.js";
-import { askToday } from "./staff.words.js";
+import { askToday, quoted } from "./staff.words.js";
 import { withTitle } from "./titles.js";
 
 // After these nobody here knows whether the desk has done what was sent. A command that is sent twice is done once.
@@ -237,7 +237,7 @@ export function sure({ words, more = [], go, keep }) {
   const dialog = part("sure");
   const { name, reason } = whoNow();
   part("sure-words").textContent = words;
-  part("sure-who").textContent = `By ${name}. Reason: ${reason}`;
+  part("sure-who").textContent = `By ${quoted(name)}. Reason: ${quoted(reason)}`;
   part("sure-more").replaceChildren(...more);
   const [yes, no] = dialog.querySelectorAll("button[value]");
   // (a save that was under way when an earlier question was left may have shut it)

@@ -14,7 +14,7 @@ import { forgetSaved, saveTable, saver } from "./staff.saved.js";
 import { COLUMNS, EFFECT_AT, SAVED_HEADS, UNSAID, askedWords, byWhichRules, effectOf } from "./staff.verdicts.js";
 import { mayWords, nameOf, namesOf, ruleShown, savedVerdict, verdictsOf } from "./staff.verdicts.js";
 import { AUDIENCES, PUT, RULES, UNREAD, askToday, listed, momentNow, ruleTexts } from "./staff.words.js";
-import { ruleWords, today } from "./staff.words.js";
+import { ruleWords, signedWords, today } from "./staff.words.js";
 import { noteOf, titleOf } from "./titles.js";
 
 // How many changes of the journal are shown at most.
@@ -156,9 +156,9 @@ function saveDisk(disk, more = "") {
   };
   const saidOf = (file, who) => [...deciding(file[EFFECT_AT[who] + 1]), sinceOf(disk, file, who)];
   const rowOf = ([file, who]) => [...savedVerdict(file, who, asked), ...saidOf(file, who)];
-  const { accession, deed, donor, signed } = survey;
+  const { accession, deed } = survey;
   const came = `taken in: ${things[0].origin}; ${digestWords(disk)}`;
-  const whose = `under deed ${deed} of ${donor}, signed on ${signed}; ${came}`;
+  const whose = `under deed ${deed} of ${signedWords(survey)}; ${came}`;
   const all = `It has all ${counted(files.length, "file")}. ${askedWords(asked)}${more}`;
   const about = `Who gets what of disk ${accession}, ${whose}. ${all} ${SINCE} ${DAYS} ${ANY_NAME} ${UNSAID}`;
   const heads = [...SAVED_HEADS, "what the rule says", PUT.toLowerCase(), "since when"];

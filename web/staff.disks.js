@@ -7,7 +7,7 @@ import { forecast, forecastWords } from "./staff.forecast.js";
 import { isDone, sendMany } from "./staff.many.js";
 import { diskMap } from "./staff.map.js";
 import { matchRows, rowProblem, rowsIn } from "./staff.sheet.js";
-import { LIMITS, listed, standingWords, today } from "./staff.words.js";
+import { LIMITS, listed, signedWords, standingWords, today } from "./staff.words.js";
 
 // The chosen dumps, and the rows of the sheet that came with them, or null.
 let dumps = [];
@@ -152,9 +152,9 @@ async function unagreed() {
   return (await sure(asked)) ? null : "Nothing is sent.";
 }
 
-function deedParts({ deed, donor, signed, rules }, under) {
+function deedParts({ deed, rules, ...more }, under) {
   const lines = rules.map((rule) => dated("li", `${rule.rank}: ${standingWords(rule)}`));
-  const heading = dated("h3", `${counted(under.length, "disk")} under deed ${deed}, of ${donor}, signed on ${signed}`);
+  const heading = dated("h3", `${counted(under.length, "disk")} under deed ${deed}, of ${signedWords(more)}`);
   const rulesFor = ({ accession }) => [...rulesOf("takedowns", Number(accession.value)), ...rules];
   const forecasts = under.map((dump) => forecast(dump.files, rulesFor(dump), today()));
   const words = `What they get from today, ${today()}, as this page reckons it from the dumps and these rules:`;

@@ -5,7 +5,7 @@ import { held, readHeld, standing } from "./staff.desk.js";
 import { isFor } from "./staff.forecast.js";
 import { readBack } from "./staff.lines.js";
 import { COLUMNS, EFFECT_AT, effectOf, fileOf, given } from "./staff.verdicts.js";
-import { AUDIENCES, RULES, dayAfter, listed, ruleWords } from "./staff.words.js";
+import { AUDIENCES, RULES, dayAfter, listed, quoted, ruleWords } from "./staff.words.js";
 import { keeper } from "./stream.js";
 
 // What stands: a word for it, the place of the changes that put it, and whether the body of one says what stands.
@@ -35,8 +35,8 @@ function originOf(one, places) {
   return { put: same.findLast(({ status }) => status === "200") ?? same[0] ?? null, before: found[other] ?? null };
 }
 
-const byWords = ({ moment, name, reason }) =>
-  `${spaced(moment)} by ${name || "nobody who is named"}${reason && `: ${reason}`}`;
+const whoWords = ({ moment, name }) => `${spaced(moment)} by ${name ? quoted(name) : "nobody who is named"}`;
+const byWords = (change, { reason } = change) => `${whoWords(change)}${reason && `: ${quoted(reason)}`}`;
 
 function originWords({ word }, { put, before }, { reach, isWhole }) {
   const far = `in the journal${reach && `, back to ${reach}${isWhole ? ", where it begins" : ""}`}`;
@@ -144,7 +144,7 @@ function turnOf(things, [record, audience], changes, day) {
 
 // When and by whom something was done, and what, in short.
 const doneWords = (change, what = changeWords({ ...change, body: "", stood: [] })) =>
-  byWords({ ...change, reason: isUnknown(change) ? `${what} (${UNKNOWN})` : what });
+  `${whoWords(change)}: ${what}${isUnknown(change) ? ` (${UNKNOWN})` : ""}`;
 
 // Since when a file is to an audience as it is now, as far as the changes of its disk and its deed say.
 export function sinceWords(things, record, audience, { changes, isWhole, asked }) {

@@ -18,8 +18,11 @@ export function listed(words) {
   return `${words.slice(0, -1).join(", ")} and ${words.at(-1)}`;
 }
 
+// What people typed, or what stands on a disk, between words of the page.
+export const quoted = (text) => `\u201c${text}\u201d`;
+export const signedWords = ({ donor, signed }) => `${quoted(donor)}, signed on ${signed}`;
 // (only names of the 1541 have codes from 80 hex on)
-const asShown = (words) => (/%[89A-F]/.test(words) ? ` (on the screen \u201c${shownName("d64", words)}\u201d)` : "");
+const asShown = (words) => (/%[89A-F]/.test(words) ? ` (on the screen ${quoted(shownName("d64", words))})` : "");
 
 function printed(least, most) {
   return { pattern: `[\\x20-\\x7E]{${least},${most}}`, title: "as the desk prints it", required: least > 0 };
@@ -37,7 +40,7 @@ export const SELECTORS = {
   prefix: {
     choice: "files whose names begin alike",
     ...{ field: "They begin, as the desk prints them, with", limits: printed(1, 64) },
-    shown: (words) => `files whose names begin with \u201c${words}\u201d${asShown(words)}`,
+    shown: (words) => `files whose names begin with ${quoted(words)}${asShown(words)}`,
     sent: String,
   },
   user: {
@@ -48,7 +51,7 @@ export const SELECTORS = {
   },
   type: {
     ...{ choice: "files of a type", field: "Type, or nothing", limits: printed(0, 16) },
-    shown: (words) => (words === "" ? "files without a type" : `files of type \u201c${words}\u201d`),
+    shown: (words) => (words === "" ? "files without a type" : `files of type ${quoted(words)}`),
     sent: String,
   },
 };

@@ -105,7 +105,7 @@ def test_dumps_are_described_and_numbered_by_hand(staff, choose):
         ["two <b>.d64 Map", "175,531", "Commodore 1541 with error bytes", digest(MARKED), "", "", ""],
         ["short.d64", "100", "", "", "", "", NO_KIND]]
     assert asked == [*("Put 2 disks?", LEFT_OUT.format(1)),
-        f"2 disks under deed 9, of {samples.DONOR_OF_9}, signed on 0001-01-01",
+        f"2 disks under deed 9, of “{samples.DONOR_OF_9}”, signed on 0001-01-01",
         "20: all files readable for the public, the reading room and the staff, until further notice",
         f"What they get from today, {TODAY}, as this page reckons it from the dumps and these rules:",
         *(f"The {who}: 1 to read, 1 only in the list, 0 closed." for who in ("public", "reading room", "staff"))]

@@ -19,7 +19,7 @@ DEED = "/deeds/7", "Ada%20M%C3%BCller", "a%20letter%20of%203%20May", '{"donor":"
 NO_DISK = "refused: there was no such disk, deed or address"
 BAD_BODY = "refused: the desk could not read it, or a value was beyond its limits"
 # Changes from the oldest on: the status, what came, and the cells of who, what, outcome and reason.
-CHANGES = [("200", ("PUT", *DEED), "Ada Müller|Put deed 7: A. <b>C</b>, signed on 2019-05-04|done|a letter of 3 May"),
+CHANGES = [("200", ("PUT", *DEED), "Ada Müller|Put deed 7: “A. <b>C</b>”, signed on 2019-05-04|done|a letter of 3 May"),
     ("200", ("PUT", "/deeds/7/rules/20", "", "", RULE), f"|Put rule 20 of deed 7: {HIDDEN}|done|"),
     ("200", ("DELETE", "/deeds/7/rules/20?x=y", "bob"), f"bob|Drop rule 20 of deed 7, which said: {HIDDEN}|done|"),
     ("200", ("PUT", f"/accessions/1002/d64/9/{KEY}", "=1+1", "100%"),

@@ -17,8 +17,9 @@ LISTS = f"see its name, not read it (the desk gives out no file of type DEL) {BY
 SHUT = "see only that a closed file is there, not its name"
 CLOSED = f"{SHUT} takedown {{}} of disk 1002 {UNKNOWN}"
 ALWAYS = "closed to the public and the reading room, until further notice"
+SLY = "18;%20in%20its%20place%20before:%20%E2%80%9Cnothing%E2%80%9D"
 TAKEN_IN = f"/accessions/1002/d64/9/{'0' * 64}"
-BY = f"This rule was put {when(0.5)} by Ada: a letter; in its place before: "
+BY = f"This rule was put {when(0.5)} by “Ada”: “a letter”; in its place before: "
 # A script: whether the outcome is in the window; and the role of what has the focus.
 SEEN = """const { top } = document.querySelector("#disk .result").getBoundingClientRect();
 return [top > -1 && top < innerHeight / 2, document.activeElement.role];"""
@@ -37,7 +38,7 @@ def test_disk_says_what_it_is_and_who_gets_what_by_which_rule(museum, disk):
     rows, left = shown["rows"], shown["result"]
     assert {path for _, path, _ in disk.door.visits if "/verdicts/" in path} == {f"/staff/verdicts/{TODAY}/1002"}
     assert left == [], "the page goes on saying that it reads the journal"
-    assert disk.texts("#disk dd")[1:5:2] == [NOT, f"9, of {DONOR_OF_9}, signed on 0001-01-01"]
+    assert disk.texts("#disk dd")[1:5:2] == [NOT, f"9, of “{DONOR_OF_9}”, signed on 0001-01-01"]
     assert disk.texts("#disk dd")[4:6] == ["3 files: 2 can be given out, 0 damaged", "it ends well"]
     assert "; not in use but marked as used: 0 blocks; with a wrong count: 0 tracks" in disk.texts("#disk dd")[6]
     assert disk.texts("#disk .stands ul li")[0] == "The public: 1 to read, 1 only in the list, 1 closed."
@@ -60,12 +61,16 @@ def test_disk_says_what_it_is_and_who_gets_what_by_which_rule(museum, disk):
     assert disk.go("disk/1002") and not is_said_saved(disk), "a file speaks for what is shown since"
     _, *rows = saved_table(disk, f"disk-1002-{TODAY}-asked", "Save who gets what as CSV")
     assert f"; its SHA-256: {'0' * 64}, as the journal has it. It has all" in rows[0][1]
+    assert f"under deed 9 of “{DONOR_OF_9}”, signed" in rows[0][1], "a donor's name reads as words of the page"
 
 def test_rule_says_what_was_there_before_it_or_how_far_the_journal_is_read_or_that_it_is_not(disk):
     disk.door.journals["/journal"] += journal_lines(2, START, "200", "PUT", TAKEN_IN)
     assert disk.load() and disk.begin().go("disk/1002")["rows"][3][5] == f"{BY}nothing {FAR}", "as if it were the first"
-    disk.door.journals["/journal"] += journal_lines(3, START - 9, "200", "DELETE", "/deeds/9/rules/20", "Bob")
-    assert disk.go("disk/1002")["rows"][3][5] == f"{BY}Drop rule 20 of deed 9, {when(-8.5)} by Bob"
+    disk.door.journals["/journal"] += journal_lines(3, START - 9, "200", "DELETE", "/deeds/9/rules/20", "Bob", SLY)
+    by = f"{BY}Drop rule 20 of deed 9, {when(-8.5)} by “Bob”: “18; in its place before: “nothing””"
+    assert disk.go("disk/1002")["rows"][3][5] == by, "what somebody typed reads as words of the page"
+    _, *rows = saved_table(disk, f"disk-1002-{TODAY}-asked", "Save who gets what as CSV")
+    assert in_utc(by) in rows[0], "what somebody typed reads as words of the page in what is saved"
     for reply in (b"", refused(500, "X")):
         disk.door.before = lambda _, path: reply if path == "/journal" else None
         unread = [row[5] for row in disk.go("disk/1002")["rows"]][:4:3]
@@ -79,7 +84,7 @@ def test_file_says_since_when_the_journal_has_no_change_that_can_concern_it_and_
     by = lambda far, what, who="nobody who is named": f"{when(far + 0.5)} by {who}: {what}"
     ranked = lambda word, rank, far: by(far, f"{word} takedown {rank} of disk 1002")
     at, of_deed, ended = "/images/1002/rules/", "/deeds/9/rules/", "2026-06-01 (takedown 1 of disk 1002 ended)"
-    ruled, drop6 = by(0, f"Put {BY_DEED}", "Ada"), ranked("Drop", 6, 60)
+    ruled, drop6 = by(0, f"Put {BY_DEED}", "“Ada”"), ranked("Drop", 6, 60)
     five, maybe = by(50, "Put rule 5 of deed 9"), by(90, "Put rule 10 of deed 9 (nobody knows whether the desk did it)")
     seven, again = ranked("Put", 7, 10), f"{ranked('Put', 5, 30)} in the place of another"
     uncertain = f"{ranked('Put', 1, 99)}; what has come since is the same for them", ranked("Put", 1, 99)
@@ -113,7 +118,7 @@ def test_time_goes_back_past_what_was_replaced_where_the_journal_says_that_it_wa
     """Cases: when the disk came in; what rule 20 said otherwise a month before; is it the same for public, staff."""
     put, month, of_deed, nobody = disk.door.journals["/journal"], -4e6, "/deeds/9/rules/20", "nobody who is named"
     line = lambda far, path, body="": journal_lines(far, START + far, "200", "PUT", path, body=body)
-    ruled, taken = f"{when(0.5)} by Ada: Put {BY_DEED} in the place of another", f"{when(-8.5)} by {nobody}: taken in"
+    ruled, taken = f"{when(0.5)} by “Ada”: Put {BY_DEED} in the place of another", f"{when(-8.5)} by {nobody}: taken in"
     back = f"{when(month + 0.5)} by {nobody}: Put {BY_DEED}; what has come since is the same for them"
     some, every = ('"public",', ""), '"all":true'
     cases = [(-9, *some, 0, 1), (-9, every, '"slot":0', 1, 1), (-9, every, '"prefix":"T"', 1, 1),
@@ -130,7 +135,7 @@ def test_time_goes_back_past_what_was_replaced_where_the_journal_says_that_it_wa
         assert cells == [(ruled, taken if is_late else back)[one] for one in is_same], other
     gone = journal_lines(2, START - 1, "502", "DELETE", of_deed)
     disk.door.journals["/journal"] = line(-5, of_deed, READ) + gone + put
-    assert f"{when(0.5)} by Ada: Put" in disk.go("disk/1002")["rows"][0][5], "what may have been dropped stood"
+    assert f"{when(0.5)} by “Ada”: Put" in disk.go("disk/1002")["rows"][0][5], "what may have been dropped stood"
     later = line(-20, of_deed, READ) + line(-9, TAKEN_IN) + line(5, "/deeds/9/rules/30", READ.replace("read", "deny"))
     disk.door.journals = {"/journal": later, "/journal-2023-09": line(month, "/deeds/8")}
     assert disk.load() and disk.begin() and disk.door.visits.clear() is None

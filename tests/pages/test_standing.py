@@ -32,12 +32,12 @@ def test_deed_is_put_with_name_and_reason(staff):
     assert staff.one("#who [name=reason]").get_property("value") == "a letter of today"
 
 def test_deed_is_replaced_only_when_that_is_agreed(staff):
-    stands, then = "It stands: B. Donor, signed on 2020-02-29.", "Then: E. Müller, signed on 2020-02-29."
+    stands, then = "It stands: “B. Donor”, signed on 2020-02-29.", "Then: “E. Müller”, signed on 2020-02-29."
     for is_agreed, said, donor in ((False, "Kept: deed 8.", "B. Donor"), (True, "Replaced: deed 8.", "E. Müller")):
         staff.of_row("deed 8", "Change")
         assert staff.fill("change", donor="E. Müller").push("Put the deed")["sure"] == ["Replace deed 8?", stands, then]
         who = staff.texts("#sure > p:not(.choices)")
-        assert who == ["By Ada Archivist. Reason: a letter of today"], "a question names neither who asks nor why"
+        assert who == ["By “Ada Archivist”. Reason: “a letter of today”"], "a question names neither who asks nor why"
         shown = staff.answer(is_agreed)
         assert (shown["result"], shown["rows"][1][1], len(staff.door.sent())) == ([said], donor, is_agreed)
 
@@ -126,7 +126,7 @@ def test_key_is_put_given_away_and_dropped(museum, staff):
 
 def test_key_says_who_put_it_when_and_why_as_the_journal_has_it(staff):
     key, at = f"/badges/{digest(b'hello')}", moment(START + 0.5).replace("T", " ")
-    by = f"This key was put {at} by Ada: a letter; in its place before: {NOT.replace('not', 'nothing', 1)}"
+    by = f"This key was put {at} by “Ada”: “a letter”; in its place before: {NOT.replace('not', 'nothing', 1)}"
     for later, words in [((), by), (("200", "PUT", '{"audience":"staff"}'), NOT), (("200", "DELETE", ""), NOT),
                          (("404", "DELETE", ""), by), (("502", "DELETE", ""), by), (("502", "PUT", "["), by),
                          (("200", "PUT", '{"audience":"room"}'), by)]:

@@ -227,7 +227,7 @@ def test_timeline_has_the_next_change_first_and_says_what_is_other_on_each_day(m
         assert (heading, public) == (due, words)
         assert more == [f"What is other than today, {TODAY}", *turns]
     put = journal_lines(1, 1781078400, "200", "PUT", "/deeds/9/rules/4", "Ada", "a%20letter")
-    says = ". Since then it has: Put rule 4 of deed 9, 2026-06-10 08:00:00+00:00 by Ada: a letter"
+    says = ". Since then it has: Put rule 4 of deed 9, 2026-06-10 08:00:00+00:00 by “Ada”: “a letter”"
     for lines, words in [({"/journal": put}, f", the journal says{says}"), ({}, " is not known: there is no journal")]:
         staff.door.journals = lines
         staff.fill("timeline", day="2026-06-09").push("Look at this day")
