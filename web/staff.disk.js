@@ -20,7 +20,8 @@ import { noteOf, titleOf } from "./titles.js";
 // How many changes of the journal are shown at most.
 const MOST_CHANGES = 20;
 const DAYS = `A day of a rule begins at midnight by the desk's clock, whose zone (ZONE in the file places) this page \
-cannot see. A change holds from the moment at which it is put, not before, whatever its days.`;
+cannot see. A change holds from the moment at which it is put, not before, whatever its days. \
+A name behind a slot is that of the disk as it was when the desk was asked.`;
 
 // The disk that is shown: its survey, who put it and its rules, its files with their verdicts, and their names; where.
 let shown = null;

@@ -61,16 +61,16 @@ function found({ accession: { value: number }, deed, words, day, checks }) {
     [text, `with \u201c${text}\u201d in the name or the reason`, (change) => change.search.includes(text)],
     [day.value, `of ${day.value}`, (change) => change.moment.startsWith(day.value)],
     [!checks.checked, "without checks of disks", (change) => change.isCheck !== true],
+    [disk.names, `with the names of files as disk ${number} had them when the page asked for it`, () => true],
   ].filter(([value]) => value);
   const shown = changes.filter((change) => holds.every(([, , isFound]) => isFound(change)));
   const which = [`${counted(shown.length, "change")} of these`, ...holds.map((one) => one[1])].join(", ");
   return { shown, which };
 }
 
-// The names of the files of a disk, by their slots; where they were not read, where they are to be had.
-const namesFor = ({ accession }, { names }, where = "named on the page of disk") =>
-  names ?? (accession && { get: () => `${where} ${accession}` });
-const ELSEWHERE = "this table does not have its name: the one saved on the staff's page does, of who gets what of disk";
+// The names of the files of a disk, by their slots; where they were not read, whose file is meant.
+const namesFor = ({ accession }, { names }) =>
+  names ?? (accession && { get: () => `that of disk ${accession}, if there is one` });
 
 // The row of a change; `of` is the disk for which it is shown, if any.
 export function changeRow(change, of) {
@@ -160,7 +160,7 @@ const HEADS = ["moment", "name", "reason", "of", "what", "outcome", "method", "p
 
 function savedRecord(change) {
   const { moment, name, reason, method, path, status, body } = change;
-  const words = [ofWords(change), changeWords(change, namesFor(change, disk, ELSEWHERE)), outcomeWords(change)];
+  const words = [ofWords(change), changeWords(change, namesFor(change, disk)), outcomeWords(change)];
   return [moment, name, reason, ...words, method, path, status, body];
 }
 

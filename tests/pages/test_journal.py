@@ -12,7 +12,7 @@ START, PIECE = 1_800_000_000, 4 << 20
 KEY, HARM = digest(b"room 3"), HARMFUL[2]
 RULE = '{"audiences":["room","public"],"select":{"slot":2},"effect":"deny","until":"2030-01-01"}'
 HIDDEN = "the file at slot 2 closed to the public and the reading room, until 2030-01-01"
-ELSEWHERE = HIDDEN.replace(" closed", " (named on the page of disk 99) closed")
+ELSEWHERE = HIDDEN.replace(" closed", " (that of disk 99, if there is one) closed")
 MAY_REPLACE = "they may say that a change replaced something."
 UNKNOWN, NOT_THERE = "nobody knows whether the desk did it", "refused: that cannot be done there"
 DEED = "/deeds/7", "Ada%20M%C3%BCller", "a%20letter%20of%203%20May", '{"donor":"A. <b>C</b>","signed":"2019-05-04"}'
@@ -84,8 +84,7 @@ def test_what_is_looked_for_is_found_and_saved_without_a_formula(staff):
     staff.fill("journal", accession="", checks=False).read()
     assert not is_said_saved(staff), "a file speaks for what is shown since"
     _, *records = saved_table(staff, f"journal-10-of-11-changes-back-to-{moment(START)[:10]}-asked")
-    named = "(this table does not have its name: the one saved on the staff's page does, of who gets what of disk 99)"
-    assert named in str(records) and "named on the page" not in str(records), "a table that leads to a page"
+    assert ELSEWHERE in str(records), "a file that may not be there is told as one that is"
 
 def test_no_change_of_an_earlier_reading_is_shown_while_the_journal_is_read_anew(staff):
     is_seen, _ = threading.Event(), read(staff, JOURNAL)
@@ -108,6 +107,8 @@ def test_journal_of_a_disk_has_the_changes_of_its_deed_and_the_names_of_files(st
     assert [row[5:7] for row in rows[1:]] == [["disk 1002", words[0]], ["deed 9, the deed of disk 1002", words[1]]]
     holds = "Here: 3 changes of these, of disk 1002 and of its deed 9, which decides about it too, without checks"
     assert holds in rows[0][1], "a saved journal says not which lines it has"
+    names = " of disks, with the names of files as disk 1002 had them when the page asked for it."
+    assert names in rows[0][1] and shown["stands"][1].endswith(names), "a name of today is told as one of that time"
     day, hour = moment(START - 7200)[:19].split("T")
     assert f"{day} {hour}" in rows[0][1] and rows[2][2][:16] == f"{day} {hour[:5]}" and rows[2][2].endswith(" UTC")
     assert "+0" not in str(rows), "two zones in one file"
