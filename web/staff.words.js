@@ -109,7 +109,7 @@ export const isOver = ({ until }) => Boolean(until) && until <= told.day;
 function daysNow(rule) {
   const words = daysWords(rule);
   if (isOnNoDay(rule) || told.day === "") return words;
-  if (isOver(rule)) return words.replace("until", "ended on");
+  if (isOver(rule)) return `${words}, over`;
   return rule.from > told.day ? `not begun: ${words}` : words;
 }
 

@@ -57,7 +57,7 @@ def test_rule_is_put_changed_and_dropped(staff):
 
 def test_rule_that_is_over_or_has_not_begun_is_marked_where_it_stands(museum, staff):
     days = [(None, TODAY), ("2020-01-01", "2026-06-15"), ("2026-06-16", None), ("2020-01-01", "2026-06-16")]
-    due = [f"ended on {TODAY}", f"from 2020-01-01, ended on {TODAY}", "not begun: from 2026-06-16",
+    due = [f"until {TODAY}, over", f"from 2020-01-01, until {TODAY}, over", "not begun: from 2026-06-16",
            "from 2020-01-01, until 2026-06-16"]
     museum.rules["R9"] = {rank: museums.rule(rank, "deny", ["public"], None, *of) for rank, of in enumerate(days, 1)}
     for place, at in (("rules/9", 5), ("disk/1002", 4)):

@@ -143,7 +143,7 @@ def test_rules_stand_without_marks_where_the_desk_does_not_tell_its_day(museum, 
     deny = lambda *of: {1: museums.rule(1, "deny", ["public"], {"slot": 2}, *of)}
     museum.rules["R8"], museum.rules["T1002"] = (deny(*of) for of in days)
     begins, ends = "from 2027-01-01", "until 2026-01-01"
-    for words, reply in ((f"not begun: {begins}", "ended on 2026-01-01"), None), ((begins, ends), b""):
+    for words, reply in ((f"not begun: {begins}", "until 2026-01-01, over"), None), ((begins, ends), b""):
         staff.door.before = lambda _, path: reply if path == place else None
         for view, due in zip(("rules/8", "takedowns/1002"), words):
             shown = staff.go(view)
@@ -236,7 +236,7 @@ def test_timeline_has_the_next_change_first_and_says_what_is_other_on_each_day(m
     museum.rules["R9"][6] = museums.rule(6, "deny", ["public"], {"slot": 1}, None, "2025-07-01")
     staff.set("#timeline [type=range]", int(staff.one("#timeline [type=range]").get_property("min")))
     staff.read(lambda state: state["result"] == ["Read: 2025-06-15."])
-    ended = "the file at slot 1 closed to the public, ended on 2025-07-01"
+    ended = "the file at slot 1 closed to the public, until 2025-07-01, over"
     assert staff.go("timeline")["rows"][-1][:3] == ["rule 6 of deed 9", ended, "none"]
     staff.push("Look at")
     heading, _, _, _, since, other, closes, *_ = staff.texts("#timeline .day > :not(ul)")
