@@ -201,7 +201,7 @@ async function takeDown(records, tools) {
   const not = (one) => !stands(one);
   const said = () => `These stand: ${those(commands.filter(stands))}. These do not: ${those(commands.filter(not))}.`;
   const cells = ({ slot, name, rank }) => [accession, slot, name, rank].map(String);
-  const decide = () => decidedWords(shown.files, commands.filter(stands), shown.asked.day);
+  const decide = () => decidedWords(shown.files, commands.filter(stands), shown.asked);
   const more = { after: (how) => readDisk(accession, how), more: said, decide, of: `disk-${accession}` };
   return putMany("disk", commands, { ...more, heads: ["Disk", "Slot", "File", "Rank"], cells }, tools);
 }

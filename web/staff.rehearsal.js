@@ -3,9 +3,10 @@ import { shownName } from "./names.js";
 import { box, button, counted, element, loaded, part } from "./shared.js";
 import { dated, refusedWork, sure } from "./staff.desk.js";
 import { isFor } from "./staff.forecast.js";
-import { COLUMNS, EFFECT_AT, effectOf, fileOf, given } from "./staff.verdicts.js";
+import { COLUMNS, EFFECT_AT, askedWords, effectOf, fileOf, given } from "./staff.verdicts.js";
 import { readVerdicts, ruleMeaning, verdictsOf } from "./staff.verdicts.js";
-import { AUDIENCES, EFFECTS, SHORT, audienceWords, dayAfter, isOnNoDay, listed, today } from "./staff.words.js";
+import { AUDIENCES, EFFECTS, SHORT, audienceWords, dayAfter, isOnNoDay } from "./staff.words.js";
+import { listed, momentNow, today } from "./staff.words.js";
 import { readTable } from "./stream.js";
 
 const ORDER = ["deny", "list", "read"];
@@ -135,7 +136,7 @@ export function dayParts({ words, groups, past, none }, before) {
 }
 
 // What the desk's verdicts of a day say of the files of takedowns of a disk that were put, and which others decide.
-export function decidedWords(files, commands, day) {
+export function decidedWords(files, commands, asked, { day } = asked) {
   const found = commands.flatMap(({ scope, rank, rule }) => rule.audiences.flatMap((audience) => {
     const wordsOf = (record, label = record[EFFECT_AT[audience] + 1]) => {
       const before = label.startsWith("T") && Number(label.split(".")[1]) < rank ? ", which comes before it" : "";
@@ -146,14 +147,14 @@ export function decidedWords(files, commands, day) {
     return files.filter(isOf).map((record) => wordsOf(record));
   }));
   const counts = [...Map.groupBy(found, (words) => words)];
-  const words = listed(counts.map(([text, { length }]) => `${counted(length, "file")} ${text}`));
-  return `What the desk's verdicts on ${day} say of the files that are meant: ${words || "there is none"}.`;
+  const words = listed(counts.map(([text, { length }]) => `${counted(length, "file")} ${text}`)) || "there is none";
+  return `What the desk's verdicts on ${day} say of the files that are meant: ${words}. ${askedWords(asked)}`;
 }
 
 // The same, once the desk is asked.
-export const decidedNow = (commands, tools) => Promise.resolve()
+export const decidedNow = (commands, tools, moment = momentNow()) => Promise.resolve()
   .then(() => verdictsOf({ accession: commands[0].scope }, today(), tools))
-  .then((files) => decidedWords(files, commands, today()))
+  .then((files) => decidedWords(files, commands, { day: today(), moment }))
   .catch(() => "The page could not ask the desk what readers get of it now.");
 
 // A button that saves who gets what of a disk, as the desk says now, before a question is answered, and what says so:
@@ -178,8 +179,7 @@ export function saveFirst(accession, question) {
 export async function rehearsed({ words, notes, first = [], commands, days, isTakedown, go }, tools) {
   const { found, missing } = await rehearse(commands, days, tools);
   const left = commands.filter((command) => !missing.has(command));
-  const none = [...missing].map((command) => String(command.scope));
-  const said = [...notes];
+  const [said, none] = [[...notes], [...missing].map((command) => String(command.scope))];
   if (none.length) said.push(`There is no disk ${listed(none)}: left out.`);
   const closes = found.some(({ groups }) => groups.some((group) => !group.opens));
   if (isTakedown && !closes) said.push("Mind: it closes nothing on any of these days.");

@@ -175,7 +175,8 @@ def test_files_ticked_by_their_shown_names_are_taken_down_and_what_stands_after_
         assert (shown["result"][0], *disk.script(SEEN)) == ("2 takedowns put, 0 failed.", True, "status")
     assert [row[5] for row in shown["rows"][:3]] == [CLOSED.format(10), LISTS, CLOSED.format(20)]
     says = f"What the desk's verdicts on {TODAY} say of the files that are meant: 2 files closed to the public"
-    assert f"{says} and 2 files closed to the reading room." in shown["result"]
+    asked = f"{says} and 2 files closed to the reading room. The desk was asked on {TODAY} at 12:"
+    assert [one for one in shown["result"] if one.startswith(asked) and one.endswith(" UTC.")], "nobody knows when"
     assert "Save the report" not in str(disk.go("disk/1003")["result"]) and disk.go("keys") and disk.go("disk/1002")
     due = [["1002", slot, name, rank, f"the file at slot {slot} {ALWAYS}", "done"] for name, rank, slot in rules]
     heads, *rows = saved_table(disk, "disk-1002-report-of", "Save the report")
@@ -183,7 +184,7 @@ def test_files_ticked_by_their_shown_names_are_taken_down_and_what_stands_after_
     assert "desk-visits.log on the museum's machine says for 14" in rows[0][1], "who fetched them before is not said"
     assert heads[1].endswith("by the desk's clock, in its zone)"), "in nobody's zone"
     words = "slot (the file's place on its disk, counted from 0)", "rank (a place in the order of rules, lowest first)"
-    assert (heads[3], heads[5]) == words and f"(OPERATING, Logs). {says} and 2" in rows[0][1]
+    assert (heads[3], heads[5]) == words and f"(OPERATING, Logs). {asked}" in rows[0][1]
 
 def test_coming_back_shows_the_disk_that_was_looked_at_asked_anew(museum, disk):
     museum.rules["T1002"] = takedown(1000, 2)

@@ -10,6 +10,7 @@ from support.browser import LIMIT, TODAY
 
 BOTH = ("public", "room")
 HIDDEN = "the file at slot {} closed to the public and the reading room, until further notice."
+ASKED = f"The desk was asked on {TODAY} at 12:"
 PLACE = "Rank {} gives its place in the order: number {} of disk {}."
 NOW, NOTHING = f"Today, {TODAY}", "Nothing opens, and nothing closes."
 SHUT = "see only that closed files are there, not their names"
@@ -68,11 +69,11 @@ def test_what_is_said_after_a_takedown_is_what_the_desk_says_and_names_what_stil
     assert shown["hint"].endswith(mind), "it does not say which, or names one that is over"
     says = f"What the desk's verdicts on {TODAY} say of the files that are meant: "
     by = "1 file only listed for the reading room (takedown 5 of disk 1005, which comes before it)"
-    assert takedowns.answer(True)["result"][1] == f"{says}1 file closed to the public and {by}."
+    assert takedowns.answer(True)["result"][1].startswith(f"{says}1 file closed to the public and {by}. {ASKED}")
     assert takedowns.take_down("1005", "21", "2", "room", start="2026-06-16") and takedowns.answer(True)
     assert takedowns.take_down("1005", "30", "1", "public", start="2026-06-16")
-    later = f"{says}1 file only listed for the public (rule 20 of deed 7)."
-    assert takedowns.answer(True)["result"][1] == later, "as if it held before its first day"
+    later = f"{says}1 file only listed for the public (rule 20 of deed 7). {ASKED}"
+    assert takedowns.answer(True)["result"][1].startswith(later), "as if it held before its first day"
     takedowns.take_down("1005", "40", "0", "room")
     takedowns.door.before = lambda method, path: b"" if "/verdicts/" in path else None
     lost = "The page could not ask the desk what readers get of it now."
