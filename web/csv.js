@@ -51,10 +51,10 @@ export function recordsOf(text) {
   return reader.rest === "" ? records.filter((record) => record.length > 1 || record[0] !== "") : null;
 }
 
-// A cell that begins like a formula gets an apostrophe in front, which a spreadsheet shows as text.
+// A cell that begins like a formula, or so behind apostrophes, gets one in front, which a spreadsheet shows as text.
 function written(value) {
   const text = String(value ?? "");
-  const harmless = /^[=+\-@\t\r]/.test(text) ? `'${text}` : text;
+  const harmless = /^'*[=+\-@\t\r]/.test(text) ? `'${text}` : text;
   return /[",\r\n]/.test(harmless) ? `"${harmless.replaceAll('"', '""')}"` : harmless;
 }
 

@@ -5,9 +5,9 @@ import { csvText, explainedHead } from "./csv.js";
 import { element, part } from "./shared.js";
 import { inParts, save } from "./stream.js";
 
-const CLOCKS = `this table (moments: in UTC; days of the journal: by the museum's machine; days of rules and of \
-asking: by the desk's clock, in its zone)`;
-
+const CLOCKS = `this table (an apostrophe at the beginning of a cell, before =, +, - or @, is not part of its text; \
+moments: in UTC; days of the journal: by the museum's machine; days of rules and of asking: by the desk's clock, in \
+its zone)`;
 // Columns of what people typed or sent, which stays as it is; in all others each moment is in UTC.
 const TYPED = ["name", "reason", "path", "body"];
 const MOMENT = /[0-9]{4}(?:-[0-9]{2}){2}[T ](?:[0-9]{2}:){2}[0-9]{2}[+-][0-9]{2}:[0-9]{2}/g;

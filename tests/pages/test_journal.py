@@ -22,8 +22,8 @@ BAD_BODY = "refused: the desk could not read it, or a value was beyond its limit
 CHANGES = [("200", ("PUT", *DEED), "Ada Müller|Put deed 7: “A. <b>C</b>”, signed on 2019-05-04|done|a letter of 3 May"),
     ("200", ("PUT", "/deeds/7/rules/20", "", "", RULE), f"|Put rule 20 of deed 7: {HIDDEN}|done|"),
     ("200", ("DELETE", "/deeds/7/rules/20?x=y", "bob"), f"bob|Drop rule 20 of deed 7, which said: {HIDDEN}|done|"),
-    ("200", ("PUT", f"/accessions/1002/d64/9/{KEY}", "=1+1", "100%"),
-     f"=1+1|Put disk 1002, Commodore 1541, under deed 9, SHA-256 {KEY}|done|100%"),
+    ("200", ("PUT", f"/accessions/1002/d64/9/{KEY}", "'=1+1", "100%"),
+     f"'=1+1|Put disk 1002, Commodore 1541, under deed 9, SHA-256 {KEY}|done|100%"),
     ("404", ("PUT", "/images/99/rules/9", "bob", "", RULE), f"bob|Put takedown 9 of disk 99: {ELSEWHERE}|{NO_DISK}|"),
     ("200", ("POST", "/images/1002/check"), "|Check disk 1002|done|"),
     ("502", ("PUT", f"/badges/{KEY}", "bob", "", '{"audience":"room"}'),
@@ -78,7 +78,7 @@ def test_what_is_looked_for_is_found_and_saved_without_a_formula(staff):
     heads, *records = saved_table(staff, f"journal-of-disk-1002-3-of-11-changes-back-to-{moment(START)[:10]}-asked")
     assert heads[2:] == ["moment", "name", "reason", "of", "what", "outcome", "method", "path", "status", "body"]
     what, path = rows_of(3)[0][2], CHANGES[3][1][1]
-    assert (len(records), records[2][3:]) == (3, ["'=1+1", "100%", "disk 1002", what, "done", "PUT", path, "200", ""])
+    assert (len(records), records[2][3:]) == (3, ["''=1+1", "100%", "disk 1002", what, "done", "PUT", path, "200", ""])
     due = f" UTC: 11 changes read, from {time_of(0)} UTC to {time_of(10)} UTC; older lines, if any"
     assert f"The journal, read at {TODAY} 12:{records[0][1][35:40]}{due}" in records[0][1], "saved without its hour"
     staff.fill("journal", accession="", checks=False).read()

@@ -185,6 +185,7 @@ def test_files_ticked_by_their_shown_names_are_taken_down_and_what_stands_after_
     assert heads[1].endswith("by the desk's clock, in its zone)"), "in nobody's zone"
     words = "slot (the file's place on its disk, counted from 0)", "rank (a place in the order of rules, lowest first)"
     assert (heads[3], heads[5]) == words and f"(OPERATING, Logs). {asked}" in rows[0][1]
+    assert "(an apostrophe at the beginning of a cell, before =, +, - or @, is not part of its text; mom" in heads[1]
 
 def test_coming_back_shows_the_disk_that_was_looked_at_asked_anew(museum, disk):
     museum.rules["T1002"] = takedown(1000, 2)
