@@ -68,8 +68,8 @@ export async function originsOf(things, tools, { files = [], day } = {}) {
 }
 
 export const SINCE = `In the journal since: so far back it has nothing by which these readers could do anything else \
-with the file, as the page reckons from all changes and days of the rules. A rule that was put counts as new where no \
-line says what stood there before.`;
+with the file, as the page reckons from the changes that it read and the days of the rules. A rule that was put counts \
+as new where no line says what stood there before.`;
 
 // Whether a change is of the takedowns of a disk or of the rules of its deed.
 function isOfDisk(disk, [, , accession, , deed] = disk.place.split("/")) {

@@ -57,6 +57,7 @@ def test_disk_says_what_it_is_and_who_gets_what_by_which_rule(museum, disk):
         [TODAY, "the public", SHUT, "T1002.1000", said, in_utc(NOT), *file],
         [TODAY, "the staff", "read it", "R9.20", f"all files readable for {ALL}", in_utc(BY + NOTHING), *file]]
     assert "A name behind a slot is that of the disk as it was when the desk was asked." in rows[0][1]
+    assert "as the page reckons from the changes that it read and the days" in rows[0][1], "as if it had read all"
     assert f"{in_utc(NOT)}; its SHA-256: not known from the journal: the store has it" in rows[0][1]
     disk.door.journals["/journal"] += journal_lines(2, START - 9, "200", "PUT", TAKEN_IN)
     assert disk.go("disk/1002") and not is_said_saved(disk), "a file speaks for what is shown since"
