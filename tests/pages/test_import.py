@@ -6,7 +6,7 @@ import threading
 
 import pytest
 from staff_helpers import lost_at, saved_table
-from support import browser, cbm_image, cpm_image, model_rules, museums, samples
+from support import browser, damaged, model_rules, museums, samples
 from support.browser import TODAY
 from support.model import AUDIENCES
 from support.samples import digest
@@ -168,28 +168,18 @@ Promise.all([import("/dump.js"), import("/staff.forecast.js"), fetch("/drawn.dum
   const texts = (one) => [one.slot, one.user ?? "", one.name, one.type, one.faults.join(" "), one.isServed].map(String);
   done([files.map(texts), all.forecast(files, rules, day)]);
 });"""
-BASES = {"d64": [HELLO, MUSEUM, samples.LOOP_DISK], "d64e": [MARKED, samples.bytes_of("images", "damaged.d64")],
-         "cpm8": [RECORD, WELCOME, samples.LONG_DISK, samples.bytes_of("images", "damaged.img")]}
 READ, DAYS = ("slot", "user", "name", "type", "faults"), [None, TODAY, "2026-06-16"]
 SELECTS = [{"all": True}, {"slot": 0}, {"slot": 2}, {"prefix": "W"}, {"prefix": "HE"}, {"user": 0}, {"type": "PRG"}]
-
-def drawn_dump(one, kind):
-    """A dump of which some bytes of the directory, of links and of error bytes are others."""
-    image, start = bytearray(one(BASES[kind])), cpm_image.slot_place(0) if kind == "cpm8" else cbm_image.place(18, 1)
-    for _ in range(one([0, 1, 3, 12])):
-        links = [] if kind == "cpm8" else [256 * one(range(683)) + one([0, 1]), -1 - one(range(683))]
-        image[one([start + one(range(96)), *links])] = one([0, 1, 2, 16, 17, 18, 128, 130, 132, one(range(256))])
-    return bytes(image)
 
 @pytest.mark.parametrize("count", [20, pytest.param(500, marks=[pytest.mark.long, pytest.mark.timeout(1800)])])
 def test_page_reads_and_foretells_of_a_dump_what_the_desk_says_of_the_disk(museum, staff, tmp_path, count):
     random_ = random.Random(count)
     one, effects = random_.choice, ["deny", "list", "read"]
-    for number, kind in itertools.product(range(count), BASES):
+    for number, kind in itertools.product(range(count), damaged.BASES):
         audiences = [random_.sample(AUDIENCES, one([1, 2, 3])) for _ in range(one(range(6)))]
         rules = [museums.rule(rank, one(effects), some, one(SELECTS), one(DAYS), one(DAYS))
                  for rank, some in enumerate(audiences)]
-        museums.put(museum, 5000, kind, 9, drawn_dump(one, kind))
+        museums.put(museum, 5000, kind, 9, damaged.drawn(one, kind))
         (tmp_path / "drawn.dump").write_bytes(museum.images[5000].bytes)
         files, given = museum.files_of(5000), {word: [] for word in AUDIENCES}
         for word, file in itertools.product(AUDIENCES, files):
