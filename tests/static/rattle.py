@@ -52,9 +52,12 @@ def proofs_of(crate):
     return [(folder, [part.removeprefix("+") for part in folder.split("/")]) for folder in folders]
 
 def proof_folders(path, name):
-    """Those of a function of a file in src/: below that of the file, or of a type whose methods it has."""
+    """Those of a function of a file in src/: below that of the file, or of a type whose methods it has; of `Type::name`
+    those of this type."""
+    owner, _, name = name.rpartition("::")
     module, types = path[:-3].replace("/src/", "/proofs/"), re.findall(r"(?m)^impl(?:<[^>]*>)? (\w+)", text_of(path))
     found = [(folder, parts[:-1]) for folder, parts in proofs_of(parts_of(path)[0]) if parts[-1] == name]
+    found = [(folder, parts) for folder, parts in found if any(part.startswith(owner) for part in parts)]
     return [folder for folder, parts in found if folder.startswith(f"{module}/") or {*types} & {*parts}]
 
 def pairs_of(path):
