@@ -7,9 +7,10 @@ import re
 
 ROOT = pathlib.Path(__file__).parents[2]
 CRATES = ROOT / "crates"
-# What begins a function, or a constant that stands in none.
+# What begins a function, or a constant that stands in none; and what a definition in specs/.
 PUBLIC = r"(?:pub(?:\([^)]*\))? )?"
 HEAD = rf"(?: *{PUBLIC}(?:const |unsafe |final )*(fn)|{PUBLIC}(?:const|static)) (\w+)"
+DEFINITION = r"(?: *(?:abbrev|unfoldable) pub| *pub (?:record|data)|pub) ([^\s:]+)(?=[ :])"
 EDIT = re.compile(r"(?:test: .*\n)?(?:file: .*\n(?:old: .*\nnew:.*\n)+)+")
 # A clause: what it belongs to (none where the name is that of a function), its name and its file.
 Clause = collections.namedtuple("Clause", "owner name path")
@@ -29,12 +30,12 @@ def parts_of(path):
     return found.groups() if found else ("", "", "")
 
 @functools.cache
-def items(path):
-    """The functions and constants of a file by their names: the texts from each head with the name to the next one."""
+def items(path, begin=HEAD):
+    """The functions and constants of a file, or its definitions, by name: the texts from each head to the next one."""
     found, name = collections.defaultdict(str), ""
     for line in lines_of(path):
-        head = re.match(HEAD, line)
-        name = head[2] if head else name
+        head = re.match(begin, line)
+        name = head[head.lastindex] if head else name
         found[name] += f"{line}\n"
     return dict(found)
 
@@ -100,6 +101,23 @@ def clause_text(clause):
 def has_definition(path, name):
     """Whether specs have a definition of this name, or a record with this field (`NAME.FIELD`)."""
     owner, _, field = name.rpartition(".")
-    head = rf"(?m)^(?: *(?:abbrev|unfoldable) pub| *pub (?:record|data)|pub) {re.escape(name)}(?=[ :])"
-    return bool(clause_text(Clause(owner, field, path)) if owner else re.search(head, text_of(path)))
+    return bool(clause_text(Clause(owner, field, path)) if owner else name in items(path, DEFINITION))
 
+@functools.cache
+def cites(path, text):
+    """The definitions of specs/ that a text of a file cites, each a path and a name."""
+    meant = {name: (path, name) for name in items(path, DEFINITION)}
+    for module, names, known in re.findall(r"use Rattle\.([\w.]+)(?:\.\{(.*)\}| as (\w+))", text_of(path)):
+        file = f"crates/{module.replace('.', '/')}.antt"
+        for name, other in re.findall(r"(\w+)(?: as (\w+))?", names or " ".join(items(file, DEFINITION))):
+            meant[f"{known}.{name}" if known else other or name] = (file, name)
+    return {meant[word] for word in re.findall(r"\w+\.\w+|\w+", re.sub("--.*", "", text)) if word in meant}
+
+def cited(path, name):
+    """Those that the contract of a function or an invariant of its file cites, directly or through others."""
+    text = rf"(?m)^ *{PUBLIC}(?:const |unsafe |final )*fn {name}\b(?:.*\n)+?(?= *\{{|.*;$)|^ *ghost (?!use).*"
+    found, due = set(), cites(path, "".join(re.findall(text, text_of(path))))
+    while due - found:
+        more = {one for file, own in due - found for one in cites(file, items(file, DEFINITION).get(own, own))}
+        found, due = found | due, more
+    return found

@@ -74,6 +74,13 @@ def test_wrong_bodies_change_what_the_rule_names():
             coded = {name.rpartition("::")[2] for coded, name in record.named("coded") if coded == file}
             assert not is_found or rattle.item_at(file, before.count("\n"))[1] in coded, f"{record}: {file}"
 
+def test_contracts_cite_what_is_defined():
+    for record in records.of_kind("rule"):
+        cited = {one for path, name in record.named("coded") for one in rattle.cited(path, name.rpartition("::")[2])}
+        told = "".join(note for note in record.texts("note") if note.startswith("Its definition is cited by"))
+        places = [(path, name.partition(".")[0]) for path, name in record.named("defined")]
+        assert not [place for place in places if place not in cited and f"`{place[1]}`" not in told], str(record)
+
 def test_each_refusal_fault_and_limit_has_a_rule():
     """A rule begins with the name of a refusal or of a fault, or names the constant of a limit."""
     titles = {re.split("[:,]", record.title.lower())[0] for record in records.of_kind("rule")}
