@@ -93,8 +93,7 @@ function cpmDisk(bytes) {
     const extents = entries.map(extentOf);
     const reached = entries.flatMap((entry) => Array.from(entry.subarray(16, 16 + Math.ceil(entry[15] / 8))));
     file.faults = faultsOf({
-      "bad-count": entries.some((entry) => entry[15] > 128),
-      duplicate: new Set(extents).size < extents.length,
+      "bad-count": entries.some((entry) => entry[15] > 128), duplicate: new Set(extents).size < extents.length,
       gap: extents.some((one) => one && !extents.includes(one - 1)),
       short: entries.some((entry, at) => entry[15] < 128 && extents[at] < extents.at(-1)),
       hole: reached.includes(0),

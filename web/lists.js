@@ -1,10 +1,9 @@
-// Long lists: a table whose rows are drawn as far as they are seen. They stand in blocks. Blocks that are far from the
-// screen and stand one after the other are a gap: one empty row as high as they all.
+// Long lists: tables whose rows are drawn, in blocks, as far as they are seen. Those far from the screen are a gap: one
+// empty row as high as they are.
 import { shownName } from "./names.js";
 import { box, cell, element, grouped, table } from "./shared.js";
 
-// Up to how many rows a table is drawn whole, and how many a block has; in pixels, how far from the screen blocks are
-// drawn, and how high a row is before one was measured.
+// How many rows a table has whole, and a block; in pixels, how far from the screen rows are drawn, and how high one is.
 const [WHOLE, BLOCK, NEAR, ROW] = [50, 20, 1200, 40];
 
 // While the page is printed, all rows of each table that is shown are drawn.
@@ -96,6 +95,7 @@ export function listTable(caption, columns, items, rowOf) {
     return first === second ? 0 : chosen.turn * (first < second ? -1 : 1);
   };
   const draw = () => {
+    chosen.words = filter.value.toLowerCase();
     const found = chosen.words ? items.filter(isFound) : items;
     const shown = chosen.column ? found.toSorted(order) : found;
     count.textContent = `${grouped(shown.length)} of ${grouped(items.length)} shown`;
@@ -117,10 +117,7 @@ export function listTable(caption, columns, items, rowOf) {
     head.replaceChildren(button);
   };
   choices.set(caption, chosen);
-  filter.addEventListener("input", () => {
-    chosen.words = filter.value.toLowerCase();
-    draw();
-  });
+  filter.addEventListener("input", draw);
   draw();
   return made;
 }

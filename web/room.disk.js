@@ -15,13 +15,10 @@ function fileRow(kind, accession, file, hasUsers) {
   const may = box("span", "", badge);
   if (why) may.append(" ", element("small", why));
   const type = box("span", "", file.type, " ", element("small", typeWords(kind, file)));
-  return row([
-    cell("Name", way(name), "name"),
-    cell("Type", type, "type"),
-    cell("Bytes", file.size === null ? "" : file.size.toLocaleString("en"), "number"),
-    ...(hasUsers ? [cell("User", `user ${file.user}`)] : []),
-    cell("You may", may, "may"),
-  ]);
+  const bytes = cell("Bytes", file.size === null ? "" : file.size.toLocaleString("en"), "number");
+  const user = hasUsers ? [cell("User", `user ${file.user}`)] : [];
+  const said = cell("You may", may, "may");
+  return row([cell("Name", way(name), "name"), cell("Type", type, "type"), bytes, ...user, said]);
 }
 
 // A button that makes the zip, with how far it is and a button that stops it.

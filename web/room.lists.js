@@ -109,8 +109,7 @@ export async function listingOf(accession, signal) {
   return { ...listing, files };
 }
 
-// Words to look for, each in its spellings, and these as their pieces between stars. Little words count only alone, and
-// the s of a plural not at all.
+// Words to look for, in their spellings, as pieces between stars. Little ones count only alone, a plural's s never.
 const PLURAL = /(?<=[a-z]{2}[a-hj-rtv-z])s$/i;
 const LITTLE = /^(an?|and|at|by|for|from|in|of|on|or|the|to|with)$/i;
 export function wordsOf(typed = "") {

@@ -8,9 +8,7 @@ import { titleOf } from "./titles.js";
 export const link = (words, place, fields = {}) => element("a", words, { href: `#/${place}`, ...fields });
 
 // Ways to go, under a name.
-export function ways(label, className, ...inside) {
-  return Object.assign(box("nav", className, ...inside), { ariaLabel: label });
-}
+export const ways = (ariaLabel, look, ...inside) => Object.assign(box("nav", look, ...inside), { ariaLabel });
 
 const UNSERVED = {
   DEL: "a dividing line of the directory, which has no bytes to read",

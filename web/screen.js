@@ -5,8 +5,7 @@ import { mayRead } from "./room.lists.js";
 import { element, listOf } from "./shared.js";
 import { SIGNS, asciiPlace, petsciiPlace } from "./signs.js";
 
-// The sixteen colours of the C64, as they look on a monitor; then a terminal's: its glass, and bright and dim letters,
-// each with the darker line between two rows of dots.
+// The colours of the C64; then a terminal's: its glass, bright and dim letters, each with the line between two rows.
 const INKS = (
   "000000 ffffff 813338 75cec8 8e3c97 56ac4d 2e2c9b edf171 8e5029 553800 c46c71 4a4a4a 7b7b7b a9ff9f 706deb b2b2b2 " +
   "07150d 6dffa0 3fae6c 3d8f5f 24603e"

@@ -15,14 +15,8 @@ const REFUSALS = {
   "no-deed": ["There is no such deed.", "Check its number, or put the deed first."],
   denied: ["You may not read this file.", "Ask the staff, who know why."],
   "listed-only": ["The desk only lists files of this kind.", "Ask the staff, who have the whole disk."],
-  faulty: [
-    "This file is damaged on the disk, so the desk does not give it out.",
-    "Ask the staff, who have the whole disk.",
-  ],
-  "wrong-size": [
-    "The image does not have the length of its kind.",
-    "Check that the file is whole, and choose it again.",
-  ],
+  faulty: ["This file is damaged, so the desk does not give it out.", "Ask the staff, who have the whole disk."],
+  "wrong-size": ["The image does not have the length of its kind.", "Check that the file is whole. Choose it again."],
   "digest-differs": ["The desk received other bytes than you sent.", "Send them again."],
   conflict: [
     "This accession has another disk, or this disk under another deed or kind; or no key of the staff would be left.",
@@ -57,15 +51,10 @@ const STATUSES = {
 const OTHERS = ["The desk refuses that.", "Load this page again."];
 
 const FAULTS = {
-  "bad-count": "an entry counts more records than it can hold",
-  duplicate: "two entries are the same part of it",
-  gap: "a part of it is missing",
-  short: "a part of it ends early",
-  hole: "a block of it is missing",
-  "off-disk": "it leads off the disk",
-  crossed: "it shares a block with something else",
-  "not-closed": "it was never closed",
-  loop: "its blocks lead back into themselves",
+  "bad-count": "an entry counts more records than it can hold", duplicate: "two entries are the same part of it",
+  gap: "a part of it is missing", short: "a part of it ends early", hole: "a block of it is missing",
+  "off-disk": "it leads off the disk", crossed: "it shares a block with something else",
+  "not-closed": "it was never closed", loop: "its blocks lead back into themselves",
   "read-error": "the drive could not read a block of it",
 };
 
@@ -100,8 +89,7 @@ export function useNow(given) {
 export class Refused extends Error {
   constructor(status, said) {
     super(said.error);
-    this.status = status;
-    this.said = said;
+    Object.assign(this, { status, said });
   }
 }
 
@@ -173,11 +161,7 @@ const wordsFor = (fault) => {
 };
 
 // What is loaded, of the page or from the desk. What does not come whole is a lost connection.
-export function loaded(coming) {
-  return coming.catch(() => {
-    throw new Refused(0, {});
-  });
-}
+export const loaded = (coming) => coming.catch(() => Promise.reject(new Refused(0, {})));
 
 // The desk's own name of a refusal, or none.
 export function refusalName(fault) {

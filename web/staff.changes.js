@@ -71,14 +71,10 @@ export const changeWords = (change, names, found = wayOf(change)) =>
   found ? found.words(change, found.groups, names) : `${change.method} ${short(change.path)}`;
 
 const REFUSED = {
-  400: "the desk could not read it, or a value was beyond its limits",
-  401: "the desk did not know the key",
-  403: "the key was not one of the staff",
-  404: "there was no such disk, deed or address",
-  405: "that cannot be done there",
-  409: "it did not fit what stood, or it was the last key of the staff",
-  413: "it was longer than the desk takes",
-  422: "the bytes were not those that it named",
+  400: "the desk could not read it, or a value was beyond its limits", 401: "the desk did not know the key",
+  403: "the key was not one of the staff", 404: "there was no such disk, deed or address",
+  405: "that cannot be done there", 409: "it did not fit what stood, or it was the last key of the staff",
+  413: "it was longer than the desk takes", 422: "the bytes were not those that it named",
 };
 export const UNKNOWN = "nobody knows whether the desk did it";
 
@@ -119,8 +115,8 @@ export class AllChanges {
     else if (status !== "begun") Object.assign(known, { moment, at, status: textOf(status) });
   }
 
-  // From the newest on, each with the bodies of what may have stood at its place before: undefined where no line says,
-  // null for nothing; and whether it was put in the place of another one, as the journal has it for sure.
+  // From the newest on, each with the bodies of what may have stood at its place before, undefined where no line says,
+  // null for nothing; and whether it has surely replaced another.
   inOrder() {
     const all = Array.from(this.byId.values()).sort((one, other) => one.at - other.at);
     const stands = new Map();
@@ -137,8 +133,9 @@ export class AllChanges {
 function changeOf({ moment, at, status, method, path, staff, note, body }) {
   const change = { moment, at, status: textOf(status), method: textOf(method), path: textOf(path), body: textOf(body) };
   const [name, reason] = [typed(textOf(staff)), typed(textOf(note))];
-  const { accession, deed, check } = wayOf(change)?.groups ?? {};
+  const { accession, deed, check, digest } = wayOf(change)?.groups ?? {};
   const place = change.path.split("?")[0].toLowerCase().replace(/^(\/accessions\/.*)\/[0-9a-f]{64}$/, "$1");
   const search = `${name}\n${reason}`.toLowerCase();
-  return { ...change, place, name, reason, search, accession, deed, isCheck: check !== undefined };
+  const more = { accession, deed, digest: digest?.toLowerCase(), isCheck: check !== undefined };
+  return { ...change, place, name, reason, search, ...more };
 }

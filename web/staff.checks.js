@@ -70,12 +70,10 @@ function foundOf(checks, begin, rest) {
 }
 
 function checkRow({ accession, day, outcome }) {
-  return row([
-    diskCell(accession),
-    cell("Checked on", day ?? "never", "day"),
-    cell("Outcome", outcome ?? "", outcome === "changed" ? "warning" : ""),
-    buttonsCell(`disk ${accession}`, { Check: () => change("checks", () => checked(accession, "checks")) }),
-  ]);
+  const found = cell("Outcome", outcome ?? "", outcome === "changed" ? "warning" : "");
+  const press = () => change("checks", () => checked(accession, "checks"));
+  const buttons = buttonsCell(`disk ${accession}`, { Check: press });
+  return row([diskCell(accession), cell("Checked on", day ?? "never", "day"), found, buttons]);
 }
 
 // What the latest check of a disk has found.

@@ -38,14 +38,10 @@ function rulesCell({ deed, rules }) {
 }
 
 function deedRow(one) {
-  return row([
-    cell("Deed", String(one.deed), "number"),
-    cell("Donor", one.donor, "words"),
-    cell("Signed on", one.signed, "day"),
-    cell("Disks", grouped(one.accessions), "number"),
-    rulesCell(one),
-    buttonsCell(`deed ${one.deed}`, { Change: () => changeDeed(one) }),
-  ]);
+  const [number, donor] = [cell("Deed", String(one.deed), "number"), cell("Donor", one.donor, "words")];
+  const [signed, disks] = [cell("Signed on", one.signed, "day"), cell("Disks", grouped(one.accessions), "number")];
+  const buttons = buttonsCell(`deed ${one.deed}`, { Change: () => changeDeed(one) });
+  return row([number, donor, signed, disks, rulesCell(one), buttons]);
 }
 
 // Reads the deeds anew, and shows them.

@@ -1,5 +1,5 @@
 // The staff's side of the desk: what stands there, changes to it, and the work of a section of the page.
-import { Refused, askObject, box, button, cell, element, fields, grouped, listOf, part, refusal } from "./shared.js";
+import { askObject, box, button, cell, element, fields, grouped, listOf, part, refusal } from "./shared.js";
 import { askToday, quoted } from "./staff.words.js";
 import { withTitle } from "./titles.js";
 
@@ -59,9 +59,7 @@ export async function changed(method, path, body) {
   const headers = { ...fields(), "Desk-Staff": sentWords(name), "Desk-Note": sentWords(reason) };
   changeCount += 1;
   const sent = askObject(path, { method, body, headers }).finally(() => (changeCount += 1));
-  const said = await sent.catch((fault) => {
-    throw fault instanceof Refused ? Object.assign(fault, { isOfChange: true }) : fault;
-  });
+  const said = await sent.catch((fault) => Promise.reject(Object.assign(fault, { isOfChange: true })));
   isSpent = true;
   return said;
 }
@@ -100,10 +98,8 @@ export const buttonsCell = (words, presses) => cell("", box("div", "choices", ..
 export function showChange(heading, form, use) {
   const dialog = part("change");
   form.append(button("Leave it as it is", () => dialog.close(), { name: "leave" }));
-  form.addEventListener("submit", () => {
-    dialog.close();
-    use();
-  });
+  form.addEventListener("submit", () => dialog.close());
+  form.addEventListener("submit", use);
   part("change-heading").textContent = heading;
   dialog.querySelector("form").replaceWith(form);
   dialog.showModal();
@@ -171,10 +167,8 @@ async function openAfter(before, mine, doing) {
 // shows how far it is and a signal that stops it; it gives what to show, words or nodes, or null to keep what is shown.
 export async function work(name, doing) {
   if (part(name).getAttribute("aria-busy") === "true") return false;
-  running[name] = workAlone(name, doing);
-  const done = await running[name];
-  delete running[name];
-  return done;
+  running[name] = workAlone(name, doing).finally(() => delete running[name]);
+  return running[name];
 }
 
 async function workAlone(name, doing) {
@@ -186,19 +180,15 @@ async function workAlone(name, doing) {
   progresses[name] = tools.progress;
   // a change that was sent may be done all the same
   const isStopped = (fault) => stop.signal.aborted && !isUnsure(fault);
+  const failed = (came) => ({ outcome: isStopped(came) ? "Stopped." : refusedWork(came), done: false, fault: came });
   // (the journal has days of its own, and needs no today)
   const { outcome, done, fault } = await (name === "journal" ? Promise.resolve() : askToday(stop.signal))
     .then(() => doing(tools))
-    .then(
-      (made) => ({ outcome: made, done: true }),
-      (came) => ({ outcome: isStopped(came) ? "Stopped." : refusedWork(came), done: false, fault: came }),
-    );
+    .then((made) => ({ outcome: made, done: true }), failed);
   if (outcome !== null && outcome !== undefined) show(name, ...[outcome].flat().map(paragraph));
   const report = part(name).querySelector(".result > .report");
   if (report) reports.set(hash, report);
-  if (fault && isUnsure(fault)) {
-    await again(name).catch(() => part(name).querySelector(".result").append(older(name)));
-  }
+  if (fault && isUnsure(fault)) await again(name).catch(() => part(name).querySelector(".result").append(older(name)));
   part(name).setAttribute("aria-busy", "false");
   return done;
 }

@@ -10,6 +10,7 @@ import { placeOf } from "./staff.ranks.js";
 import { decidedWords, rehearsalDays, rehearsed, saveFirst } from "./staff.rehearsal.js";
 import { makeRuleForm, ruleIn } from "./staff.ruleform.js";
 import { putMany } from "./staff.rules.js";
+import { sameBox, sameBytes, sameWords } from "./staff.same.js";
 import { forgetSaved, saveTable, saver } from "./staff.saved.js";
 import { COLUMNS, EFFECT_AT, SAVED_HEADS, UNSAID, askedWords, byWhichRules, effectOf } from "./staff.verdicts.js";
 import { mayWords, nameOf, namesOf, ruleShown, savedVerdict, verdictsOf } from "./staff.verdicts.js";
@@ -25,7 +26,7 @@ A name behind a slot is that of the disk as it was when the desk was asked.`;
 
 // The disk that is shown: its survey, who put it and its rules, its files with their verdicts, and their names; where.
 let shown = null;
-const frames = { about: box("div", ""), files: box("div", ""), rules: box("div", "") };
+const frames = { about: box("div", ""), files: box("div", ""), same: box("div", ""), rules: box("div", "") };
 
 // Reads a disk anew, and shows it: what is known of it at once, then who gets what of it, and what the journal says.
 async function readDisk(accession, tools, show = showDisk) {
@@ -38,12 +39,12 @@ async function readDisk(accession, tools, show = showDisk) {
   disk.files = await verdictsOf(survey, asked.day, tools);
   disk.names = namesOf(disk.files);
   show(disk);
-  const { told, changes, none, isWhole } = await originsOf(things, tools, { files: disk.files, day: asked.day });
+  const { told, journal: { changes, ...journal } } = await originsOf(things, tools, true);
   things.forEach((thing, at) => Object.assign(thing, told[at]));
   const [own, deed] = [survey.accession, survey.deed].map(String);
-  disk.changes = changes.filter((one) => (one.accession ? one.accession === own : one.deed === deed));
-  Object.assign(disk, { none, isWhole });
-  show(disk);
+  const isOwn = (one) => (one.accession ? one.accession === own : one.deed === deed);
+  const same = await sameBytes([survey.accession], { ...journal, changes }, tools);
+  show(Object.assign(disk, { ...journal, same, changes: changes.filter(isOwn) }));
   return disk;
 }
 
@@ -114,12 +115,13 @@ function journalParts({ accession, deed }, changes) {
 
 // Shows what is known of the disk, and of its changes where they are read.
 function draw() {
-  const { survey, things, changes } = shown;
+  const { survey, things, changes, same } = shown;
   const [[disk, ...rules], { accession }] = [things, survey];
   const title = [titleOf(accession), noteOf(accession)].filter(Boolean).join("; ") || "none";
   const about = surveyed(survey, { Title: title, "Taken in": disk.origin });
   const press = () => change("disk", () => checked(accession, "disk"));
   frames.about.replaceChildren(about, checkWords(accession), button("Check it", press, { disabled: !changes }));
+  frames.same.replaceChildren(element("h2", "Other disks with the same bytes"), sameBox(same));
   const heading = element("h2", "The rules, in their order: the first that matches decides");
   const words = `Each says when it was put itself, not since when files have been open or closed. ${DAYS}`;
   frames.rules.replaceChildren(heading, element("p", words), rulesTable(rules), ...journalParts(survey, changes ?? []));
@@ -140,14 +142,6 @@ function drawFiles() {
   part("ticked").hidden = files.length === 0;
 }
 
-// The SHA-256 with which a disk was put last, as the journal has it: while it is there, the desk takes no other.
-function digestWords({ things: [{ place }], changes = [] }) {
-  const put = changes.find((one) => one.place === place && one.status === "200");
-  const [digest] = /[0-9a-f]{64}$/i.exec(put?.path) ?? [];
-  const unknown = "not known from the journal: the store has it, in the column digest of its table image (FORMATS)";
-  return `its SHA-256: ${digest ? `${digest}, as the journal has it` : unknown}`;
-}
-
 // Saves who gets what of a disk, what the rule says that decides, and who put it; gives the name of the file.
 function saveDisk(disk, more = "") {
   const { survey, things, files, names, asked } = disk;
@@ -158,9 +152,11 @@ function saveDisk(disk, more = "") {
   const saidOf = (file, who) => [...deciding(file[EFFECT_AT[who] + 1]), sinceOf(disk, file, who)];
   const rowOf = ([file, who]) => [...savedVerdict(file, who, asked), ...saidOf(file, who)];
   const { accession, deed } = survey;
-  const came = `taken in: ${things[0].origin}; ${digestWords(disk)}`;
+  const digest = disk.same?.digests.get(String(accession));
+  const known = digest ? `${digest}, as the journal has it` : "not known from the journal";
+  const came = `taken in: ${things[0].origin}; its SHA-256: ${known}`;
   const whose = `under deed ${deed} of ${signedWords(survey)}; ${came}`;
-  const all = `It has all ${counted(files.length, "file")}. ${askedWords(asked)}${more}`;
+  const all = `It has all ${counted(files.length, "file")}. ${askedWords(asked)}${more} ${sameWords(disk.same)}`;
   const about = `Who gets what of disk ${accession}, ${whose}. ${all} ${SINCE} ${DAYS} ${ANY_NAME} ${UNSAID}`;
   const heads = [...SAVED_HEADS, "what the rule says", PUT.toLowerCase(), "since when"];
   const name = `disk-${accession}${more && "-before-a-change"}-${asked.day}-asked`;
@@ -201,8 +197,10 @@ async function takeDown(records, tools) {
   const not = (one) => !stands(one);
   const said = () => `These stand: ${those(commands.filter(stands))}. These do not: ${those(commands.filter(not))}.`;
   const cells = ({ slot, name, rank }) => [accession, slot, name, rank].map(String);
-  const decide = () => decidedWords(shown.files, commands.filter(stands), shown.asked);
-  const more = { after: (how) => readDisk(accession, how), more: said, decide, of: `disk-${accession}` };
+  const decided = ({ files, asked, same }) =>
+    `${decidedWords(files, commands.filter(stands), asked)} ${sameWords(same)}`;
+  const after = (how) => readDisk(accession, how).then(decided);
+  const more = { after, more: said, of: `disk-${accession}` };
   return putMany("disk", commands, { ...more, heads: ["Disk", "Slot", "File", "Rank"], cells }, tools);
 }
 
@@ -211,8 +209,9 @@ export async function open(accession, tools) {
   if (!accession && shown) return location.replace(`#/disk/${shown.survey.accession}`);
   formOf("disk").elements.accession.value = accession ?? "";
   part("ticked").hidden = true;
-  Object.values(frames).forEach((frame) => frame.replaceChildren());
-  part("disk").querySelector(".stands").replaceChildren(frames.about, frames.files, part("ticked"), frames.rules);
+  const { about, files, same, rules } = frames;
+  [about, files, same, rules].forEach((frame) => frame.replaceChildren());
+  part("disk").querySelector(".stands").replaceChildren(about, files, same, part("ticked"), rules);
   if (accession) await readDisk(accession, tools);
   return accession ? [] : "Type the number of a disk.";
 }

@@ -83,7 +83,7 @@ async function chooseFiles({ files }, tools) {
   const images = made.filter((one) => one.kind);
   for (const [at, dump] of images.entries()) {
     tools.progress("Reading", at, images.length);
-    await readFile(dump);
+    await readFile(dump).catch((fault) => (dump.problem = explainRefusal(fault)));
   }
   const fault = sheets.length ? await readSheet(sheets) : "";
   if (sheet !== null) useSheet();
@@ -94,13 +94,9 @@ async function chooseFiles({ files }, tools) {
 const bytesOf = (file) => file.arrayBuffer().catch(() => Promise.reject(new Refused("file", {})));
 
 async function readFile(dump) {
-  try {
-    const bytes = await bytesOf(dump.file);
-    dump.digest = await digestOf(bytes);
-    dump.files = readDump(dump.kind, new Uint8Array(bytes)).files;
-  } catch (fault) {
-    dump.problem = explainRefusal(fault);
-  }
+  const bytes = await bytesOf(dump.file);
+  dump.digest = await digestOf(bytes);
+  dump.files = readDump(dump.kind, new Uint8Array(bytes)).files;
 }
 
 async function readSheet(files) {

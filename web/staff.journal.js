@@ -6,7 +6,7 @@ import { dated, formOf, show, work } from "./staff.desk.js";
 import { Lines, MONTHS, MOST, PIECE } from "./staff.lines.js";
 import { limitFields } from "./staff.ruleform.js";
 import { forgetSaved, saveTable, saver } from "./staff.saved.js";
-import { namesOf, verdictsOf } from "./staff.verdicts.js";
+import { isNoDisk, namesOf, verdictsOf } from "./staff.verdicts.js";
 import { momentNow } from "./staff.words.js";
 import { withTitle } from "./titles.js";
 
@@ -29,14 +29,10 @@ let knowing = Promise.resolve();
 async function knowDisk(accession) {
   disk = { ...NO_DISK, accession };
   if (accession === "") return;
-  try {
-    const survey = await askObject(`/images/${accession}/survey`);
-    // (names are the same on each day)
-    const names = namesOf(await verdictsOf(survey, momentNow().slice(0, 10), {}));
-    if (disk.accession === accession) disk = { accession, deed: String(survey.deed), names };
-  } catch (fault) {
-    if (fault.said?.error !== "no-accession") show("journal", refusal(fault));
-  }
+  const survey = await askObject(`/images/${accession}/survey`);
+  // (names are the same on each day)
+  const names = namesOf(await verdictsOf(survey, momentNow().slice(0, 10), {}));
+  if (disk.accession === accession) disk = { accession, deed: String(survey.deed), names };
 }
 
 const isFull = () => changes.length >= MOST;
@@ -75,13 +71,10 @@ const namesFor = ({ accession }, { names }) =>
 // The row of a change; `of` is the disk for which it is shown, if any.
 export function changeRow(change, of) {
   const words = `${isOfDeed(change, of) ? "Of its deed: " : ""}${changeWords(change, namesFor(change, of))}`;
-  return row([
-    cell("When", timeOf(change), "day"),
-    cell("Who", change.name, "words"),
-    cell("What", withTitle(dated("span", words), Number(change.accession)), "words"),
-    cell("Outcome", outcomeWords(change), isUnknown(change) ? "warning" : ""),
-    cell("Reason", change.reason, "words"),
-  ]);
+  const [when, who] = [cell("When", timeOf(change), "day"), cell("Who", change.name, "words")];
+  const what = cell("What", withTitle(dated("span", words), Number(change.accession)), "words");
+  const outcome = cell("Outcome", outcomeWords(change), isUnknown(change) ? "warning" : "");
+  return row([when, who, what, outcome, cell("Reason", change.reason, "words")]);
 }
 
 // How far the page has read, and what it could not read.
@@ -107,7 +100,8 @@ async function draw() {
   const [isFine, typed] = [form.reportValidity(), form.elements.accession.value];
   stands.setAttribute("aria-busy", String(isFine));
   if (!isFine) return;
-  if (typed !== disk.accession) knowing = knowDisk(typed);
+  const failed = (fault) => isNoDisk(fault) || show("journal", refusal(fault));
+  if (typed !== disk.accession) knowing = knowDisk(typed).catch(failed);
   await knowing;
   if (mine !== turn) return;
   const { shown, which } = found(form.elements);
@@ -133,15 +127,12 @@ export function explained(fault) {
 // Reads what is older than what was read, and shows all.
 async function readOlder(tools) {
   const before = read.byId.size;
-  try {
-    await lines.readOlder((line) => read.take(line), () => read.oldest, tools);
-  } catch (fault) {
-    return explained(fault);
-  } finally {
-    changes = read.inOrder();
-    await draw();
-  }
-  return `Read: ${counted(changes.length - before, before ? "older change" : "change")}.`;
+  const reading = lines.readOlder((line) => read.take(line), () => read.oldest, tools);
+  const fault = await reading.then(() => null, (came) => came);
+  changes = read.inOrder();
+  await draw();
+  const count = counted(changes.length - before, before ? "older change" : "change");
+  return fault ? explained(fault) : `Read: ${count}.`;
 }
 
 // Where that was the last, the button for it takes no focus any more.

@@ -20,12 +20,7 @@ const bytesOf = async (reply) => new Uint8Array(await loaded(reply.arrayBuffer()
 let begin = null;
 
 // What a reply would be, or null where nginx refuses it with a status.
-function unless(status, reply) {
-  return reply.catch((fault) => {
-    if (fault instanceof Refused && fault.status === status) return null;
-    throw fault;
-  });
-}
+const unless = (status, reply) => reply.catch((fault) => (fault.status === status ? null : Promise.reject(fault)));
 
 // Hands on each line of some bytes.
 async function eachLine(bytes, take) {
@@ -101,10 +96,8 @@ export class Lines {
 // Reads the journal so far back that it is enough, or else all: the changes, how far back, and whether that is all.
 export async function readBack(isEnough, tools) {
   const [lines, read] = [new Lines(), new AllChanges()];
-  let changes = [];
-  while (!isEnough(changes) && !lines.isWhole && changes.length < MOST) {
+  while (!isEnough?.(read.inOrder()) && !lines.isWhole && read.byId.size < MOST) {
     await lines.readOlder((line) => read.take(line), () => read.oldest, tools);
-    changes = read.inOrder();
   }
-  return { changes, reach: spaced(read.oldest), isWhole: lines.isWhole };
+  return { changes: read.inOrder(), reach: spaced(read.oldest), isWhole: lines.isWhole };
 }

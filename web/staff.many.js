@@ -26,7 +26,7 @@ const outcomeOf = ({ problem, outcome }) => (outcome === DONE ? DONE : problem |
 
 // Sends what is left of some items by `one`, and gives a report. `run` has the section, the items, a word for them,
 // what sends one, and the columns of the report with an item's texts in them; `after` comes when it ends, in any case,
-// and may have words: `said` in the place of how many are done, `more` where not all are, `decide` of what holds then.
+// and may give words of what holds then; `said` has them in the place of how many are done, `more` where not all are.
 export async function sendMany(run, { progress, signal }) {
   const left = run.items.filter((item) => !isOver(item));
   run.begun = momentNow();
@@ -40,8 +40,9 @@ export async function sendMany(run, { progress, signal }) {
     if (fault !== null && isLost(fault)) break;
   }
   if (!run.items.every(isOver)) keepReason();
-  const isOlder = await askToday().then(() => run.after?.({ progress })).then(() => false, () => true);
-  return report(run, isOlder);
+  const after = await askToday().then(() => run.after?.({ progress })).then((words) => ({ words }), () => null);
+  run.decided = after?.words ?? "";
+  return report(run, after === null);
 }
 
 // How many are done, and, behind that or behind what the run says of them, how many are not.
@@ -65,7 +66,6 @@ function report(run, isOlder) {
   const rowOf = (item) => row([...run.cells(item), outcomeOf(item)].map((text, at) => cellOf(columns[at], text)));
   const table = others.length ? longTable("Not done", columns, others, rowOf) : null;
   const more = run.more && !isWhole && !isOlder ? element("p", run.more()) : null;
-  run.decided = isOlder ? "" : (run.decide?.() ?? "");
   const decided = run.decided ? dated("p", run.decided) : null;
   const goOn = isWhole ? null : button("Go on with the rest", () => change(run.section, (how) => sendMany(run, how)));
   const buttons = box("p", "choices", goOn, ...saver(button("Save the report"), () => saveReport(run)));

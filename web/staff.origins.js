@@ -5,7 +5,7 @@ import { held, readHeld, standing } from "./staff.desk.js";
 import { isFor } from "./staff.forecast.js";
 import { readBack } from "./staff.lines.js";
 import { COLUMNS, EFFECT_AT, effectOf, fileOf, given } from "./staff.verdicts.js";
-import { AUDIENCES, RULES, dayAfter, listed, quoted, ruleWords } from "./staff.words.js";
+import { RULES, dayAfter, listed, quoted, ruleWords } from "./staff.words.js";
 import { keeper } from "./stream.js";
 
 // What stands: a word for it, the place of the changes that put it, and whether the body of one says what stands.
@@ -19,8 +19,7 @@ export const standingDisk = ({ accession, kind, deed }) =>
 // Whether a change says what stands: the desk takes no body that is not of its form.
 const isOf = ({ isSaid }, change) => change.method === "PUT" && tried(() => isSaid(bodyOf(change)), false);
 
-// Changes by what they are of, each from the newest on; whether they go back to a day; and whether one was done, as far
-// as anybody knows.
+// Changes by what they are of, from the newest on; whether they go back to a day; and whether one may have been done.
 const byPlaces = (changes) => Map.groupBy(changes, ({ place }) => place);
 const goBackTo = (day, changes) => changes.at(-1)?.moment.slice(0, 10) <= day;
 const counts = (change) => change.status === "200" || isUnknown(change);
@@ -45,26 +44,21 @@ function originWords({ word }, { put, before }, { reach, isWhole }) {
   return `This ${word} was put ${byWords(put)}; in its place before: ${other}`;
 }
 
-// The journal as far as it is enough; where it cannot be read, why.
-async function journalTo(isEnough, tools) {
-  const { changes, fault, ...far } = await readBack(isEnough, tools).catch((came) => ({ changes: [], fault: came }));
+// The journal as far as it is enough, or else all of it; where it cannot be read, why.
+export async function journalTo(isEnough, tools) {
+  const failed = (came) => ({ changes: [], reach: "", fault: came });
+  const { fault, ...journal } = await readBack(isEnough, tools).catch(failed);
   if (fault && (tools.signal?.aborted || !(fault instanceof Refused))) throw fault;
   const none = fault?.status === 404 ? "there is no journal" : "the journal cannot be read";
-  return { changes, places: byPlaces(changes), far, none: fault ? none : "" };
+  return { ...journal, places: byPlaces(journal.changes), none: fault ? none : "" };
 }
 
-// For each of some things that stand: words for who put it, when and why, and the change; and all changes that were
-// read, or why none could be. With files of a disk, the first thing, they go back to where they say since when.
-export async function originsOf(things, tools, { files = [], day } = {}) {
-  const isOpen = (found, own) => files.some((record) =>
-    Object.keys(AUDIENCES).some((audience) => turnOf(found, [record, audience], own, day).isOpen));
-  const isEnough = (changes, places = byPlaces(changes)) => {
-    const found = things.map((one) => ({ ...one, put: originOf(one, places).put }));
-    return found.every(({ put }) => put) && !(day && isOpen(found, changes.filter(isOfDisk(things[0]))));
-  };
-  const { changes, places, far, none } = await journalTo(isEnough, tools);
-  const toldOf = (one, found) => ({ origin: none || originWords(one, found, far), put: found.put });
-  return { told: things.map((one) => toldOf(one, originOf(one, places))), changes, none, isWhole: far.isWhole };
+// For each of some things that stand, words for who put it, when and why, and the change; and the journal, as read.
+export async function originsOf(things, tools, isWhole = false) {
+  const isEnough = (changes, places = byPlaces(changes)) => things.every((one) => originOf(one, places).put);
+  const journal = await journalTo(isWhole ? null : isEnough, tools);
+  const toldOf = (one, found) => ({ origin: journal.none || originWords(one, found, journal), put: found.put });
+  return { told: things.map((one) => toldOf(one, originOf(one, journal.places))), journal };
 }
 
 export const SINCE = `In the journal since: so far back it has nothing by which these readers could do anything else \
@@ -128,15 +122,14 @@ function* stepsBack([disk, ...rules], file, changes, today) {
 }
 
 // The latest change or day before which a file may have been otherwise to an audience, with what may have decided then;
-// what decides since, and now; and whether older lines may say more. No `now` where what stands has changed meanwhile.
+// what decides since, and now. No `now` where what stands has changed meanwhile.
 function turnOf(things, [record, audience], changes, day) {
   const file = { ...fileOf(record), audience };
   const isNow = ({ rule }) =>
     rule !== undefined && given(rule?.effect ?? "deny", file.isServed) === effectOf(record, audience);
   let [now, since] = [];
   for (const { found, ...turn } of stepsBack(things, file, changes, day)) {
-    const isOpen = found.some(({ place, rule }) => rule === undefined && place.startsWith("/deeds/"));
-    if (!found.every(isNow)) return { ...turn, found, since, now, isOpen };
+    if (!found.every(isNow)) return { ...turn, found, since, now };
     [now, since] = [now ?? found[0], found];
   }
   return { change: things[0].put, since, now };
@@ -178,8 +171,8 @@ function pastWords(name, { put, before }, { day, reach, isFar }) {
 // is not known; `words` says how much has changed since. (A promise takes what has a `then` for another promise.)
 export async function pastOf(day, tools) {
   for (const what of ["deeds", "takedowns"]) await readHeld(what, tools.signal);
-  const { changes, places, far, none } = await journalTo((some) => goBackTo(day, some), tools);
-  const known = { day, reach: far.reach, isFar: goBackTo(day, changes) };
+  const { changes, places, reach, none } = await journalTo((some) => goBackTo(day, some), tools);
+  const known = { day, reach, isFar: goBackTo(day, changes) };
   const labelled = ({ scope, rule }, name) =>
     [`${RULES[name].letter}${scope}.${rule.rank}`, standingRule(RULES[name].path(scope, rule.rank), rule)];
   const things = new Map(Object.keys(RULES).flatMap((name) => standing(name).map((one) => labelled(one, name))));

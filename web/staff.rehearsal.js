@@ -3,14 +3,15 @@ import { shownName } from "./names.js";
 import { box, button, counted, element, loaded, part } from "./shared.js";
 import { dated, refusedWork, sure } from "./staff.desk.js";
 import { isFor } from "./staff.forecast.js";
-import { COLUMNS, EFFECT_AT, askedWords, effectOf, fileOf, given } from "./staff.verdicts.js";
-import { readVerdicts, ruleMeaning, verdictsOf } from "./staff.verdicts.js";
+import { sameNow } from "./staff.same.js";
+import { COLUMNS, EFFECT_AT, askedWords, effectOf, fileOf, given, isNoDisk } from "./staff.verdicts.js";
+import { readSome, ruleMeaning, verdictsOf } from "./staff.verdicts.js";
 import { AUDIENCES, EFFECTS, SHORT, audienceWords, dayAfter, isOnNoDay } from "./staff.words.js";
 import { listed, momentNow, today } from "./staff.words.js";
 import { readTable } from "./stream.js";
 
 const ORDER = ["deny", "list", "read"];
-const [MOST_NAMED, MOST_ALONE] = [10, 10];
+const MOST_NAMED = 10;
 const DAY_WORDS = { from: "its first day", last: "its last day", until: "the first day without it" };
 
 // The days of a rule on which something begins or ends.
@@ -60,9 +61,7 @@ export class Changes {
   }
 }
 
-const isNoDisk = (fault) => fault.said?.error === "no-accession";
-
-// What no rehearsal says: the kind of each disk, and which files the desk gives out. Few disks are asked for alone.
+// What no rehearsal says: the kind of each disk, and which files the desk gives out. (Of one that is gone it does say.)
 async function readServed(commands, tools) {
   const known = { kinds: new Map(), served: new Set() };
   const disks = new Set(commands.filter(({ path }) => path.startsWith("/images/")).map(({ scope }) => scope));
@@ -70,12 +69,7 @@ async function readServed(commands, tools) {
     known.kinds.set(record[COLUMNS.accession], record[COLUMNS.kind]);
     if (record[COLUMNS.size] !== "") known.served.add(`${record[COLUMNS.accession]}/${record[COLUMNS.slot]}`);
   };
-  // a disk that is not there its own rehearsal tells of
-  const gone = (fault) => isNoDisk(fault) || Promise.reject(fault);
-  if (disks.size === 0 || disks.size > MOST_ALONE) await readVerdicts(today(), take, tools);
-  else for (const accession of disks) {
-    await verdictsOf({ accession }, today(), tools).then((all) => all.forEach(take), gone);
-  }
+  await readSome([...disks], today(), take, tools);
   return known;
 }
 
@@ -151,11 +145,13 @@ export function decidedWords(files, commands, asked, { day } = asked) {
   return `What the desk's verdicts on ${day} say of the files that are meant: ${words}. ${askedWords(asked)}`;
 }
 
-// The same, once the desk is asked.
+// The same, once the desk is asked; and on which other disks the bytes of the disks of commands are.
 export const decidedNow = (commands, tools, moment = momentNow()) => Promise.resolve()
   .then(() => verdictsOf({ accession: commands[0].scope }, today(), tools))
   .then((files) => decidedWords(files, commands, { day: today(), moment }))
   .catch(() => "The page could not ask the desk what readers get of it now.");
+
+export const sameAs = (commands, tools) => sameNow(commands.map(({ scope }) => scope), tools);
 
 // A button that saves who gets what of a disk, as the desk says now, before a question is answered, and what says so:
 // afterwards nobody can have it. While it saves, the answer cannot be yes; where the question is left, it stops.

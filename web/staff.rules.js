@@ -8,8 +8,7 @@ import { fillRule, makeRuleForm, ruleIn } from "./staff.ruleform.js";
 import { RULES, VISITS, ruleTexts, ruleWords, standingWords } from "./staff.words.js";
 import { titleOf } from "./titles.js";
 
-// Of how many disks the page says one by one what their takedowns replace or follow; the deeds or the disks that are
-// typed; and what only a change needs, which is loaded then.
+// Of how many disks the page says what their takedowns replace; what is typed; what only a change needs, loaded then.
 const MOST_NOTES = 10;
 const scopesIn = (name, typed) => (name === "rules" ? [Number(typed)] : (accessionsIn(typed) ?? []));
 const rehearsals = () => loaded(import("./staff.rehearsal.js"));
@@ -26,7 +25,7 @@ async function put(name, scopes, typedRank, rule, tools) {
   const replaced = places.flatMap((place) => place.replaced ?? []);
   const [word, done] = replaced.length === places.length ? ["Replace", "Replaced"] : ["Put", "Put"];
   const notes = [`It says: ${ruleWords(rule)}.`, ...placeNotes(places)];
-  const { decidedNow, rehearsalDays, rehearsed, saveFirst } = await rehearsals();
+  const { decidedNow, rehearsalDays, rehearsed, sameAs, saveFirst } = await rehearsals();
   const days = rehearsalDays(rule, replaced);
   const isTakedown = name === "takedowns";
   const asked = { words: `${word} ${words}?`, notes, commands, days, isTakedown, go: `${word} it` };
@@ -34,11 +33,12 @@ async function put(name, scopes, typedRank, rule, tools) {
   const agreed = await rehearsed(asked, tools);
   if (agreed.length === 0) return `Not ${done.toLowerCase()}: ${words}.`;
   const cells = (one) => [String(one.scope), String(one.rank)];
-  const more = { after: () => showRules(name), heads: ["Accession", "Rank"], cells, verb: done.toLowerCase() };
+  const after = (how) => showRules(name).then(() => sameAs(agreed, how));
+  const more = { after, heads: ["Accession", "Rank"], cells, verb: done.toLowerCase() };
   if (places.length > 1) return putMany(name, agreed, more, tools);
   await send("PUT", agreed[0].path, sent.body);
   const said = await shownAnew(name, `${done}: ${words}.`);
-  return isTakedown ? [said, await decidedNow(agreed, tools), VISITS].flat() : said;
+  return isTakedown ? [said, await decidedNow(agreed, tools), await sameAs(agreed, tools), VISITS].flat() : said;
 }
 
 // Puts takedowns one after the other, in a section; `more` has what else its report needs.

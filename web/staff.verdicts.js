@@ -21,6 +21,18 @@ export async function verdictsOf({ accession, files }, day, { signal }) {
   return found;
 }
 
+export const isNoDisk = (fault) => fault.said?.error === "no-accession";
+
+// Hands on the verdicts of some disks on a day, few of which are asked for alone, or of all where none is named.
+const MOST_ALONE = 10;
+export async function readSome(disks, day, take, tools) {
+  if (disks.length === 0 || disks.length > MOST_ALONE) return readVerdicts(day, take, tools);
+  const gone = (fault) => isNoDisk(fault) || Promise.reject(fault);
+  for (const accession of disks) {
+    await verdictsOf({ accession }, day, tools).then((all) => all.forEach(take), gone);
+  }
+}
+
 // The names of some files of a disk as they were shown, by their slots.
 export const nameOf = (record) => shownName(record[COLUMNS.kind], record[COLUMNS.name]);
 export const namesOf = (files) => new Map(files.map((record) => [Number(record[COLUMNS.slot]), nameOf(record)]));

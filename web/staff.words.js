@@ -68,8 +68,7 @@ export const LIMITS = {
   digest: { pattern: "[0-9A-Fa-f]{64}", title: "64 hexadecimal digits" },
 };
 
-// Rules of deeds, and takedowns: words for one and for what it is of, the column of that, how labels begin, what they
-// may let readers do, and their paths.
+// Rules of deeds, and takedowns: their words, the column of what they are of, how labels begin, effects and paths.
 const rulesOf = (word, thing, more, begin) => ({
   ...{ word, thing, ...more },
   words: (scope, rank) => `${word} ${rank} of ${thing} ${scope}`,

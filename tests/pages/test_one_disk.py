@@ -20,6 +20,10 @@ ALWAYS = "closed to the public and the reading room, until further notice"
 SLY = "18;%20in%20its%20place%20before:%20%E2%80%9Cnothing%E2%80%9D"
 TAKEN_IN = f"/accessions/1002/d64/9/{'0' * 64}"
 BY = f"This rule was put {when(0.5)} by “Ada”: “a letter”; in its place before: "
+TABLE = """Of disks that the journal does not have the page cannot tell: the store has the SHA-256 of each, in the \
+column digest of its table image (FORMATS)."""
+# A script: where the names of other disks with the same bytes lead to.
+LINKS = "return Array.from(document.querySelectorAll('#disk li a'), ({ hash }) => hash)"
 # A script: whether the outcome is in the window; and the role of what has the focus.
 SEEN = """const { top } = document.querySelector("#disk .result").getBoundingClientRect();
 return [top > -1 && top < innerHeight / 2, document.activeElement.role];"""
@@ -58,7 +62,9 @@ def test_disk_says_what_it_is_and_who_gets_what_by_which_rule(museum, disk):
         [TODAY, "the staff", "read it", "R9.20", f"all files readable for {ALL}", in_utc(BY + NOTHING), *file]]
     assert "A name behind a slot is that of the disk as it was when the desk was asked." in rows[0][1]
     assert "as the page reckons from the changes that it read and the days" in rows[0][1], "as if it had read all"
-    assert f"{in_utc(NOT)}; its SHA-256: not known from the journal: the store has it" in rows[0][1]
+    assert f"{in_utc(NOT)}; its SHA-256: not known from the journal. It has all" in rows[0][1]
+    far = in_utc(f"is not known: the journal, back to {when(0)}, does not have the SHA-256. {TABLE}")
+    assert f"Which other disks have the bytes of disk 1002 {far}" in rows[0][1], "as if there were none"
     disk.door.journals["/journal"] += journal_lines(2, START - 9, "200", "PUT", TAKEN_IN)
     assert disk.go("disk/1002") and not is_said_saved(disk), "a file speaks for what is shown since"
     _, *rows = saved_table(disk, f"disk-1002-{TODAY}-asked", "Save who gets what as CSV")
@@ -67,7 +73,7 @@ def test_disk_says_what_it_is_and_who_gets_what_by_which_rule(museum, disk):
 
 def test_rule_says_what_was_there_before_it_or_how_far_the_journal_is_read_or_that_it_is_not(disk):
     disk.door.journals["/journal"] += journal_lines(2, START, "200", "PUT", TAKEN_IN)
-    assert disk.load() and disk.begin().go("disk/1002")["rows"][3][5] == f"{BY}nothing {FAR}", "as if it were the first"
+    assert disk.load() and disk.begin().go("disk/1002")["rows"][3][5] == BY + NOTHING
     disk.door.journals["/journal"] += journal_lines(3, START - 9, "200", "DELETE", "/deeds/9/rules/20", "Bob", SLY)
     by = f"{BY}Drop rule 20 of deed 9, {when(-8.5)} by “Bob”: “18; in its place before: “nothing””"
     assert disk.go("disk/1002")["rows"][3][5] == by, "what somebody typed reads as words of the page"
@@ -142,7 +148,8 @@ def test_time_goes_back_past_what_was_replaced_where_the_journal_says_that_it_wa
     disk.door.journals = {"/journal": later, "/journal-2023-09": line(month, "/deeds/8")}
     assert disk.load() and disk.begin() and disk.door.visits.clear() is None
     assert disk.go("disk/1002")["rows"][0][5].endswith(taken)
-    assert [path for _, path, _ in disk.door.visits if "journal" in path] == ["/journal"], "more is read than is needed"
+    asked = [path for _, path, _ in disk.door.visits if "journal" in path]
+    assert asked == ["/journal", "/journal-2023-09"], "another disk with the same bytes may be in older lines"
 
 def test_files_ticked_by_their_shown_names_are_taken_down_and_what_stands_after_a_failure_is_said(museum, disk):
     museums.put_files(museum, 1002, "d64", 9, [("%CCETTER", "SEQ", b"A"), ("-", "DEL", None), ("GUIDE", "SEQ", b"A")])
@@ -177,7 +184,7 @@ def test_files_ticked_by_their_shown_names_are_taken_down_and_what_stands_after_
     assert [row[5] for row in shown["rows"][:3]] == [CLOSED.format(10), LISTS, CLOSED.format(20)]
     says = f"What the desk's verdicts on {TODAY} say of the files that are meant: 2 files closed to the public"
     asked = f"{says} and 2 files closed to the reading room. The desk was asked on {TODAY} at 12:"
-    assert [one for one in shown["result"] if one.startswith(asked) and one.endswith(" UTC.")], "nobody knows when"
+    assert [one for one in shown["result"] if one.startswith(asked) and " UTC. " in one], "nobody knows when"
     assert "Save the report" not in str(disk.go("disk/1003")["result"]) and disk.go("keys") and disk.go("disk/1002")
     due = [["1002", slot, name, rank, f"the file at slot {slot} {ALWAYS}", "done"] for name, rank, slot in rules]
     heads, *rows = saved_table(disk, "disk-1002-report-of", "Save the report")
@@ -187,6 +194,34 @@ def test_files_ticked_by_their_shown_names_are_taken_down_and_what_stands_after_
     words = "slot (the file's place on its disk, counted from 0)", "rank (a place in the order of rules, lowest first)"
     assert (heads[3], heads[5]) == words and f"(OPERATING, Logs). {asked}" in rows[0][1]
     assert "(an apostrophe at the beginning of a cell, before =, +, - or @, is not part of its text; mom" in heads[1]
+
+def test_other_disks_with_the_same_bytes_are_named_and_who_may_read_how_much_of_them(museum, disk):
+    """By the journal: 1005 has them, 1001 has others since, 1006 was refused, of 1004 nobody knows, 77 is gone."""
+    same, other = "A" * 64, "b" * 64
+    cases = [("200", 1001, same), ("200", 1001, other), ("409", 1006, same), ("502", 1004, same.lower()),
+             ("200", 77, same), ("200", 1005, same), ("200", 1002, same.lower())]
+    disk.door.journals["/journal"] = b"".join(
+        journal_lines(at, START + at, status, "PUT", f"/accessions/{number}/d64/7/{digest}")
+        for at, (status, number, digest) in enumerate(cases))
+    may = "of {} the public may read 0, the reading room 0 and the staff {}"
+    due = ["disk 77: the desk has no file of it", f"disk 1004, nobody knows whether the desk did it: {may}",
+           f"disk 1005: {may}".format("3 files", 2)]
+    disk.go("disk/1002")
+    items = [one for one in disk.texts("#disk li") if one.startswith("disk ")]
+    assert [items[0], items[1].partition(": of ")[0], items[2]] == [due[0], due[1].partition(": of ")[0], due[2]]
+    assert disk.script(LINKS) == ["#/disk/77", "#/disk/1004", "#/disk/1005"], "no way to the other disks"
+    also = in_utc(f"As the journal, back to {when(0)}, has it, the same bytes are also on 3 other disks; on {TODAY}:")
+    _, *rows = saved_table(disk, f"disk-1002-{TODAY}-asked", "Save who gets what as CSV")
+    assert f"{also} {'; '.join(items)}. The desk was asked on {TODAY} at 12:" in rows[0][1]
+    assert f" UTC. {TABLE}" in rows[0][1]
+    museum.rules["R7"].pop(10)
+    disk.set("#disk [name=slots][value='0']", True)
+    ticked = disk.push("Take down what is ticked") and disk.answer(True)["result"]
+    typed = disk.go("takedowns") and disk.take_down("1002", "", "2", "public") and disk.answer(True)["result"]
+    many = disk.take_down("1002, 1003", "", "2", "public") and disk.answer(True)["result"]
+    for words in (ticked, typed, many):
+        assert "; disk 1005" in str(words) and "the public may read 2, the reading room 2 and" in str(words), words
+    assert "Which other disks have the bytes of disk 1003 is not known: the journal" in str(many)
 
 def test_coming_back_shows_the_disk_that_was_looked_at_asked_anew(museum, disk):
     museum.rules["T1002"] = takedown(1000, 2)

@@ -1,0 +1,71 @@
+// Other disks with the same bytes: those put with the same SHA-256, as the journal has it, and who may read how many of
+// their files, as the desk says: a file that is closed on one disk may be open on another.
+import { box, counted } from "./shared.js";
+import { UNKNOWN, isUnknown } from "./staff.changes.js";
+import { dated } from "./staff.desk.js";
+import { journalTo } from "./staff.origins.js";
+import { COLUMNS, askedWords, effectOf, readSome } from "./staff.verdicts.js";
+import { AUDIENCES, UNREAD, listed, momentNow, quoted, today } from "./staff.words.js";
+import { titleOf } from "./titles.js";
+
+const LIMIT = `Of disks that the journal does not have the page cannot tell: the store has the SHA-256 of each, in the \
+column digest of its table image (FORMATS).`;
+
+// The SHA-256 with which each disk was put last; and the others with that of some, by their numbers: of which of these,
+// whether that is sure, and their verdicts of today.
+export async function sameBytes(accessions, { changes, none, reach }, tools) {
+  const puts = changes.filter(({ accession, digest }) => accession && digest).toReversed();
+  const digests = new Map(puts.filter(({ status }) => status === "200").map((one) => [one.accession, one.digest]));
+  const [named, found] = [Map.groupBy(accessions, (one) => digests.get(String(one))), new Map()];
+  for (const put of puts) {
+    const isSure = digests.get(put.accession) === put.digest;
+    const isOther = (isSure || isUnknown(put)) && !accessions.includes(Number(put.accession));
+    if (isOther && named.has(put.digest)) found.set(put.accession, { of: named.get(put.digest), isSure, files: [] });
+  }
+  const asked = { day: found.size ? today() : "", moment: momentNow() };
+  const take = (record) => found.get(record[COLUMNS.accession])?.files.push(record);
+  if (found.size) await readSome([...found.keys()], asked.day, take, tools);
+  const others = [...found].sort(([one], [other]) => one - other);
+  return { digests, others, unnamed: named.get(undefined) ?? [], count: accessions.length, asked, none, reach };
+}
+
+function diskWords([accession, { of, isSure, files }], isOfMany) {
+  const title = titleOf(Number(accession)) && quoted(titleOf(Number(accession)));
+  const which = [`disk ${accession}`, title, isOfMany && `as disk ${listed(of)}`, !isSure && UNKNOWN].filter(Boolean);
+  const reads = Object.entries(AUDIENCES).map(([audience, words], at) =>
+    `${words}${at ? "" : " may read"} ${files.filter((record) => effectOf(record, audience) === "read").length}`);
+  const what = files.length ? `of ${counted(files.length, "file")} ${listed(reads)}` : "the desk has no file of it";
+  return `${which.join(", ")}: ${what}`;
+}
+
+// What is to be said: first, then of each disk, and of what is not known.
+function partsOf(same) {
+  if (!same) return [`Other disks with the same bytes: ${UNREAD}.`, [], ""];
+  const { others, unnamed, count, asked, none, reach } = same;
+  const journal = `the journal${reach && `, back to ${reach},`}`;
+  const some = counted(others.length, "other disk");
+  const also = `As ${journal} has it, the same bytes are also on ${some}; on ${asked.day}:`;
+  const no = `T${journal.slice(1)} has no other disk with the same bytes.`;
+  const of = unnamed.length === 1 ? `disk ${unnamed[0]}` : counted(unnamed.length, "disk");
+  const why = none || `${journal} does not have the SHA-256`;
+  const unknown = unnamed.length && `Which other disks have the bytes of ${of} is not known: ${why}.`;
+  const [first, ...more] = [unnamed.length < count && (others.length ? also : no), unknown].filter(Boolean);
+  const rest = [others.length && askedWords(asked), ...more, LIMIT].filter(Boolean).join(" ");
+  return [first, others.map((one) => diskWords(one, count > 1)), rest];
+}
+
+export function sameBox(same) {
+  const [first, items, rest] = partsOf(same);
+  const list = items.length ? box("ul", "", ...items.map((text) => dated("li", text))) : null;
+  return box("div", "", dated("p", first), list, dated("p", rest));
+}
+
+export function sameWords(same) {
+  const [first, items, rest] = partsOf(same);
+  return [first, items.length && `${items.join("; ")}.`, rest].filter(Boolean).join(" ");
+}
+
+// The words of disks of which files were just closed. (What is done stays done where this fails.)
+export const sameNow = (accessions, tools) => journalTo(null, tools)
+  .then((journal) => sameBytes(accessions, journal, tools).then(sameWords))
+  .catch(() => "The page could not find out which other disks have the same bytes.");
