@@ -61,8 +61,7 @@ function written(value) {
 // What some heads of columns mean, for those who see no more than a saved table.
 const MEANINGS = {
   kind: "cpm8: CP/M, 8 inches; d64: Commodore 1541; d64e: Commodore 1541 with error bytes",
-  rank: "a place in the order of rules, lowest first",
-  slot: "the file's place on its disk, counted from 0",
+  rank: "a place in the order of rules, lowest first", slot: "the file's place on its disk, counted from 0",
   user: "the user of CP/M, 0 to 15, whose file it is",
 };
 export const explainedHead = (head) => (Object.hasOwn(MEANINGS, head) ? `${head} (${MEANINGS[head]})` : head);

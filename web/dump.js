@@ -51,11 +51,8 @@ function cbmDisk(bytes) {
   const isBad = (block) => bytes[256 * BLOCKS + block] > 1;
   for (const file of files) {
     file.faults = faultsOf({
-      "not-closed": !file.isClosed,
-      "off-disk": file.ends.includes("off"),
-      loop: file.ends.includes("loop"),
-      crossed: file.units.some((unit) => taken.get(unit).length > 1),
-      "read-error": file.units.some(isBad),
+      "not-closed": !file.isClosed, "off-disk": file.ends.includes("off"), loop: file.ends.includes("loop"),
+      crossed: file.units.some((unit) => taken.get(unit).length > 1), "read-error": file.units.some(isBad),
     });
     file.isServed = file.faults.length === 0 && ["SEQ", "PRG", "USR"].includes(file.type);
   }

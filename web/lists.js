@@ -14,9 +14,12 @@ window.addEventListener("beforeprint", () => {
 });
 window.addEventListener("afterprint", () => (isPrinted = false));
 
+// How high a block was in the last table with a caption: where it is shown again, no more are drawn than come near.
+const measured = new Map();
+
 // The bodies of a table: a block or a gap, each for the blocks from its first to before its end.
-function bodiesOf(items, rowOf, columns) {
-  const heights = Array(Math.ceil(items.length / BLOCK)).fill(ROW * BLOCK);
+function bodiesOf(caption, items, rowOf, columns) {
+  const heights = Array(Math.ceil(items.length / BLOCK)).fill(measured.get(caption) ?? ROW * BLOCK);
   let isMeasured = false;
   const see = ({ target, isIntersecting, boundingClientRect: { top } }) => {
     if (isPrinted || !target.isConnected || target.isDrawn === isIntersecting) return;
@@ -52,9 +55,12 @@ function bodiesOf(items, rowOf, columns) {
     old.before(...blocks);
     const drawn = blocks.map((one) => one.getBoundingClientRect().height);
     // (what is hidden meanwhile has no height)
-    if (!isMeasured && drawn[0] > 0) heights.fill(drawn[0]);
-    if (drawn[0] > 0) heights.splice(from, drawn.length, ...drawn);
-    isMeasured ||= drawn[0] > 0;
+    if (drawn[0] > 0) {
+      if (!isMeasured) heights.fill(drawn[0]);
+      heights.splice(from, drawn.length, ...drawn);
+      measured.set(caption, drawn[0]);
+      isMeasured = true;
+    }
     blocks[0].before(...gap(old.first, from));
     old.replaceWith(...gap(to, old.end));
   };
@@ -72,7 +78,7 @@ function bodiesOf(items, rowOf, columns) {
 export function longTable(caption, columns, items, rowOf) {
   if (items.length <= WHOLE) return table(caption, columns, items.map(rowOf));
   const made = table(caption, columns, []);
-  made.lastChild.replaceWith(...bodiesOf(items, rowOf, columns.length));
+  made.lastChild.replaceWith(...bodiesOf(caption, items, rowOf, columns.length));
   made.setAttribute("aria-rowcount", items.length + 1);
   return made;
 }

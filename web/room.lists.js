@@ -175,8 +175,7 @@ function namedBy(words, files) {
 // Whether somebody looks for BASIC: disks that surely have it come before those with programs that may be.
 export const isForBasic = (q) => /\bbasic/i.test(q ?? "");
 
-// The disks that were found, by disks the files that have all words by themselves or by their disk, and counts of the
-// other kinds. Where nothing is looked for, the list itself was found.
+// The disks that were found (all, where nothing is looked for), by disks the files that have all words, and counts.
 export async function found(disks, files, { q, type, kind, sort }) {
   const words = wordsOf(q);
   const counts = { kinds: new Map(), types: new Map(), all: 0, files: 0, read: 0 };

@@ -44,8 +44,7 @@ function finder(words, audience) {
 const wanted = ({ audience, words, closed } = formOf("eyes").elements) =>
   ({ audience: audience.value, words: words.value.trim().toLowerCase(), showsClosed: closed.checked });
 
-// The files to show: those that are found, and of the closed ones only where they are asked for; of which disk, if all
-// are of one; words for which these are; and of all files, how many there are of each effect.
+// The files to show, of closed ones only what is asked for; their disk, if it is one; words; and the counts of all files.
 async function lookThrough({ audience, words, showsClosed }, all) {
   const isFound = finder(words, audience);
   const counts = { read: 0, list: 0, deny: 0 };
