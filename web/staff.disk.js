@@ -14,15 +14,14 @@ import { sameBox, sameBytes, sameWords } from "./staff.same.js";
 import { forgetSaved, saveTable, saver } from "./staff.saved.js";
 import { COLUMNS, EFFECT_AT, SAVED_HEADS, UNSAID, askedWords, byWhichRules, effectOf } from "./staff.verdicts.js";
 import { mayWords, nameOf, namesOf, ruleShown, savedVerdict, verdictsOf } from "./staff.verdicts.js";
-import { AUDIENCES, PUT, RULES, UNREAD, askToday, listed, momentNow, ruleTexts } from "./staff.words.js";
-import { ruleWords, signedWords, today } from "./staff.words.js";
+import { AUDIENCES, PUT, RULES, UNREAD, askToday, clockWords, listed, momentNow } from "./staff.words.js";
+import { ruleTexts, ruleWords, signedWords, today } from "./staff.words.js";
 import { noteOf, titleOf } from "./titles.js";
 
 // How many changes of the journal are shown at most.
 const MOST_CHANGES = 20;
-const DAYS = `A day of a rule begins at midnight by the desk's clock, whose zone (ZONE in the file places) this page \
-cannot see. A change holds from the moment at which it is put, not before, whatever its days. \
-A name behind a slot is that of the disk as it was when the desk was asked.`;
+const daysSaid = () => `A day of a rule begins at midnight ${clockWords()}. A change holds from the moment at which it \
+is put, not before, whatever its days. A name behind a slot is that of the disk as it was when the desk was asked.`;
 
 // The disk that is shown: its survey, who put it and its rules, its files with their verdicts, and their names; where.
 let shown = null;
@@ -123,7 +122,7 @@ function draw() {
   frames.about.replaceChildren(about, checkWords(accession), button("Check it", press, { disabled: !changes }));
   frames.same.replaceChildren(element("h2", "Other disks with the same bytes"), sameBox(same));
   const heading = element("h2", "The rules, in their order: the first that matches decides");
-  const words = `Each says when it was put itself, not since when files have been open or closed. ${DAYS}`;
+  const words = `Each says when it was put itself, not since when files have been open or closed. ${daysSaid()}`;
   frames.rules.replaceChildren(heading, element("p", words), rulesTable(rules), ...journalParts(survey, changes ?? []));
 }
 
@@ -157,7 +156,7 @@ function saveDisk(disk, more = "") {
   const came = `taken in: ${things[0].origin}; its SHA-256: ${known}`;
   const whose = `under deed ${deed} of ${signedWords(survey)}; ${came}`;
   const all = `It has all ${counted(files.length, "file")}. ${askedWords(asked)}${more} ${sameWords(disk.same)}`;
-  const about = `Who gets what of disk ${accession}, ${whose}. ${all} ${SINCE} ${DAYS} ${ANY_NAME} ${UNSAID}`;
+  const about = `Who gets what of disk ${accession}, ${whose}. ${all} ${SINCE} ${daysSaid()} ${ANY_NAME} ${UNSAID}`;
   const heads = [...SAVED_HEADS, "what the rule says", PUT.toLowerCase(), "since when"];
   const name = `disk-${accession}${more && "-before-a-change"}-${asked.day}-asked`;
   return saveTable(name, asked.moment, about, heads, everyVerdict(disk), rowOf);

@@ -44,7 +44,7 @@ function finder(words, audience) {
 const wanted = ({ audience, words, closed } = formOf("eyes").elements) =>
   ({ audience: audience.value, words: words.value.trim().toLowerCase(), showsClosed: closed.checked });
 
-// The files to show, of closed ones only what is asked for; their disk, if it is one; words; and the counts of all files.
+// The files to show, of closed ones only what is asked for; their disk, if it is one; words; and counts of all files.
 async function lookThrough({ audience, words, showsClosed }, all) {
   const isFound = finder(words, audience);
   const counts = { read: 0, list: 0, deny: 0 };

@@ -4,11 +4,8 @@ import { given } from "./staff.verdicts.js";
 import { AUDIENCES, EFFECTS, selection } from "./staff.words.js";
 
 const MATCHES = {
-  all: () => true,
-  slot: (slot, file) => file.slot === slot,
-  prefix: (words, file) => file.name.startsWith(words),
-  user: (user, file) => file.user === user,
-  type: (type, file) => file.type === type,
+  all: () => true, prefix: (words, file) => file.name.startsWith(words), slot: (slot, file) => file.slot === slot,
+  user: (user, file) => file.user === user, type: (type, file) => file.type === type,
 };
 
 // Whether a rule is for a file and an audience on a day.

@@ -51,11 +51,13 @@ function ofWords(change) {
 function found({ accession: { value: number }, deed, words, day, checks }) {
   const text = words.value.trim().toLowerCase();
   const its = disk.deed ? `and of its deed ${disk.deed}, which decides about it too` : "of whose deed nothing is known";
+  const isOfDay = ({ moment }) => moment.startsWith(day.value);
+  const zone = changes.find(isOfDay)?.moment.slice(19) ?? "";
   const holds = [
     [number, `of disk ${number} ${its}`, (change) => change.accession === number || isOfDeed(change, disk)],
     [deed.value, `of deed ${deed.value}`, (change) => change.deed === deed.value],
     [text, `with \u201c${text}\u201d in the name or the reason`, (change) => change.search.includes(text)],
-    [day.value, `of ${day.value}`, (change) => change.moment.startsWith(day.value)],
+    [day.value, `of ${day.value} by the clock of the museum's machine${zone && ` (UTC${zone})`}`, isOfDay],
     [!checks.checked, "without checks of disks", (change) => change.isCheck !== true],
     [disk.names, `with the names of files as disk ${number} had them when the page asked for it`, () => true],
   ].filter(([value]) => value);

@@ -158,8 +158,8 @@ export function sinceWords(things, record, audience, { changes, isWhole, asked }
 
 // What is not known to have been so on a day that is over: words for a disk or a rule that stands; "" where it was so.
 function pastWords(name, { put, before }, { day, reach, isFar }) {
-  const [since, isDisk, back] = [put?.moment.slice(0, 10), name === "", reach ? `back to ${reach}` : "which is empty"];
-  if ((put === null && isFar) || since <= day) return "";
+  const [since, isDisk, back] = [spaced(put?.moment ?? ""), name === "", reach ? `back to ${reach}` : "which is empty"];
+  if (put ? since.slice(0, 10) <= day : isFar) return "";
   const only = `${isDisk ? "not yet here on that day:" : name} put only on ${since}`;
   if (put && before) return only;
   if (put && isFar) return `${only}, not before in the journal, ${back}`;

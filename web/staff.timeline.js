@@ -47,9 +47,7 @@ async function readLines() {
 
 const HEADS = {
   Rule: ({ name, scope, rule }) => RULES[name].words(scope, rule.rank),
-  "What it does": ({ rule }) => standingWords(rule),
-  "Next change": ({ next }) => next,
-  Days: null,
+  "What it does": ({ rule }) => standingWords(rule), "Next change": ({ next }) => next, Days: null,
 };
 
 function lineRow(line) {

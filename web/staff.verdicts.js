@@ -1,7 +1,7 @@
 // What every caller gets of every file on a day, as the desk says; and how that is said and saved.
 import { shownName } from "./names.js";
 import { Refused, element, explained, meaning } from "./shared.js";
-import { AUDIENCES, today } from "./staff.words.js";
+import { AUDIENCES, today, whenWords } from "./staff.words.js";
 import { readTable } from "./stream.js";
 import { titleOf } from "./titles.js";
 
@@ -79,7 +79,7 @@ export function byWhichRules(day) {
 
 export const onDay = (day) => `on ${day}${day === today() ? "" : `, ${byWhichRules(day)}`}`;
 
-export const askedWords = ({ moment: at }) => `The desk was asked on ${at.slice(0, 10)} at ${at.slice(11, 19)} UTC.`;
+export const askedWords = ({ moment }) => `The desk was asked ${whenWords(moment)}.`;
 export const UNSAID = "It does not say who has read or copied a file, nor what stands on other days.";
 export const SAVED_HEADS = [
   ...["day", "by which rules", "asked at", "audience", "they may", "because", "rule", "rule in words"],

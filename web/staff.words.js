@@ -60,9 +60,7 @@ export const SELECTORS = {
 const NUMBER = { pattern: "[1-9][0-9]{0,5}", title: "a number from 1 to 999999", inputMode: "numeric", size: 7 };
 const DAY = { pattern: "[0-9]{4}-[0-9]{2}-[0-9]{2}", placeholder: "2026-01-31", title: "as in 2026-01-31", size: 11 };
 export const LIMITS = {
-  deed: NUMBER,
-  accession: NUMBER,
-  scope: NUMBER,
+  ...{ deed: NUMBER, accession: NUMBER, scope: NUMBER },
   rank: { ...NUMBER, pattern: "[1-9][0-9]{0,3}", title: "a number from 1 to 9999" },
   ...Object.fromEntries(["signed", "from", "until", "day", "before"].map((name) => [name, DAY])),
   digest: { pattern: "[0-9A-Fa-f]{64}", title: "64 hexadecimal digits" },
@@ -149,14 +147,20 @@ export function dayAfter(day, days) {
 // The month before another, as in 2026-01.
 export const monthBefore = (month) => dayAfter(`${month}-01`, -1).slice(0, 7);
 
-// Today by the desk's clock, in its zone, as the desk told it last; or "", and why it did not.
+// Today by the desk's clock, in its zone, as the desk told it last, and when it was asked; or "", and why it did not.
 const untold = (fault) => ({ day: "", fault });
 let told = untold();
 
 export async function askToday(signal) {
-  const said = await askObject("/staff/today", { signal }).then(({ day }) => ({ day: textOf(day) }), untold);
+  const moment = momentNow();
+  const said = await askObject("/staff/today", { signal }).then(({ day }) => ({ day: textOf(day), moment }), untold);
   if (!signal?.aborted) told = said;
 }
+
+// By which clock days of rules and of asking are, so that somebody can tell later which days these were.
+export const whenWords = (moment) => `on ${moment.slice(0, 10)} at ${moment.slice(11, 19)} UTC`;
+export const clockWords = () => `by the desk's clock, whose zone it does not tell\
+${told.day && `: ${whenWords(told.moment)} it was ${told.day} there`}`;
 
 export function today() {
   if (told.day) return told.day;

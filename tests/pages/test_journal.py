@@ -112,6 +112,8 @@ def test_journal_of_a_disk_has_the_changes_of_its_deed_and_the_names_of_files(st
     day, hour = moment(START - 7200)[:19].split("T")
     assert f"{day} {hour}" in rows[0][1] and rows[2][2][:16] == f"{day} {hour[:5]}" and rows[2][2].endswith(" UTC")
     assert "+0" not in str(rows), "two zones in one file"
+    which = staff.fill("journal", day=moment(START)[:10]).read()["stands"][1]
+    assert f"of {moment(START)[:10]} by the clock of the museum's machine (UTC+02:00), without" in which
 
 def many(count, first=0, begun=START):
     """The changes of so many deeds, each with two lines."""

@@ -190,7 +190,8 @@ def test_files_ticked_by_their_shown_names_are_taken_down_and_what_stands_after_
     heads, *rows = saved_table(disk, "disk-1002-report-of", "Save the report")
     assert [row[2:8] for row in rows] == due and "of each. It does not say what stands since. Whoever" in rows[0][1]
     assert "desk-visits.log on the museum's machine says for 14" in rows[0][1], "who fetched them before is not said"
-    assert heads[1].endswith("by the desk's clock, in its zone)"), "in nobody's zone"
+    clock = f"by the desk's clock, whose zone it does not tell: on {TODAY} at 12:"
+    assert f"asking: {clock}" in heads[1] and heads[1].endswith(f" UTC it was {TODAY} there)"), "in nobody's zone"
     words = "slot (the file's place on its disk, counted from 0)", "rank (a place in the order of rules, lowest first)"
     assert (heads[3], heads[5]) == words and f"(OPERATING, Logs). {asked}" in rows[0][1]
     assert "(an apostrophe at the beginning of a cell, before =, +, - or @, is not part of its text; mom" in heads[1]

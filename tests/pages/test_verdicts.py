@@ -115,7 +115,8 @@ def test_today_is_the_day_of_the_desk_in_whatever_zone_the_browser_is(museum, st
         heads, *rows = saved_table([staff, staff.go("disk/1004")][0], f"disk-1004-{day}-asked", "Save who gets what as")
         assert staff.texts("#disk h2")[0] == f"Who gets what on {day}", "the day of the computer"
         assert {row[2] for row in rows} == {day} and (rows[0][6] == "read it") == is_open, "another day in the file"
-        assert heads[1].endswith("days of rules and of asking: by the desk's clock, in its zone)")
+        assert all(text.endswith(f" UTC it was {day} there)") for text in heads[1:2]), "a day that nobody can resolve"
+        assert f"whose zone it does not tell: on {TODAY} at 12:" in heads[1] and f"it was {day} there. A ch" in rows[0][1]
         assert staff.go("eyes") and f"gets on {day}." in staff.push("Look")["result"][0]
         assert staff.go("timeline") and staff.push("Look at")["result"] == [f"Read: {day}."]
         assert staff.go("takedowns") and f"Today, {day}" in staff.take_down("1002", "", "2", "public")["sure"]
@@ -192,8 +193,9 @@ def test_day_that_is_over_has_in_each_row_what_the_journal_knows_to_have_come_la
              for at, (when, *what) in enumerate(came)]
     no = "not before in the journal, back to 2026-04-01 08:00:00+00:00"
     says = "then the journal, back to 2026-05-04 08:00:00+00:00, does not say; put on"
-    wanted = [f"not yet here on that day: put only on 2026-05-04, {no}; {took} put only on 2026-05-05, {no}",
-              f"whether it was here {says} 2026-05-04; whether {took} stood {says} 2026-05-05"]
+    put, closed = (f"2026-05-0{at} 08:00:00+00:00" for at in (4, 5))
+    wanted = [f"not yet here on that day: put only on {put}, {no}; {took} put only on {closed}, {no}",
+              f"whether it was here {says} {put}; whether {took} stood {says} {closed}"]
     for begin, words in enumerate(wanted):
         staff.door.journals = {"/journal": b"".join(lines[begin:])}
         shown = look(staff, "2026-05-02", closed=True, words="1002")
