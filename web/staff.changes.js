@@ -89,10 +89,8 @@ export function outcomeWords(change) {
   return status === "begun" ? UNKNOWN : `${UNKNOWN} (${status})`;
 }
 
-// A name or a reason as it was typed; a moment with a blank in it; and that of a change by the clock of the machine.
+// A name or a reason as it was typed.
 const typed = (text) => tried(() => decodeURIComponent(text), text);
-export const spaced = (moment) => moment.replace("T", " ");
-export const timeOf = ({ moment }) => spaced(moment.slice(0, 19));
 
 // All changes that were read, from lines in any order.
 export class AllChanges {

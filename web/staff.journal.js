@@ -1,13 +1,13 @@
 // The journal: who changed what, when and why, and what became of it.
 import { longTable } from "./lists.js";
 import { Refused, askObject, cell, counted, element, grouped, part, refusal, row } from "./shared.js";
-import { AllChanges, UNKNOWN, changeWords, isUnknown, outcomeWords, spaced, timeOf } from "./staff.changes.js";
+import { AllChanges, UNKNOWN, changeWords, isUnknown, outcomeWords } from "./staff.changes.js";
 import { dated, formOf, show, work } from "./staff.desk.js";
 import { Lines, MONTHS, MOST, PIECE } from "./staff.lines.js";
 import { limitFields } from "./staff.ruleform.js";
 import { forgetSaved, saveTable, saver } from "./staff.saved.js";
 import { isNoDisk, namesOf, verdictsOf } from "./staff.verdicts.js";
-import { momentNow } from "./staff.words.js";
+import { inUtc, momentNow } from "./staff.words.js";
 import { withTitle } from "./titles.js";
 
 export const COLUMNS = ["When", "Who", "What", "Outcome", "Reason"];
@@ -73,7 +73,7 @@ const namesFor = ({ accession }, { names }) =>
 // The row of a change; `of` is the disk for which it is shown, if any.
 export function changeRow(change, of) {
   const words = `${isOfDeed(change, of) ? "Of its deed: " : ""}${changeWords(change, namesFor(change, of))}`;
-  const [when, who] = [cell("When", timeOf(change), "day"), cell("Who", change.name, "words")];
+  const [when, who] = [cell("When", change.moment.replace("T", " "), "day"), cell("Who", change.name, "words")];
   const what = cell("What", withTitle(dated("span", words), Number(change.accession)), "words");
   const outcome = cell("Outcome", outcomeWords(change), isUnknown(change) ? "warning" : "");
   return row([when, who, what, outcome, cell("Reason", change.reason, "words")]);
@@ -82,7 +82,7 @@ export function changeRow(change, of) {
 // How far the page has read, and what it could not read.
 function summary() {
   const unknown = changes.filter(isUnknown).length;
-  const [first, last] = [read.oldest, changes[0]?.moment ?? read.oldest].map(spaced);
+  const [first, last] = [read.oldest, changes[0]?.moment ?? read.oldest].map((moment) => inUtc(moment));
   const texts = [`${counted(changes.length, "change")} read${first && `, from ${first} to ${last}`}`];
   const older = "older lines, if any, were not read: they may say that a change replaced something";
   texts.push(lines.isWhole ? "there are no older lines" : older);
@@ -154,17 +154,17 @@ const HEADS = ["moment", "name", "reason", "of", "what", "outcome", "method", "p
 function savedRecord(change) {
   const { moment, name, reason, method, path, status, body } = change;
   const words = [ofWords(change), changeWords(change, namesFor(change, disk)), outcomeWords(change)];
-  return [moment, name, reason, ...words, method, path, status, body];
+  return [inUtc(moment), name, reason, ...words, method, path, status, body];
 }
 
 // Saves what is shown as a table for a spreadsheet.
 async function saveShown() {
   await draw();
   const { shown, which } = found(formOf("journal").elements);
-  const [since, of] = [changes.at(-1)?.moment.slice(0, 10), disk.accession && `-of-disk-${disk.accession}`];
+  const [since, of] = [inUtc(read.oldest).slice(0, 10), disk.accession && `-of-disk-${disk.accession}`];
   const counts = `${shown.length}-of-${changes.length}-changes`;
   const name = `journal${of}-${counts}${since ? `-back-to-${since}` : ""}-asked`;
-  const about = `The journal, read at ${readAt}: ${summary()} Here: ${which}. ${UNSAID}`;
+  const about = `The journal, read at ${inUtc(readAt)}: ${summary()} Here: ${which}. ${UNSAID}`;
   return saveTable(name, readAt, about, HEADS, shown, savedRecord);
 }
 

@@ -1,8 +1,8 @@
 // The lines of the journal, from its end: what is written now comes in pieces, each older month comes as one file.
 import { Refused, ask, fields, loaded } from "./shared.js";
-import { AllChanges, spaced } from "./staff.changes.js";
+import { AllChanges } from "./staff.changes.js";
 import { breather } from "./stream.js";
-import { dayAfter, momentNow, monthBefore } from "./staff.words.js";
+import { dayAfter, inUtc, momentNow, monthBefore } from "./staff.words.js";
 
 // How many bytes come at a time, and how many months the page looks back for a file.
 export const PIECE = 4 << 20;
@@ -99,5 +99,5 @@ export async function readBack(isEnough, tools) {
   while (!isEnough?.(read.inOrder()) && !lines.isWhole && read.byId.size < MOST) {
     await lines.readOlder((line) => read.take(line), () => read.oldest, tools);
   }
-  return { changes: read.inOrder(), reach: spaced(read.oldest), isWhole: lines.isWhole };
+  return { changes: read.inOrder(), reach: inUtc(read.oldest), isWhole: lines.isWhole };
 }

@@ -3,7 +3,7 @@ import { longTable } from "./lists.js";
 import { Refused, box, button, cell, counted, element, explainRefusal, refusalName, row } from "./shared.js";
 import { ANY_NAME, change, dated, diskCell, isUnsure, keepReason, older, paragraph, whoNow } from "./staff.desk.js";
 import { saveTable, saver } from "./staff.saved.js";
-import { VISITS, askToday, momentNow } from "./staff.words.js";
+import { VISITS, askToday, inUtc, momentNow } from "./staff.words.js";
 
 const DONE = "done";
 const isTakedown = ({ word }) => word === "takedown";
@@ -33,7 +33,7 @@ export async function sendMany(run, { progress, signal }) {
   for (const [at, item] of left.entries()) {
     if (signal.aborted) break;
     progress("Sending", at, left.length);
-    item.who = [...Object.values(whoNow()), momentNow()];
+    item.who = [...Object.values(whoNow()), inUtc(momentNow())];
     const fault = await run.one(item).then(() => null, (came) => came);
     item.outcome = fault === null ? DONE : outcomeWords(fault);
     run.shown?.(item);

@@ -1,11 +1,11 @@
 // Who put what stands, when and why, as the journal says; and what it says of a day that is over.
 import { Refused, counted, meaning } from "./shared.js";
-import { UNKNOWN, bodyOf, changeWords, isUnknown, ruleOfBody, spaced, tried } from "./staff.changes.js";
+import { UNKNOWN, bodyOf, changeWords, isUnknown, ruleOfBody, tried } from "./staff.changes.js";
 import { held, readHeld, standing } from "./staff.desk.js";
 import { isFor } from "./staff.forecast.js";
 import { readBack } from "./staff.lines.js";
 import { COLUMNS, EFFECT_AT, effectOf, fileOf, given } from "./staff.verdicts.js";
-import { RULES, dayAfter, listed, quoted, ruleWords } from "./staff.words.js";
+import { RULES, dayAfter, inUtc, listed, quoted, ruleWords } from "./staff.words.js";
 import { keeper } from "./stream.js";
 
 // What stands: a word for it, the place of the changes that put it, and whether the body of one says what stands.
@@ -34,7 +34,7 @@ function originOf(one, places) {
   return { put: same.findLast(({ status }) => status === "200") ?? same[0] ?? null, before: found[other] ?? null };
 }
 
-const whoWords = ({ moment, name }) => `${spaced(moment)} by ${name ? quoted(name) : "nobody who is named"}`;
+const whoWords = ({ moment, name }) => `${inUtc(moment)} by ${name ? quoted(name) : "nobody who is named"}`;
 const byWords = (change, { reason } = change) => `${whoWords(change)}${reason && `: ${quoted(reason)}`}`;
 
 function originWords({ word }, { put, before }, { reach, isWhole }) {
@@ -158,8 +158,8 @@ export function sinceWords(things, record, audience, { changes, isWhole, asked }
 
 // What is not known to have been so on a day that is over: words for a disk or a rule that stands; "" where it was so.
 function pastWords(name, { put, before }, { day, reach, isFar }) {
-  const [since, isDisk, back] = [spaced(put?.moment ?? ""), name === "", reach ? `back to ${reach}` : "which is empty"];
-  if (put ? since.slice(0, 10) <= day : isFar) return "";
+  const [since, isDisk, back] = [inUtc(put?.moment), name === "", reach ? `back to ${reach}` : "which is empty"];
+  if (put ? put.moment.slice(0, 10) <= day : isFar) return "";
   const only = `${isDisk ? "not yet here on that day:" : name} put only on ${since}`;
   if (put && before) return only;
   if (put && isFar) return `${only}, not before in the journal, ${back}`;

@@ -9,17 +9,11 @@ import { inParts, save } from "./stream.js";
 const clocks = () => `this table (an apostrophe at the beginning of a cell, before =, +, - or @, is not part of its \
 text; moments: in UTC, of the journal by the museum's machine, of asking by the computer that saved this; days of \
 rules and of asking: ${clockWords()})`;
-// Columns of what people typed or sent, which stays as it is; in all others each moment is in UTC.
-const TYPED = ["name", "reason", "path", "body"];
-const MOMENT = /[0-9]{4}(?:-[0-9]{2}){2}[T ](?:[0-9]{2}:){2}[0-9]{2}[+-][0-9]{2}:[0-9]{2}/g;
-const utc = (moment) => new Date(moment.replace(" ", "T")).toISOString().replace("T", " ").replace(".000Z", " UTC");
-const inUtc = (text) => String(text ?? "").replace(MOMENT, utc);
 
 export async function saveTable(name, moment, about, heads, items, recordOf) {
-  const said = [holder() || "(the museum's name was not found)", inUtc(about)];
-  const recordIn = (one) => recordOf(one).map((text, at) => (TYPED.includes(heads[at]) ? text : inUtc(text)));
+  const said = [holder() || "(the museum's name was not found)", about];
   const texts = [csvText([["museum", clocks(), ...heads.map(explainedHead)], ...(items.length ? [] : [said])])];
-  await inParts(items, (some) => texts.push(csvText(some.map((one) => [...said, ...recordIn(one)]))));
+  await inParts(items, (some) => texts.push(csvText(some.map((one) => [...said, ...recordOf(one)]))));
   const file = `${name}-${moment.slice(0, 19).replaceAll(":", "")}Z.csv`;
   save(file, texts, "text/csv");
   return file;

@@ -7,7 +7,8 @@ import { Changes, dayParts } from "./staff.rehearsal.js";
 import { limitFields } from "./staff.ruleform.js";
 import { saveTable, saver } from "./staff.saved.js";
 import { COLUMNS, askedWords, effectOf, onDay, readVerdicts } from "./staff.verdicts.js";
-import { AUDIENCES, RULES, dayAfter, isDay, isOnNoDay, momentNow, standingWords, today } from "./staff.words.js";
+import { AUDIENCES, RULES, dayAfter, inUtc, isDay, isOnNoDay, momentNow } from "./staff.words.js";
+import { standingWords, today } from "./staff.words.js";
 import { keeper } from "./stream.js";
 
 // How many days the bars show before today and after the last change, and how far from today that one may be.
@@ -81,7 +82,7 @@ and may decide before these. It does not say since when a rule stands, nor who g
 sees what do.`;
   const recordOf = ({ name, scope, rule, next }) => {
     const words = [`${RULES[name].letter}${scope}.${rule.rank}`, RULES[name].words(scope, rule.rank)];
-    return [day, moment, ...words, standingWords(rule), rule.from, rule.until, next];
+    return [day, inUtc(moment), ...words, standingWords(rule), rule.from, rule.until, next];
   };
   const heads = ["day of asking", "asked at", "rule", "rule in words", "what it does", "from", "until", "next change"];
   return saveTable(`timeline-${lines.length}-rules-${day}-asked`, moment, about, heads, lines, recordOf);

@@ -1,7 +1,7 @@
 // What every caller gets of every file on a day, as the desk says; and how that is said and saved.
 import { shownName } from "./names.js";
 import { Refused, element, explained, meaning } from "./shared.js";
-import { AUDIENCES, today, whenWords } from "./staff.words.js";
+import { AUDIENCES, inUtc, today, whenWords } from "./staff.words.js";
 import { readTable } from "./stream.js";
 import { titleOf } from "./titles.js";
 
@@ -92,7 +92,7 @@ export function savedVerdict(record, audience, asked) {
   const [label, accession] = [record[EFFECT_AT[audience] + 1], record[COLUMNS.accession]];
   const words = [MAY[effectOf(record, audience)], because(record, audience, asked), label, ruleMeaning(label)];
   return [
-    ...[day, rules, moment, AUDIENCES[audience], ...words, accession, titleOf(Number(accession))],
+    ...[day, rules, inUtc(moment), AUDIENCES[audience], ...words, accession, titleOf(Number(accession))],
     ...[...record.slice(COLUMNS.deed, COLUMNS.type), nameOf(record), ...record.slice(COLUMNS.type, COLUMNS.faults + 1)],
   ];
 }

@@ -134,8 +134,10 @@ for 14 days only: keep a copy if you need it (OPERATING, Logs).`;
 export const PUT = "Put when, by whom, and why";
 export const UNREAD = "not looked for in the journal";
 
-// This moment, to the second, with its time zone.
+// This moment, to the second, with its time zone; and a moment of any zone in UTC, where it is one.
 export const momentNow = () => `${new Date().toISOString().slice(0, 19)}+00:00`;
+export const inUtc = (moment, at = new Date(moment)) =>
+  Number.isNaN(at.getTime()) ? moment : `${at.toISOString().slice(0, 19).replace("T", " ")} UTC`;
 
 // A day some days after another, both as texts. A year may have fewer than four digits.
 export function dayAfter(day, days) {

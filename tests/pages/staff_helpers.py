@@ -42,7 +42,7 @@ def saved_table(page, name, button="Save what is shown as CSV"):
 def moment(at):
     return datetime.datetime.fromtimestamp(at, datetime.timezone.utc).strftime("%Y-%m-%dT%H:%M:%S+00:00")
 
-in_utc = lambda text: text.replace("+00:00", " UTC")
+in_utc = lambda at: moment(at).replace("T", " ").replace("+00:00", " UTC")
 
 def is_said_saved(page):
     return "Saved: " in "".join(page.texts("[role=status]"))

@@ -2,7 +2,7 @@
 
 import threading
 
-from staff_helpers import CANNOT_REACH, is_said_saved, journal_lines, moment, saved_table
+from staff_helpers import CANNOT_REACH, in_utc, is_said_saved, journal_lines, moment, saved_table
 from support.browser import LIMIT, TODAY
 from support.museums import HARMFUL
 from support.samples import digest, refused
@@ -40,7 +40,7 @@ time_of = lambda number: moment(START + 60 * number + (0.5 if CHANGES[number][0]
 
 def rows_of(*numbers):
     """The rows of some changes, from the newest on."""
-    return [[time_of(number), *CHANGES[number][2].split("|")] for number in sorted(numbers, reverse=True)]
+    return [[f"{time_of(number)}+00:00", *CHANGES[number][2].split("|")] for number in sorted(numbers, reverse=True)]
 
 def read(staff, journal, older=None, place="journal"):
     """Opens the journal with these files: what is written now, and what was rotated away."""
@@ -55,7 +55,7 @@ def asked(staff):
 
 def test_changes_stand_with_who_what_outcome_and_reason(staff):
     shown = read(staff, JOURNAL)
-    summary = f"11 changes read, from {time_of(0)}+00:00 to {time_of(10)}+00:00; older lines, if any, were not read: "
+    summary = f"11 changes read, from {time_of(0)} UTC to {time_of(10)} UTC; older lines, if any, were not read: "
     summary += f"{MAY_REPLACE} Of 3 {UNKNOWN}, or it has not ended yet. 1 line cannot be read."
     assert shown["stands"] == [summary, "Shown: 10 changes of these, without checks of disks."]
     assert (shown["result"], shown["rows"]) == (["Read: 11 changes."], rows_of(0, 1, 2, 3, 4, 6, 7, 8, 9, 10))
@@ -128,7 +128,7 @@ def test_long_journal_is_read_in_pieces_and_then_month_by_month(staff):
     for until in range(len(data) - PIECE, 0, -PIECE):
         shown = staff.push("Read what is older")
         assert asked(staff) == [("/journal", f"bytes={max(0, until - PIECE)}-{until - 1}")]
-    back = f"from {time_of(0)}+00:00 to {moment(START + 6999.5).replace('T', ' ')}; "
+    back = f"from {time_of(0)} UTC to {in_utc(START + 6999.5)}; "
     back += f"older lines, if any, were not read: {MAY_REPLACE}"
     assert shown["stands"] == [f"7,000 changes read, {back}", "Shown: 7,000 changes of these, without checks of disks."]
     months = ["/journal-2027-01", *(f"/journal-{2026 - at // 12}-{12 - at % 12:02}" for at in range(120))]

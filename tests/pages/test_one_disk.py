@@ -1,13 +1,13 @@
 """One disk on one page: what it is, who gets what by which rules, who put these; takedowns of ticked files."""
 
 import pytest
-from staff_helpers import CANNOT_REACH, in_utc, is_said_saved, journal_lines, lost_at, moment, saved_table, takedown
+from staff_helpers import CANNOT_REACH, in_utc, is_said_saved, journal_lines, lost_at, saved_table, takedown
 from support import museums
 from support.browser import TODAY, wait_for
 from support.samples import DONOR_OF_9, refused
 
 START, ALL = 1_700_000_000, "the public, the reading room and the staff, until further notice"
-when = lambda far: moment(START + far).replace("T", " ")
+when = lambda far: in_utc(START + far)
 FAR = f"in the journal, back to {when(0)}"
 NOT, NOTHING = (f"{word} {FAR}, where it begins" for word in ("not", "nothing"))
 READ = '{"audiences":["room","public","staff"],"select":{"all":true},"effect":"read"}'
@@ -17,7 +17,7 @@ LISTS = f"see its name, not read it (the desk gives out no file of type DEL) {BY
 SHUT = "see only that a closed file is there, not its name"
 CLOSED = f"{SHUT} takedown {{}} of disk 1002 {UNKNOWN}"
 ALWAYS = "closed to the public and the reading room, until further notice"
-SLY = "18;%20in%20its%20place%20before:%20%E2%80%9Cnothing%E2%80%9D"
+SLY = "2026-06-01%2010:00:00+02:00;%20in%20its%20place%20before:%20%E2%80%9Cnothing%E2%80%9D"
 TAKEN_IN = f"/accessions/1002/d64/9/{'0' * 64}"
 BY = f"This rule was put {when(0.5)} by “Ada”: “a letter”; in its place before: "
 TABLE = """Of disks that the journal does not have the page cannot tell: the store has the SHA-256 of each, in the \
@@ -58,12 +58,12 @@ def test_disk_says_what_it_is_and_who_gets_what_by_which_rule(museum, disk):
     keys = "day", "audience", "they may", "rule", "what the rule says", PUT, "since when", "name as shown", "size"
     said, file = f"the file at slot 2 (GUIDE) {ALWAYS}", [UNKNOWN, "GUIDE", "532"]
     assert [[dict(zip(heads, one))[key] for key in keys] for one in rows[6:9:2]] == [
-        [TODAY, "the public", SHUT, "T1002.1000", said, in_utc(NOT), *file],
-        [TODAY, "the staff", "read it", "R9.20", f"all files readable for {ALL}", in_utc(BY + NOTHING), *file]]
+        [TODAY, "the public", SHUT, "T1002.1000", said, NOT, *file],
+        [TODAY, "the staff", "read it", "R9.20", f"all files readable for {ALL}", BY + NOTHING, *file]]
     assert "A name behind a slot is that of the disk as it was when the desk was asked." in rows[0][1]
     assert "as the page reckons from the changes that it read and the days" in rows[0][1], "as if it had read all"
-    assert f"{in_utc(NOT)}; its SHA-256: not known from the journal. It has all" in rows[0][1]
-    far = in_utc(f"is not known: the journal, back to {when(0)}, does not have the SHA-256. {TABLE}")
+    assert f"{NOT}; its SHA-256: not known from the journal. It has all" in rows[0][1]
+    far = f"is not known: the journal, back to {when(0)}, does not have the SHA-256. {TABLE}"
     assert f"Which other disks have the bytes of disk 1002 {far}" in rows[0][1], "as if there were none"
     disk.door.journals["/journal"] += journal_lines(2, START - 9, "200", "PUT", TAKEN_IN)
     assert disk.go("disk/1002") and not is_said_saved(disk), "a file speaks for what is shown since"
@@ -75,10 +75,10 @@ def test_rule_says_what_was_there_before_it_or_how_far_the_journal_is_read_or_th
     disk.door.journals["/journal"] += journal_lines(2, START, "200", "PUT", TAKEN_IN)
     assert disk.load() and disk.begin().go("disk/1002")["rows"][3][5] == BY + NOTHING
     disk.door.journals["/journal"] += journal_lines(3, START - 9, "200", "DELETE", "/deeds/9/rules/20", "Bob", SLY)
-    by = f"{BY}Drop rule 20 of deed 9, {when(-8.5)} by “Bob”: “18; in its place before: “nothing””"
+    by = f"{BY}Drop rule 20 of deed 9, {when(-8.5)} by “Bob”: “2026-06-01 10:00:00+02:00; in its place before: “nothing””"
     assert disk.go("disk/1002")["rows"][3][5] == by, "what somebody typed reads as words of the page"
     _, *rows = saved_table(disk, f"disk-1002-{TODAY}-asked", "Save who gets what as CSV")
-    assert in_utc(by) in rows[0], "what somebody typed reads as words of the page in what is saved"
+    assert by in rows[0], "what somebody typed reads otherwise in what is saved"
     for reply in (b"", refused(500, "X")):
         disk.door.before = lambda _, path: reply if path == "/journal" else None
         unread = [row[5] for row in disk.go("disk/1002")["rows"]][:4:3]
@@ -211,7 +211,7 @@ def test_other_disks_with_the_same_bytes_are_named_and_who_may_read_how_much_of_
     items = [one for one in disk.texts("#disk li") if one.startswith("disk ")]
     assert [items[0], items[1].partition(": of ")[0], items[2]] == [due[0], due[1].partition(": of ")[0], due[2]]
     assert disk.script(LINKS) == ["#/disk/77", "#/disk/1004", "#/disk/1005"], "no way to the other disks"
-    also = in_utc(f"As the journal, back to {when(0)}, has it, the same bytes are also on 3 other disks; on {TODAY}:")
+    also = f"As the journal, back to {when(0)}, has it, the same bytes are also on 3 other disks; on {TODAY}:"
     _, *rows = saved_table(disk, f"disk-1002-{TODAY}-asked", "Save who gets what as CSV")
     assert f"{also} {'; '.join(items)}. The desk was asked on {TODAY} at 12:" in rows[0][1]
     assert f" UTC. {TABLE}" in rows[0][1]

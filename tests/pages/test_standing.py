@@ -1,6 +1,6 @@
 """What stands at the desk: deeds, rules, takedowns, keys, checks. Each is put, changed, dropped, and read anew then."""
 
-from staff_helpers import OLDER, journal_lines, lost_at, moment, put_deed
+from staff_helpers import OLDER, in_utc, journal_lines, lost_at, put_deed
 from support import museums
 from support.browser import TODAY, wait_for
 from support.samples import digest
@@ -12,7 +12,7 @@ START, NOBODY = 1_800_000_000, "Nobody can use it any more."
 # A script: the index that each row of the list has for a screen reader, and its number.
 ROWS = """return Array.from(document.querySelectorAll("#checks tbody tr:not(.space)"),
   (row) => [Number(row.ariaRowIndex), Number(row.cells[0].textContent)]);"""
-NOT = f"not in the journal, back to {moment(START).replace('T', ' ')}, where it begins"
+NOT = f"not in the journal, back to {in_utc(START)}, where it begins"
 
 def test_deed_is_put_with_name_and_reason(staff):
     """They go as percent-encoded UTF-8, which may have 1,000 bytes. Without one of them nothing is sent."""
@@ -125,7 +125,7 @@ def test_key_is_put_given_away_and_dropped(museum, staff):
     assert staff.of_row(f"key {STAFF}", "Give it to the reading room")["result"] == words
 
 def test_key_says_who_put_it_when_and_why_as_the_journal_has_it(staff):
-    key, at = f"/badges/{digest(b'hello')}", moment(START + 0.5).replace("T", " ")
+    key, at = f"/badges/{digest(b'hello')}", in_utc(START + 0.5)
     by = f"This key was put {at} by “Ada”: “a letter”; in its place before: {NOT.replace('not', 'nothing', 1)}"
     for later, words in [((), by), (("200", "PUT", '{"audience":"staff"}'), NOT), (("200", "DELETE", ""), NOT),
                          (("404", "DELETE", ""), by), (("502", "DELETE", ""), by), (("502", "PUT", "["), by),

@@ -191,9 +191,9 @@ def test_day_that_is_over_has_in_each_row_what_the_journal_knows_to_have_come_la
             ("2026-05-05", "/images/1002/rules/1", "", "", slot)]
     lines = [journal_lines(at, day(f"{when}T08:00:00+00:00").timestamp(), "200", "PUT", *what)
              for at, (when, *what) in enumerate(came)]
-    no = "not before in the journal, back to 2026-04-01 08:00:00+00:00"
-    says = "then the journal, back to 2026-05-04 08:00:00+00:00, does not say; put on"
-    put, closed = (f"2026-05-0{at} 08:00:00+00:00" for at in (4, 5))
+    no = "not before in the journal, back to 2026-04-01 08:00:00 UTC"
+    says = "then the journal, back to 2026-05-04 08:00:00 UTC, does not say; put on"
+    put, closed = (f"2026-05-0{at} 08:00:00 UTC" for at in (4, 5))
     wanted = [f"not yet here on that day: put only on {put}, {no}; {took} put only on {closed}, {no}",
               f"whether it was here {says} {put}; whether {took} stood {says} {closed}"]
     for begin, words in enumerate(wanted):
@@ -229,7 +229,7 @@ def test_timeline_has_the_next_change_first_and_says_what_is_other_on_each_day(m
         assert (heading, public) == (due, words)
         assert more == [f"What is other than today, {TODAY}", *turns]
     put = journal_lines(1, 1781078400, "200", "PUT", "/deeds/9/rules/4", "Ada", "a%20letter")
-    says = ". Since then it has: Put rule 4 of deed 9, 2026-06-10 08:00:00+00:00 by “Ada”: “a letter”"
+    says = ". Since then it has: Put rule 4 of deed 9, 2026-06-10 08:00:00 UTC by “Ada”: “a letter”"
     for lines, words in [({"/journal": put}, f", the journal says{says}"), ({}, " is not known: there is no journal")]:
         staff.door.journals = lines
         staff.fill("timeline", day="2026-06-09").push("Look at this day")
