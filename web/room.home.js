@@ -7,12 +7,9 @@ import { box, counted, element, kindWords, loaded, own, part } from "./shared.js
 import { noteOf } from "./titles.js";
 
 const [PAGE, MOST_MATCHES, MOST_TYPES] = [48, 5, 9];
-// Of up to so many disks that were found the page asks which files are closed.
-const FEW = 6;
-// Up to so many disks the list of all files is read at once, and else when somebody looks for something.
-const SMALL = 500;
-// How long the page waits for the next letter, in milliseconds.
-const PAUSE = 250;
+// Of how many disks that were found the page asks which files are closed, and up to how many it reads the list of all
+// files before somebody looks for something; and how long it waits for the next letter, in milliseconds.
+const [FEW, SMALL, PAUSE] = [6, 500, 250];
 const HAS_ROOM = matchMedia("(min-width: 60rem)");
 HAS_ROOM.addEventListener("change", () => part("choices")?.toggleAttribute("open", HAS_ROOM.matches));
 const SORTS = { title: "Title", number: "Number", files: "Most files" };

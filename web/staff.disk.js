@@ -4,7 +4,6 @@ import { askObject, box, button, cell, counted, element, grouped, part, row, tab
 import { checkWords, checked, surveyed } from "./staff.checks.js";
 import { ANY_NAME, change, dated, formOf, readHeld, rulesOf, showsAnew } from "./staff.desk.js";
 import { COLUMNS as CHANGES, changeRow } from "./staff.journal.js";
-import { audienceCounts } from "./staff.forecast.js";
 import { SINCE, originsOf, sinceWords, standingDisk, standingRule } from "./staff.origins.js";
 import { placeOf } from "./staff.ranks.js";
 import { decidedWords, rehearsalDays, rehearsed, saveFirst } from "./staff.rehearsal.js";
@@ -12,14 +11,14 @@ import { makeRuleForm, ruleIn } from "./staff.ruleform.js";
 import { putMany } from "./staff.rules.js";
 import { sameBox, sameBytes, sameWords } from "./staff.same.js";
 import { forgetSaved, saveTable, saver } from "./staff.saved.js";
-import { COLUMNS, EFFECT_AT, SAVED_HEADS, UNSAID, askedWords, byWhichRules, effectOf } from "./staff.verdicts.js";
-import { mayWords, nameOf, namesOf, ruleShown, savedVerdict, verdictsOf } from "./staff.verdicts.js";
+import { COLUMNS, EFFECT_AT, SAVED_HEADS, UNSAID, askedWords, audienceCounts, byWhichRules } from "./staff.verdicts.js";
+import { effectOf, mayWords, nameOf, namesOf, ruleShown, savedVerdict, verdictsOf } from "./staff.verdicts.js";
 import { AUDIENCES, PUT, RULES, UNREAD, askToday, clockWords, listed, momentNow } from "./staff.words.js";
 import { ruleTexts, ruleWords, signedWords, today } from "./staff.words.js";
 import { noteOf, titleOf } from "./titles.js";
 
-// How many changes of the journal are shown at most.
-const MOST_CHANGES = 20;
+// How many changes of the journal are shown at most; and how many later days on which rules begin or end are asked for.
+const [MOST_CHANGES, MOST_LATER] = [20, 20];
 const daysSaid = () => `A day of a rule begins at midnight ${clockWords()}. A change holds from the moment at which it \
 is put, not before, whatever its days. A name behind a slot is that of the disk as it was when the desk was asked.`;
 
@@ -37,6 +36,7 @@ async function readDisk(accession, tools, show = showDisk) {
   show(disk);
   disk.files = await verdictsOf(survey, asked.day, tools);
   disk.names = namesOf(disk.files);
+  disk.later = await readLater(disk, tools);
   show(disk);
   const { told, journal: { changes, ...journal } } = await originsOf(things, tools, true);
   things.forEach((thing, at) => Object.assign(thing, told[at]));
@@ -66,9 +66,24 @@ function decidingRules({ accession, deed }) {
   return [...of("takedowns", accession), ...of("rules", deed)];
 }
 
-// Each file with each audience, in the order in which they are shown.
+// What the desk says of a disk on the later days on which its rules begin or end, by the rules of today.
+async function readLater({ survey, things, asked }, tools) {
+  const turns = things.flatMap(({ rule }) => [rule?.from, rule?.until]).filter((day) => day > asked.day);
+  const [days, later] = [[...new Set(turns)].sort().slice(0, MOST_LATER), []];
+  for (const day of days) later.push({ day, files: await verdictsOf(survey, day, tools) });
+  return later;
+}
+
+// Until when a file, by its place among them, is to an audience as it is, by the rules of today; and what comes then.
+function untilWords({ files, later }, at, audience) {
+  const turn = later.find(({ files: then }) => effectOf(then[at], audience) !== effectOf(files[at], audience));
+  if (turn) return `until ${turn.day}, then they may ${mayWords(turn.files[at], audience, {})}`;
+  return later.length < MOST_LATER ? "until further notice" : `at least until ${later.at(-1).day}`;
+}
+
+// Each file with each audience, and its place, in the order in which they are shown.
 const everyVerdict = ({ files }) =>
-  files.flatMap((record) => Object.keys(AUDIENCES).map((audience) => [record, audience]));
+  files.flatMap((record, at) => Object.keys(AUDIENCES).map((audience) => [record, audience, at]));
 
 // Since when a file is to an audience as it is now.
 function sinceOf(disk, record, audience) {
@@ -144,20 +159,19 @@ function drawFiles() {
 // Saves who gets what of a disk, what the rule says that decides, and who put it; gives the name of the file.
 function saveDisk(disk, more = "") {
   const { survey, things, files, names, asked } = disk;
-  const deciding = (label) => {
-    const found = things.find((one) => one.label === label);
-    return found ? [ruleWords(found.rule, names), found.origin] : ["", ""];
+  const rowOf = ([file, who, at]) => {
+    const { rule, origin = "" } = things.find(({ label }) => label === file[EFFECT_AT[who] + 1]) ?? {};
+    const said = [rule ? ruleWords(rule, names) : "", origin, sinceOf(disk, file, who), untilWords(disk, at, who)];
+    return [...savedVerdict(file, who, asked), ...said];
   };
-  const saidOf = (file, who) => [...deciding(file[EFFECT_AT[who] + 1]), sinceOf(disk, file, who)];
-  const rowOf = ([file, who]) => [...savedVerdict(file, who, asked), ...saidOf(file, who)];
   const { accession, deed } = survey;
-  const digest = disk.same?.digests.get(String(accession));
-  const known = digest ? `${digest}, as the journal has it` : "not known from the journal";
-  const came = `taken in: ${things[0].origin}; its SHA-256: ${known}`;
+  const digest = disk.same?.digests.get(String(accession)) ?? "not known";
+  const came = `taken in: ${things[0].origin}; its SHA-256, as the journal has it: ${digest}`;
   const whose = `under deed ${deed} of ${signedWords(survey)}; ${came}`;
   const all = `It has all ${counted(files.length, "file")}. ${askedWords(asked)}${more} ${sameWords(disk.same)}`;
   const about = `Who gets what of disk ${accession}, ${whose}. ${all} ${SINCE} ${daysSaid()} ${ANY_NAME} ${UNSAID}`;
   const heads = [...SAVED_HEADS, "what the rule says", PUT.toLowerCase(), "since when"];
+  heads.push("until when, by the rules of that day, as the desk says of later days");
   const name = `disk-${accession}${more && "-before-a-change"}-${asked.day}-asked`;
   return saveTable(name, asked.moment, about, heads, everyVerdict(disk), rowOf);
 }

@@ -1,7 +1,6 @@
 // What each audience gets by some rules, as this page reckons it: of a disk that is not sent yet, or earlier.
-import { grouped } from "./shared.js";
-import { given } from "./staff.verdicts.js";
-import { AUDIENCES, EFFECTS, selection } from "./staff.words.js";
+import { audienceCounts, given } from "./staff.verdicts.js";
+import { AUDIENCES, selection } from "./staff.words.js";
 
 const MATCHES = {
   all: () => true, prefix: (words, file) => file.name.startsWith(words), slot: (slot, file) => file.slot === slot,
@@ -21,16 +20,6 @@ export function forecast(files, rules, day) {
   const effectsFor = (audience) => files.map((file) => given(effectOf(file, audience), file.isServed));
   return Object.fromEntries(Object.keys(AUDIENCES).map((audience) => [audience, effectsFor(audience)]));
 }
-
-// How many files an audience may read, see listed and not see, in a sentence; and the same of each audience.
-export function countWords(audience, countOf) {
-  const [words, counts] = [AUDIENCES[audience], Object.keys(EFFECTS).map(countOf)];
-  const [read, list, deny] = counts.map(grouped);
-  return `${words[0].toUpperCase()}${words.slice(1)}: ${read} to read, ${list} only in the list, ${deny} closed.`;
-}
-
-export const audienceCounts = (countOf) =>
-  Object.keys(AUDIENCES).map((audience) => countWords(audience, (effect) => countOf(audience, effect)));
 
 export const forecastWords = (forecasts) =>
   audienceCounts((of, effect) => forecasts.flatMap((one) => one[of]).filter((one) => one === effect).length);

@@ -4,11 +4,8 @@ import { AllChanges } from "./staff.changes.js";
 import { breather } from "./stream.js";
 import { dayAfter, inUtc, momentNow, monthBefore } from "./staff.words.js";
 
-// How many bytes come at a time, and how many months the page looks back for a file.
-export const PIECE = 4 << 20;
-export const MONTHS = 120;
-// From how many changes on the page reads no more.
-export const MOST = 100000;
+// How many bytes come at a time, how many months the page looks back, and from how many changes on it reads no more.
+export const [PIECE, MONTHS, MOST] = [4 << 20, 120, 100000];
 const LINE_FEED = 10;
 
 // The months without a file of which none comes any more: they are not asked for again.

@@ -63,11 +63,7 @@ export function fillRule(form, rule) {
 // The rule that a form holds, without its rank: the body that puts it. While nobody has chosen files it selects none.
 export function ruleIn(form) {
   const { how, what, effect, from, until } = form.elements;
-  return {
-    audiences: chosenAudiences(form),
-    effect: effect.value,
-    from: from.value || null,
-    select: how.value ? { [how.value]: SELECTORS[how.value].sent(what.value) } : {},
-    until: until.value || null,
-  };
+  const select = how.value ? { [how.value]: SELECTORS[how.value].sent(what.value) } : {};
+  const [first, end] = [from.value || null, until.value || null];
+  return { audiences: chosenAudiences(form), effect: effect.value, from: first, select, until: end };
 }

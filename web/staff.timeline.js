@@ -2,11 +2,10 @@
 import { listTable } from "./lists.js";
 import { askObject, box, button, cell, element, listOf, loaded, part, row } from "./shared.js";
 import { dated, formOf, work } from "./staff.desk.js";
-import { audienceCounts } from "./staff.forecast.js";
 import { Changes, dayParts } from "./staff.rehearsal.js";
 import { limitFields } from "./staff.ruleform.js";
 import { saveTable, saver } from "./staff.saved.js";
-import { COLUMNS, askedWords, effectOf, onDay, readVerdicts } from "./staff.verdicts.js";
+import { COLUMNS, askedWords, audienceCounts, effectOf, onDay, readVerdicts } from "./staff.verdicts.js";
 import { AUDIENCES, RULES, dayAfter, inUtc, isDay, isOnNoDay, momentNow } from "./staff.words.js";
 import { standingWords, today } from "./staff.words.js";
 import { keeper } from "./stream.js";

@@ -1,7 +1,7 @@
 // What every caller gets of every file on a day, as the desk says; and how that is said and saved.
 import { shownName } from "./names.js";
-import { Refused, element, explained, meaning } from "./shared.js";
-import { AUDIENCES, inUtc, today, whenWords } from "./staff.words.js";
+import { Refused, element, explained, grouped, meaning } from "./shared.js";
+import { AUDIENCES, EFFECTS, inUtc, today, whenWords } from "./staff.words.js";
 import { readTable } from "./stream.js";
 import { titleOf } from "./titles.js";
 
@@ -47,8 +47,7 @@ export function fileOf(record) {
 export const given = (effect, isServed) => (effect === "read" && !isServed ? "list" : effect);
 export const effectOf = (record, audience) => given(record[EFFECT_AT[audience]], record[COLUMNS.size] !== "");
 const MAY = {
-  read: "read it",
-  list: "see its name, not read it",
+  read: "read it", list: "see its name, not read it",
   deny: "see only that a closed file is there, not its name",
 };
 
@@ -63,6 +62,16 @@ function because(record, audience, { rules, others }) {
 
 export const mayWords = (record, audience, asked, why = because(record, audience, asked)) =>
   `${MAY[effectOf(record, audience)]}${why && ` (${why})`}`;
+
+// How many files an audience may read, see listed and not see, in a sentence; and the same of each audience.
+export function countWords(audience, countOf) {
+  const [words, counts] = [AUDIENCES[audience], Object.keys(EFFECTS).map(countOf)];
+  const [read, list, deny] = counts.map(grouped);
+  return `${words[0].toUpperCase()}${words.slice(1)}: ${read} to read, ${list} only in the list, ${deny} closed.`;
+}
+
+export const audienceCounts = (countOf) =>
+  Object.keys(AUDIENCES).map((audience) => countWords(audience, (effect) => countOf(audience, effect)));
 
 export const ruleMeaning = (label) => (label === "D0" ? "no rule matches" : meaning(label));
 

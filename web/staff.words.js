@@ -5,8 +5,7 @@ import { Refused, askObject, textOf } from "./shared.js";
 export const AUDIENCES = { public: "the public", room: "the reading room", staff: "the staff" };
 // (the desk lists no closed file, but says that one is there and by which rule, and so does the page for readers)
 export const EFFECTS = {
-  read: "read them",
-  list: "see their names, not read them",
+  read: "read them", list: "see their names, not read them",
   deny: "see only that closed files are there, not their names",
 };
 
@@ -112,11 +111,8 @@ function daysNow(rule) {
 
 // The texts of a rule that stands, by the columns of its table.
 export const ruleTexts = (rule, names) => ({
-  Rank: String(rule.rank),
-  "For whom": audienceWords(rule.audiences),
-  "Which files": filesWords(rule, names),
-  "They may": EFFECTS[rule.effect],
-  Days: daysNow(rule),
+  ...{ Rank: String(rule.rank), "For whom": audienceWords(rule.audiences) },
+  ...{ "Which files": filesWords(rule, names), "They may": EFFECTS[rule.effect], Days: daysNow(rule) },
 });
 
 export const SHORT = { read: "readable for", list: "only listed for", deny: "closed to" };

@@ -62,13 +62,19 @@ def test_disk_says_what_it_is_and_who_gets_what_by_which_rule(museum, disk):
         [TODAY, "the staff", "read it", "R9.20", f"all files readable for {ALL}", BY + NOTHING, *file]]
     assert "A name behind a slot is that of the disk as it was when the desk was asked." in rows[0][1]
     assert "as the page reckons from the changes that it read and the days" in rows[0][1], "as if it had read all"
-    assert f"{NOT}; its SHA-256: not known from the journal. It has all" in rows[0][1]
+    assert f"{NOT}; its SHA-256, as the journal has it: not known. It has all" in rows[0][1]
     far = f"is not known: the journal, back to {when(0)}, does not have the SHA-256. {TABLE}"
     assert f"Which other disks have the bytes of disk 1002 {far}" in rows[0][1], "as if there were none"
+    assert {row[-1] for row in rows} == {"until further notice"}
     disk.door.journals["/journal"] += journal_lines(2, START - 9, "200", "PUT", TAKEN_IN)
+    museum.rules["T1002"] = {5: museums.rule(5, "list", ["staff"], {"slot": 2}, "2026-07-01"),
+                             9: museums.rule(9, "deny", ["public", "room"], {"slot": 2}, None, "2027-01-01")}
     assert disk.go("disk/1002") and not is_said_saved(disk), "a file speaks for what is shown since"
     _, *rows = saved_table(disk, f"disk-1002-{TODAY}-asked", "Save who gets what as CSV")
-    assert f"; its SHA-256: {'0' * 64}, as the journal has it. It has all" in rows[0][1]
+    ends = [f"until {day}, then they may {may}"
+            for day, may in [("2027-01-01", "read it")] * 2 + [("2026-07-01", "see its name, not read it")]]
+    assert [row[-1] for row in rows[3:]] == ["until further notice"] * 3 + ends, "a day on which it ends is not said"
+    assert f"; its SHA-256, as the journal has it: {'0' * 64}. It has all" in rows[0][1]
     assert f"under deed 9 of “{DONOR_OF_9}”, signed" in rows[0][1], "a donor's name reads as words of the page"
 
 def test_rule_says_what_was_there_before_it_or_how_far_the_journal_is_read_or_that_it_is_not(disk):
