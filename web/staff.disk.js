@@ -172,7 +172,7 @@ function saveDisk(disk, more = "") {
   const about = `Who gets what of disk ${accession}, ${whose}. ${all} ${SINCE} ${daysSaid()} ${ANY_NAME} ${UNSAID}`;
   const heads = [...SAVED_HEADS, "what the rule says", PUT.toLowerCase(), "since when"];
   heads.push("until when, by the rules of that day, as the desk says of later days");
-  const name = `disk-${accession}${more && "-before-a-change"}-${asked.day}-asked`;
+  const name = `disk-${accession}${more && "-before-an-answer"}-${asked.day}-asked`;
   return saveTable(name, asked.moment, about, heads, everyVerdict(disk), rowOf);
 }
 

@@ -37,7 +37,7 @@ def test_takedowns_are_rehearsed_and_put_each_before_the_others(takedowns):
         shown = takedowns.take_down("1002", "", "2", *BOTH)
         assert (shown["hint"], shown["sure"]) == (rank, words)
         assert [at for _, at, _ in takedowns.door.visits if "/verdicts/" in at] == [f"/staff/verdicts/{TODAY}/1002"]
-        saved = saved_table(takedowns, f"disk-1002-before-a-change-{TODAY}-asked", "Save what stands now, first")
+        saved = saved_table(takedowns, f"disk-1002-before-an-answer-{TODAY}-asked", "Save what stands now, first")
         assert str(saved).count("'read it'") == 6 and "an answer to: “Put takedown 10 of disk 1002?”" in saved[1][1]
         shown = takedowns.answer(is_agreed)
         assert (shown["result"][0], len(takedowns.door.sent())) == (said, is_agreed)

@@ -102,7 +102,7 @@ def test_day_that_nobody_typed_is_today_also_where_a_page_stays_open_overnight(m
     assert night(museum) and "6 sound" in staff.push("Check all of these")["result"][0]
     assert staff.go("takedowns") and staff.take_down("1002", "", "2", "public")["sure"][3] == "Today, 2026-06-23"
     assert night(museum) and staff.push("Save what stands now, first")
-    assert staff.saved("disk-1002-before-a-change-2026-06-24-asked-*.csv"), "a question that stands open overnight"
+    assert staff.saved("disk-1002-before-an-answer-2026-06-24-asked-*.csv"), "a question that stands open overnight"
     staff.answer(False)
 
 @pytest.mark.parametrize("zone, day", [("Pacific/Kiritimati", TODAY), ("America/New_York", "2026-06-16")])
