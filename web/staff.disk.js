@@ -168,7 +168,9 @@ function saveDisk(disk, more = "") {
   const digest = disk.same?.digests.get(String(accession)) ?? "not known";
   const came = `taken in: ${things[0].origin}; its SHA-256, as the journal has it: ${digest}`;
   const whose = `under deed ${deed} of ${signedWords(survey)}; ${came}`;
-  const all = `It has all ${counted(files.length, "file")}. ${askedWords(asked)}${more} ${sameWords(disk.same)}`;
+  const looked = disk.isWhole ? ` The page looked for lines of the journal in each month back to ${disk.last}.` : "";
+  const asks = `${askedWords(asked)}${more}${looked} ${sameWords(disk.same)}`;
+  const all = `It has all ${counted(files.length, "file")}. ${asks}`;
   const about = `Who gets what of disk ${accession}, ${whose}. ${all} ${SINCE} ${daysSaid()} ${ANY_NAME} ${UNSAID}`;
   const heads = [...SAVED_HEADS, "what the rule says", PUT.toLowerCase(), "since when"];
   heads.push("until when, by the rules of that day, as the desk says of later days");

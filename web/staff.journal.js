@@ -85,7 +85,7 @@ function summary() {
   const [first, last] = [read.oldest, changes[0]?.moment ?? read.oldest].map((moment) => inUtc(moment));
   const texts = [`${counted(changes.length, "change")} read${first && `, from ${first} to ${last}`}`];
   const older = "older lines, if any, were not read: they may say that a change replaced something";
-  texts.push(lines.isWhole ? "there are no older lines" : older);
+  texts.push(lines.isWhole ? `no month back to ${lines.last} has older lines` : older);
   const more = [`${texts.join("; ")}.`];
   if (unknown) more.push(`Of ${grouped(unknown)} ${UNKNOWN}, or it has not ended yet.`);
   if (read.unread) more.push(`${counted(read.unread, "line")} cannot be read.`);

@@ -13,8 +13,8 @@ const absent = new Set();
 
 const bytesOf = async (reply) => new Uint8Array(await loaded(reply.arrayBuffer()));
 
-// The oldest line's moment of a journal that was read whole: before it there are no lines.
-let begin = null;
+// The moment of the oldest line of a journal that was read whole, and the month that was looked at last for older ones.
+let begin = { moment: null, last: "" };
 
 // What a reply would be, or null where nginx refuses it with a status.
 const unless = (status, reply) => reply.catch((fault) => (fault.status === status ? null : Promise.reject(fault)));
@@ -38,7 +38,8 @@ export class Lines {
   length = 0;
   // The end of a line whose beginning was not read.
   rest = new Uint8Array(0);
-  // The month to look at next, and how many are still to be looked at.
+  // The month that was looked at last, the one to look at next, and how many are still to be looked at.
+  last = "";
   month = "";
   months = MONTHS;
 
@@ -50,8 +51,8 @@ export class Lines {
   // Reads what is next, and hands its lines on. `oldest` gives the moment of the oldest line so far, or "".
   async readOlder(take, oldest, tools) {
     await (this.until === 0 ? this.readMonth(take, oldest, tools) : this.readPiece(take, tools));
-    if (this.until === 0 && oldest() === begin) this.months = 0;
-    if (this.isWhole) begin = oldest() || null;
+    if (this.until === 0 && oldest() === begin.moment) Object.assign(this, { months: 0, last: begin.last });
+    if (this.isWhole) begin = { moment: oldest() || null, last: this.last };
   }
 
   async readPiece(take, tools) {
@@ -75,7 +76,7 @@ export class Lines {
     for (let isFound = false; this.months > 0 && !isFound; ) {
       tools.progress("Looking for an older journal, month by month", MONTHS - this.months, MONTHS);
       isFound = await this.readFile(take, tools);
-      this.month = monthBefore(this.month);
+      [this.last, this.month] = [this.month, monthBefore(this.month)];
       this.months -= 1;
     }
   }
@@ -96,5 +97,5 @@ export async function readBack(isEnough, tools) {
   while (!isEnough?.(read.inOrder()) && !lines.isWhole && read.byId.size < MOST) {
     await lines.readOlder((line) => read.take(line), () => read.oldest, tools);
   }
-  return { changes: read.inOrder(), reach: inUtc(read.oldest), isWhole: lines.isWhole };
+  return { changes: read.inOrder(), reach: inUtc(read.oldest), isWhole: lines.isWhole, last: lines.last };
 }

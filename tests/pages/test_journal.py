@@ -63,7 +63,7 @@ def test_changes_stand_with_who_what_outcome_and_reason(staff):
     assert shown["links"].count("#/disk/99") == 2, "no way to the names of its files"
     fields = [(path, [name for name in fields if b"desk" in name]) for _, path, fields in staff.door.visits]
     assert fields == [("/journal", [b"desk-key"])]
-    assert all("; there are no older" in staff.push(one)["stands"][0] for one in ("Read what is older", "Read it anew"))
+    assert all("; no month back to 2017-0" in staff.push(one)["stands"][0] for one in ("Read what is older", "Read it anew"))
 
 def test_what_is_looked_for_is_found_and_saved_without_a_formula(staff):
     read(staff, JOURNAL)
@@ -138,7 +138,7 @@ def test_long_journal_is_read_in_pieces_and_then_month_by_month(staff):
         assert asked(staff) == [(path, "") for path in months[begin:end]]
         assert shown["result"] == [f"Read: {more} older changes."]
         assert shown["stands"][0].startswith(f"{count:,} changes read, ")
-    assert shown["stands"][0].endswith("; there are no older lines.")
+    assert shown["stands"][0].endswith("; no month back to 2017-02 has older lines.")
     assert (staff.one("#journal [name=older]").is_enabled(), shown["focus"]) == (False, "result")
 
 def test_journal_that_has_become_shorter_is_another_one(staff):

@@ -61,6 +61,7 @@ def test_disk_says_what_it_is_and_who_gets_what_by_which_rule(museum, disk):
         [TODAY, "the public", SHUT, "T1002.1000", said, NOT, *file],
         [TODAY, "the staff", "read it", "R9.20", f"all files readable for {ALL}", BY + NOTHING, *file]]
     assert "A name behind a slot is that of the disk as it was when the desk was asked." in rows[0][1]
+    assert "The page looked for lines of the journal in each month back to 2013-12. " in rows[0][1], "how far it looked"
     assert "as the page reckons from the changes that it read and the days" in rows[0][1], "as if it had read all"
     assert f"{NOT}; its SHA-256, as the journal has it: not known. It has all" in rows[0][1]
     far = f"is not known: the journal, back to {when(0)}, does not have the SHA-256. {TABLE}"
