@@ -156,6 +156,13 @@ function drawFiles() {
   part("ticked").hidden = files.length === 0;
 }
 
+// When a rule was put is another act than that since which a file is as it is: an older rule may have said the same.
+const HEADS = [
+  ...[...SAVED_HEADS, "what the rule that decides says", "when, by whom, and why that rule itself was put"],
+  "since when they may do just this with the file, by whichever rule (not since when that rule stands)",
+  "until when they may do just this, and what then, by the rules of that day, as the desk says of later days",
+];
+
 // Saves who gets what of a disk, what the rule says that decides, and who put it; gives the name of the file.
 function saveDisk(disk, more = "") {
   const { survey, things, files, names, asked } = disk;
@@ -172,10 +179,8 @@ function saveDisk(disk, more = "") {
   const asks = `${askedWords(asked)}${more}${looked} ${sameWords(disk.same)}`;
   const all = `It has all ${counted(files.length, "file")}. ${asks}`;
   const about = `Who gets what of disk ${accession}, ${whose}. ${all} ${SINCE} ${daysSaid()} ${ANY_NAME} ${UNSAID}`;
-  const heads = [...SAVED_HEADS, "what the rule says", PUT.toLowerCase(), "since when"];
-  heads.push("until when, by the rules of that day, as the desk says of later days");
   const name = `disk-${accession}${more && "-before-an-answer"}-${asked.day}-asked`;
-  return saveTable(name, asked.moment, about, heads, everyVerdict(disk), rowOf);
+  return saveTable(name, asked.moment, about, HEADS, everyVerdict(disk), rowOf);
 }
 
 // Asks the desk for a disk, and saves what it says now, unless that is stopped.

@@ -11,13 +11,15 @@ when = lambda far: in_utc(START + far)
 FAR = f"in the journal, back to {when(0)}"
 NOT, NOTHING = (f"{word} {FAR}, where it begins" for word in ("not", "nothing"))
 READ = '{"audiences":["room","public","staff"],"select":{"all":true},"effect":"read"}'
-BY_DEED, PUT, UNKNOWN = "rule 20 of deed 9", "put when, by whom, and why", "since when: not in the journal"
+BY_DEED, UNKNOWN = "rule 20 of deed 9", "since when: not in the journal"
+SAYS, PUT = "what the rule that decides says", "when, by whom, and why that rule itself was put"
+SINCE = "since when they may do just this with the file, by whichever rule (not since when that rule stands)"
 READS = f"read it {BY_DEED} "
 LISTS = f"see its name, not read it (the desk gives out no file of type DEL) {BY_DEED} {UNKNOWN}"
 SHUT = "see only that a closed file is there, not its name"
 CLOSED = f"{SHUT} takedown {{}} of disk 1002 {UNKNOWN}"
 ALWAYS = "closed to the public and the reading room, until further notice"
-SLY = "2026-06-01%2010:00:00+02:00;%20in%20its%20place%20before:%20%E2%80%9Cnothing%E2%80%9D"
+SLY = "2026-06-01T10:00:00+02:00;%20in%20its%20place%20before:%20%E2%80%9Cnothing%E2%80%9D"
 TAKEN_IN = f"/accessions/1002/d64/9/{'0' * 64}"
 BY = f"This rule was put {when(0.5)} by “Ada”: “a letter”; in its place before: "
 TABLE = """Of disks that the journal does not have the page cannot tell: the store has the SHA-256 of each, in the \
@@ -55,7 +57,7 @@ def test_disk_says_what_it_is_and_who_gets_what_by_which_rule(museum, disk):
     heads, *rows = saved_table(disk, f"disk-1002-{TODAY}-asked", "Save who gets what as CSV")
     kind = "kind (cpm8: CP/M, 8 inches; d64: Commodore 1541; d64e: Commodore 1541 with error bytes)"
     assert {kind, "user (the user of CP/M, 0 to 15, whose file it is)"} < {*heads}, "words that nobody explains"
-    keys = "day", "audience", "they may", "rule", "what the rule says", PUT, "since when", "name as shown", "size"
+    keys = "day", "audience", "they may", "rule", SAYS, PUT, SINCE, "name as shown", "size"
     said, file = f"the file at slot 2 (GUIDE) {ALWAYS}", [UNKNOWN, "GUIDE", "532"]
     assert [[dict(zip(heads, one))[key] for key in keys] for one in rows[6:9:2]] == [
         [TODAY, "the public", SHUT, "T1002.1000", said, NOT, *file],
@@ -82,7 +84,8 @@ def test_rule_says_what_was_there_before_it_or_how_far_the_journal_is_read_or_th
     disk.door.journals["/journal"] += journal_lines(2, START, "200", "PUT", TAKEN_IN)
     assert disk.load() and disk.begin().go("disk/1002")["rows"][3][5] == BY + NOTHING
     disk.door.journals["/journal"] += journal_lines(3, START - 9, "200", "DELETE", "/deeds/9/rules/20", "Bob", SLY)
-    by = f"{BY}Drop rule 20 of deed 9, {when(-8.5)} by “Bob”: “2026-06-01 10:00:00+02:00; in its place before: “nothing””"
+    bob = "“Bob”: “2026-06-01T10:00:00+02:00; in its place before: “nothing””"
+    by = f"{BY}Drop rule 20 of deed 9, {when(-8.5)} by {bob}"
     assert disk.go("disk/1002")["rows"][3][5] == by, "what somebody typed reads as words of the page"
     _, *rows = saved_table(disk, f"disk-1002-{TODAY}-asked", "Save who gets what as CSV")
     assert by in rows[0], "what somebody typed reads otherwise in what is saved"
