@@ -52,6 +52,7 @@ export function recordsOf(text) {
 }
 
 // A cell that begins like a formula, or so behind apostrophes, gets one in front, which a spreadsheet shows as text.
+export const APOSTROPHES = "an apostrophe at the beginning of a cell, before =, +, - or @, is not part of its text";
 function written(value) {
   const text = String(value ?? "");
   const harmless = /^'*[=+\-@\t\r]/.test(text) ? `'${text}` : text;

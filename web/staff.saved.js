@@ -1,14 +1,13 @@
 // Tables that the page saves. Each row says by itself whose it is, what the table has, and what it does not say; the
 // heads say by whose clocks it is, and the name of the file at which moment the page asked for it.
 import { holder } from "./about.js";
-import { csvText, explainedHead } from "./csv.js";
+import { APOSTROPHES, csvText, explainedHead } from "./csv.js";
 import { element, part } from "./shared.js";
 import { clockWords } from "./staff.words.js";
 import { inParts, save } from "./stream.js";
 
-const clocks = () => `this table (an apostrophe at the beginning of a cell, before =, +, - or @, is not part of its \
-text; moments: in UTC, of the journal by the museum's machine, of asking by the computer that saved this; days of \
-rules and of asking: ${clockWords()})`;
+const clocks = () => `this table (${APOSTROPHES}; moments: in UTC, of the journal by the museum's machine, of asking by \
+the computer that saved this; days of rules and of asking: ${clockWords()})`;
 
 export async function saveTable(name, moment, about, heads, items, recordOf) {
   const said = [holder() || "(the museum's name was not found)", about];
