@@ -72,8 +72,8 @@ function foundOf(checks, begin, rest) {
 function checkRow({ accession, day, outcome }) {
   const found = cell("Outcome", outcome ?? "", outcome === "changed" ? "warning" : "");
   const press = () => change("checks", () => checked(accession, "checks"));
-  const buttons = buttonsCell(`disk ${accession}`, { Check: press });
-  return row([diskCell(accession), cell("Checked on", day ?? "never", "day"), found, buttons]);
+  const [on, buttons] = [cell("Checked on", day ?? "never", "day"), buttonsCell(`disk ${accession}`, { Check: press })];
+  return row([diskCell(accession), on, found, buttons]);
 }
 
 // What the latest check of a disk has found.

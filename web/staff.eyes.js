@@ -58,7 +58,8 @@ async function lookThrough({ audience, words, showsClosed }, all) {
   };
   await inParts(all, (some) => some.forEach(take));
   const by = words && `, found by \u201c${words}\u201d`;
-  const more = left ? `; ${grouped(left)} more, closed to them, left out` : "";
+  const out = left ? `; ${grouped(left)} more, closed to them, left out` : "";
+  const more = showsClosed ? "; also what is closed to them" : out;
   const [disk, ...others] = new Set(files.map((file) => file[COLUMNS.accession]));
   const of = disk && others.length === 0 ? ` of disk ${disk}` : "";
   const only = of && `, only${of}, which has ${all.filter((file) => file[COLUMNS.accession] === disk).length}`;

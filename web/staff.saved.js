@@ -6,8 +6,8 @@ import { element, part } from "./shared.js";
 import { clockWords } from "./staff.words.js";
 import { inParts, save } from "./stream.js";
 
-const clocks = () => `this table (${APOSTROPHES}; moments: in UTC, of the journal by the museum's machine, of asking by \
-the computer that saved this; days of rules and of asking: ${clockWords()})`;
+const clocks = () => `this table (${APOSTROPHES}; moments: in UTC, of the journal by the museum's machine, of asking \
+by the computer that saved this; days of rules and of asking: ${clockWords()})`;
 
 export async function saveTable(name, moment, about, heads, items, recordOf) {
   const said = [holder() || "(the museum's name was not found)", about];

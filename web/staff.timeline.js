@@ -6,8 +6,7 @@ import { Changes, dayParts } from "./staff.rehearsal.js";
 import { limitFields } from "./staff.ruleform.js";
 import { saveTable, saver } from "./staff.saved.js";
 import { COLUMNS, askedWords, audienceCounts, effectOf, onDay, readVerdicts } from "./staff.verdicts.js";
-import { AUDIENCES, RULES, dayAfter, inUtc, isDay, isOnNoDay, momentNow } from "./staff.words.js";
-import { standingWords, today } from "./staff.words.js";
+import { AUDIENCES, RULES, dayAfter, inUtc, isDay, isOnNoDay, momentNow, standingWords, today } from "./staff.words.js";
 import { keeper } from "./stream.js";
 
 // How many days the bars show before today and after the last change, and how far from today that one may be.

@@ -63,7 +63,8 @@ def test_changes_stand_with_who_what_outcome_and_reason(staff):
     assert shown["links"].count("#/disk/99") == 2, "no way to the names of its files"
     fields = [(path, [name for name in fields if b"desk" in name]) for _, path, fields in staff.door.visits]
     assert fields == [("/journal", [b"desk-key"])]
-    assert all("; no month back to 2017-0" in staff.push(one)["stands"][0] for one in ("Read what is older", "Read it anew"))
+    words = "; no month back to 2017-0"
+    assert all(words in staff.push(one)["stands"][0] for one in ("Read what is older", "Read it anew"))
 
 def test_what_is_looked_for_is_found_and_saved_without_a_formula(staff):
     read(staff, JOURNAL)
