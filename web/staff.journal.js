@@ -73,7 +73,7 @@ const namesFor = ({ accession }, { names }) =>
 // The row of a change; `of` is the disk for which it is shown, if any.
 export function changeRow(change, of) {
   const words = `${isOfDeed(change, of) ? "Of its deed: " : ""}${changeWords(change, namesFor(change, of))}`;
-  const [when, who] = [cell("When", change.moment.replace("T", " "), "day"), cell("Who", change.name, "words")];
+  const [when, who] = [cell("When", change.moment.replace("T", " ")), cell("Who", change.name, "words")];
   const what = cell("What", withTitle(dated("span", words), Number(change.accession)), "words");
   const outcome = cell("Outcome", outcomeWords(change), isUnknown(change) ? "warning" : "");
   return row([when, who, what, outcome, cell("Reason", change.reason, "words")]);

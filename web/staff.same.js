@@ -30,12 +30,12 @@ export async function sameBytes(accessions, { changes, none, reach }, tools) {
 }
 
 function diskWords([accession, { of, isSure, files }], isOfMany) {
-  const title = titleOf(Number(accession)) && quoted(titleOf(Number(accession)));
-  const which = [`disk ${accession}`, title, isOfMany && `as disk ${listed(of)}`, !isSure && UNKNOWN].filter(Boolean);
+  const title = titleOf(Number(accession));
+  const more = [title && quoted(title), isOfMany && `with the bytes of disk ${listed(of)}`, !isSure && UNKNOWN];
   const reads = Object.entries(AUDIENCES).map(([audience, words], at) =>
     `${words}${at ? "" : " may read"} ${files.filter((record) => effectOf(record, audience) === "read").length}`);
   const what = files.length ? `of ${counted(files.length, "file")} ${listed(reads)}` : "the desk has no file of it";
-  return `${which.join(", ")}: ${what}`;
+  return `${[`disk ${accession}`, ...more].filter(Boolean).join(", ")}: ${what}`;
 }
 
 // What is to be said: first, then of each disk, and of what is not known.
@@ -44,9 +44,9 @@ function partsOf(same) {
   const { others, unnamed, count, asked, none, reach } = same;
   const journal = `the journal${reach && `, back to ${reach},`}`;
   const some = counted(others.length, "other disk");
-  const also = `As ${journal} has it, the same bytes are also on ${some}; on ${asked.day}:`;
+  const also = `As ${journal} has it, the same bytes are also on ${some}. On ${asked.day}:`;
   const no = `T${journal.slice(1)} has no other disk with the same bytes.`;
-  const of = unnamed.length === 1 ? `disk ${unnamed[0]}` : counted(unnamed.length, "disk");
+  const of = unnamed.length > 9 ? counted(unnamed.length, "disk") : `disk ${listed(unnamed)}`;
   const why = none || `${journal} does not have the SHA-256`;
   const unknown = unnamed.length && `Which other disks have the bytes of ${of} is not known: ${why}.`;
   const [first, ...more] = [unnamed.length < count && (others.length ? also : no), unknown].filter(Boolean);

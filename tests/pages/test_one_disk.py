@@ -221,7 +221,7 @@ def test_other_disks_with_the_same_bytes_are_named_and_who_may_read_how_much_of_
     items = [one for one in disk.texts("#disk li") if one.startswith("disk ")]
     assert [items[0], items[1].partition(": of ")[0], items[2]] == [due[0], due[1].partition(": of ")[0], due[2]]
     assert disk.script(LINKS) == ["#/disk/77", "#/disk/1004", "#/disk/1005"], "no way to the other disks"
-    also = f"As the journal, back to {when(0)}, has it, the same bytes are also on 3 other disks; on {TODAY}:"
+    also = f"As the journal, back to {when(0)}, has it, the same bytes are also on 3 other disks. On {TODAY}:"
     _, *rows = saved_table(disk, f"disk-1002-{TODAY}-asked", "Save who gets what as CSV")
     assert f"{also} {'; '.join(items)}. The desk was asked on {TODAY} at 12:" in rows[0][1]
     assert f" UTC. {TABLE}" in rows[0][1]
@@ -233,6 +233,7 @@ def test_other_disks_with_the_same_bytes_are_named_and_who_may_read_how_much_of_
     for words in (ticked, typed, many):
         assert "; disk 1005" in str(words) and "the public may read 2, the reading room 2 and" in str(words), words
     assert "Which other disks have the bytes of disk 1003 is not known: the journal" in str(many)
+    assert "disk 1005, with the bytes of disk 1002: of 3 files" in str(many), "as which of them"
 
 def test_coming_back_shows_the_disk_that_was_looked_at_asked_anew(museum, disk):
     museum.rules["T1002"] = takedown(1000, 2)
