@@ -10,8 +10,8 @@ import { AUDIENCES, EFFECTS, SHORT, audienceWords, dayAfter, isOnNoDay } from ".
 import { listed, momentNow, today } from "./staff.words.js";
 import { readTable } from "./stream.js";
 
-const ORDER = ["deny", "list", "read"];
-const MOST_NAMED = 10;
+const [ORDER, MOST_NAMED] = [["deny", "list", "read"], 10];
+const WITHOUT = { first: "On that day, without this change,", other: "with it they" };
 const DAY_WORDS = { from: "its first day", last: "its last day", until: "the first day without it" };
 
 // The days of a rule on which something begins or ends.
@@ -75,9 +75,7 @@ async function readServed(commands, tools) {
 
 // Rehearses commands on days: what changes on each, and the commands that the desk refuses since they name no disk.
 export async function rehearse(commands, days, tools) {
-  const known = await readServed(commands, tools);
-  const missing = new Set();
-  const found = [];
+  const [known, missing, found] = [await readServed(commands, tools), new Set(), []];
   const all = days.length * commands.length;
   for (const [at, { day, words }] of days.entries()) {
     const changes = new Changes();
@@ -88,7 +86,7 @@ export async function rehearse(commands, days, tools) {
         missing.add(command);
       });
     }
-    found.push({ day, words, groups: changes.all() });
+    found.push({ words, groups: changes.all(), ...(at > 0 ? WITHOUT : {}) });
   }
   return { found, missing };
 }
@@ -105,14 +103,14 @@ async function rehearseOne({ method, path, body }, day, { changes, known, signal
 }
 
 // Of a day that is over nothing opens or closes: `past` says which day, and by which rules.
-function groupWords({ opens, count, audiences, now, then }, past) {
+function groupWords({ opens, count, audiences, now, then }, past, first = "Now", other = "then they") {
   const turn = past ? `More ${opens ? "open" : "closed"}` : `${opens ? "Opens" : "Closes"}`;
   const sentence = `${turn} for ${audienceWords(audiences)}: ${counted(count, "file")}.`;
-  return `${sentence} Now they may ${EFFECTS[now]}; ${past || "then they"} may ${EFFECTS[then]}.`;
+  return `${sentence} ${first} they may ${EFFECTS[now]}; ${past || other} may ${EFFECTS[then]}.`;
 }
 
-function groupParts(group, past) {
-  const [words, className] = [groupWords(group, past), group.opens ? "opens" : "closes"];
+function groupParts(group, past, first, other) {
+  const [words, className] = [groupWords(group, past, first, other), group.opens ? "opens" : "closes"];
   const items = group.first.map(({ accession, slot, kind, name }) =>
     dated("li", `${shownName(kind, name)} (disk ${accession}, slot ${slot})`));
   const rest = group.count - group.first.length;
@@ -121,12 +119,12 @@ function groupParts(group, past) {
 }
 
 // What a day changes, under a heading; a day that changes the same as the one before says so.
-export function dayParts({ words, groups, past, none }, before) {
+export function dayParts({ words, groups, past, none, first, other }, before) {
   const heading = element("h3", words);
   if (groups.length === 0) return [heading, dated("p", none || "Nothing opens, and nothing closes.")];
   const isSame = before && JSON.stringify(groups) === JSON.stringify(before.groups);
   if (isSame) return [heading, element("p", "The same as on the day above.")];
-  return [heading, ...groups.flatMap((group) => groupParts(group, past))];
+  return [heading, ...groups.flatMap((group) => groupParts(group, past, first, other))];
 }
 
 // What the desk's verdicts of a day say of the files of takedowns of a disk that were put, and which others decide.
