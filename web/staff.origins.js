@@ -163,7 +163,7 @@ function pastWords(name, { put, before }, { day, reach, isFar }) {
   const only = `${isDisk ? "not yet here on that day:" : name} put only on ${since}`;
   if (put && before) return only;
   if (put && isFar) return `${only}, not before in the journal, ${back}`;
-  const what = isDisk ? "it was here" : `${name} stood`;
+  const what = isDisk ? "the disk was here" : `${name} stood`;
   return `whether ${what} then the journal, ${back}, does not say${put ? `; put on ${since}` : ""}`;
 }
 
@@ -182,7 +182,7 @@ export async function pastOf(day, tools) {
   const ruleTold = keeper((label) => told(meaning(label), things.get(label)));
   const others = (record, label) => {
     const [accession, deed, kind] = record.slice(COLUMNS.accession, COLUMNS.slot);
-    const unsigned = signed.get(deed) > day && `not then: deed ${deed} was signed on ${signed.get(deed)}`;
+    const unsigned = signed.get(deed) > day && `deed ${deed} was signed later, on ${signed.get(deed)}`;
     if (none) return [unsigned, `what stood then is not known: ${none}`];
     return [unsigned, diskTold(standingDisk({ accession, deed, kind }).place), ruleTold(label)];
   };
@@ -192,17 +192,17 @@ export async function pastOf(day, tools) {
 
 // How many changes since a day are named; and the places of changes, by words for them.
 const MOST_NAMED = 10;
-const SORTS = { disk: "/accessions/", takedown: "/images/.*rules", rule: "/deeds/.*rules", deed: "/deeds/[0-9]+$" };
+const SORTS = { disks: "/accessions/", takedowns: "/images/.*rules", rules: "/deeds/.*rules", deeds: "/deeds/[0-9]+$" };
 const isSort = (sort) => ({ place }) => new RegExp(`^${sort}`).test(place);
 const isSince = (day) => ({ moment, status }) => moment.slice(0, 10) > day && status === "200";
 
 // How much has changed since a day.
 function changedWords(changes, { day, reach, isFar }) {
   const since = changes.filter(isSince(day));
-  const words = listed(Object.entries(SORTS).map(([word, sort]) => counted(since.filter(isSort(sort)).length, word)));
-  const short = isFar ? "" : ` What changed before ${reach || "it began"} it does not say.`;
-  const said = `Put or dropped of all disks and deeds since ${day}, as the journal has it, and not undone here`;
-  return `${said}: ${words}.${short}`;
+  const words = listed(Object.entries(SORTS).map(([word, sort]) => `${since.filter(isSort(sort)).length} of ${word}`));
+  const short = isFar ? "" : ` What changed before ${reach || "it began"} the journal does not say.`;
+  return `Changes after ${day} of all disks and deeds, as the journal has them: ${words}; what is put and then dropped \
+counts twice. What is said of ${day} is as if all of them had been made before.${short}`;
 }
 
 // The latest changes since a day, the newest first.

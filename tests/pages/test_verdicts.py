@@ -185,7 +185,7 @@ def test_day_that_is_over_is_said_to_be_by_rules_of_today_and_a_saved_table_says
         assert saved[:2] == ["Museum of the River", about], "a saved table looks as if it had all"
     assert (saved[2:4], saved[4][:14], saved[4][19:]) == (["1999-01-01", PAST], f"{TODAY} 12:", " UTC")
     assert saved[5:8] == ["the public", EFFECTS["list"], f"{UNSERVED['SEQ']}; {PAST}; {NO_JOURNAL}"]
-    later = f"{EFFECTS['deny']} ({PAST}; not then: deed 7 was signed on 2019-05-04; {NO_JOURNAL})"
+    later = f"{EFFECTS['deny']} ({PAST}; deed 7 was signed later, on 2019-05-04; {NO_JOURNAL})"
     assert look(staff, "1999-01-01", closed=True, words="1004")["rows"][0][5] == later, "a day before the deed"
     assert "desk-visits.log on the museum's machine" in staff.text("#eyes"), "where what readers did get then stands"
 
@@ -200,12 +200,13 @@ def test_day_that_is_over_has_in_each_row_what_the_journal_knows_to_have_come_la
     says = "then the journal, back to 2026-05-04 08:00:00 UTC, does not say; put on"
     put, closed = (f"2026-05-0{at} 08:00:00 UTC" for at in (4, 5))
     wanted = [f"not yet here on that day: put only on {put}, {no}; {took} put only on {closed}, {no}",
-              f"whether it was here {says} {put}; whether {took} stood {says} {closed}"]
+              f"whether the disk was here {says} {put}; whether {took} stood {says} {closed}"]
     for begin, words in enumerate(wanted):
         staff.door.journals = {"/journal": b"".join(lines[begin:])}
         shown = look(staff, "2026-05-02", closed=True, words="1002")
         assert shown["rows"][0][5] == f"{EFFECTS['deny']} ({PAST}; {words})"
-        assert "as the journal has it, and not undone here: 1 disk, 1 takedown, 0 rules and" in shown["stands"][2]
+        counts = "as the journal has them: 1 of disks, 1 of takedowns, 0 of rules and"
+        assert counts in shown["stands"][2] and "put and then dropped counts twice" in shown["stands"][2]
 
 def test_timeline_has_the_next_change_first_and_says_what_is_other_on_each_day(museum, staff):
     museum.rules["R9"][5] = museums.rule(5, "deny", ["public"], {"slot": 0}, *DAYS[:2])
