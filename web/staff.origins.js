@@ -24,24 +24,26 @@ const byPlaces = (changes) => Map.groupBy(changes, ({ place }) => place);
 const goBackTo = (day, changes) => changes.at(-1)?.moment.slice(0, 10) <= day;
 const counts = (change) => change.status === "200" || isUnknown(change);
 
-// The first change that put what stands, of those since which nothing else was put there, and what was there before;
-// null where there is none. One of which nobody knows what became counts if it says what stands, and there is no other.
+// The first and the last change that put what stands, since when nothing else was put there, and what was there before;
+// null for none. One of which nobody knows what became counts if it says what stands, and there is no other.
 function originOf(one, places) {
   const isDone = (change) => change.status === "200" || (isUnknown(change) && isOf(one, change));
   const found = (places.get(one.place) ?? []).filter(isDone);
   const other = found.findIndex((change) => !isOf(one, change));
   const same = other < 0 ? found : found.slice(0, other);
-  return { put: same.findLast(({ status }) => status === "200") ?? same[0] ?? null, before: found[other] ?? null };
+  const done = same.filter(({ status }) => status === "200");
+  return { put: done.at(-1) ?? same[0] ?? null, again: done.length > 1 ? done[0] : null, before: found[other] ?? null };
 }
 
 const whoWords = ({ moment, name }) => `${inUtc(moment)} by ${name ? quoted(name) : "nobody who is named"}`;
-const byWords = (change, { reason } = change) => `${whoWords(change)}${reason && `: ${quoted(reason)}`}`;
+const byWords = (one) => `${whoWords(one)}: ${one.reason ? quoted(one.reason) : "no reason was given"}`;
 
-function originWords({ word }, { put, before }, { reach, isWhole }) {
+function originWords({ word }, { put, again, before }, { reach, isWhole }) {
   const far = `in the journal${reach && `, back to ${reach}${isWhole ? ", where it begins" : ""}`}`;
   if (put === null) return `not ${far}`;
   const other = before ? `${changeWords(before)}, ${byWords(before)}` : `nothing ${far}`;
-  return `This ${word} was put ${byWords(put)}; in its place before: ${other}`;
+  const last = again ? `; last put again, unchanged, ${byWords(again)}` : "";
+  return `This ${word} was put ${byWords(put)}${last}; in its place before: ${other}`;
 }
 
 // The journal as far as it is enough, or else all of it; where it cannot be read, why.

@@ -127,9 +127,10 @@ def test_key_is_put_given_away_and_dropped(museum, staff):
 def test_key_says_who_put_it_when_and_why_as_the_journal_has_it(staff):
     key, at = f"/badges/{digest(b'hello')}", in_utc(START + 0.5)
     by = f"This key was put {at} by “Ada”: “a letter”; in its place before: {NOT.replace('not', 'nothing', 1)}"
+    again = f"; last put again, unchanged, {in_utc(START + 1.5)} by “Ada”: “a letter”"
     for later, words in [((), by), (("200", "PUT", '{"audience":"staff"}'), NOT), (("200", "DELETE", ""), NOT),
                          (("404", "DELETE", ""), by), (("502", "DELETE", ""), by), (("502", "PUT", "["), by),
-                         (("200", "PUT", '{"audience":"room"}'), by)]:
+                         (("200", "PUT", '{"audience":"room"}'), by.replace("; in", f"{again}; in"))]:
         changes = [("200", "PUT", '{"audience":"room"}'), *([later] if later else [])]
         lines = [journal_lines(at, START + at, status, method, key, "Ada", "a%20letter", body)
                  for at, (status, method, body) in enumerate(changes)]
