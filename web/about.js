@@ -4,8 +4,7 @@ import { box, element, part } from "./shared.js";
 import { textOfOwn } from "./titles.js";
 
 const NAMES = ["museum", "room", "welcome", "mail", "phone", "address", "hours", "imprint", "privacy"];
-const LONGEST = 500;
-const MAIL = /^[^\s@?&]+@[^\s@?&]+$/;
+const [LONGEST, MAIL] = [500, /^[^\s@?&]+@[^\s@?&]+$/];
 const about = {};
 
 export const room = () => about.room ?? "The reading room";

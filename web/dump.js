@@ -17,8 +17,7 @@ const SECTORS = Array.from({ length: 35 }, (_, at) => (at < 17 ? 21 : at < 24 ? 
 const FIRST = SECTORS.map((_, at) => SECTORS.slice(0, at).reduce((sum, count) => sum + count, 0));
 const TYPES = ["DEL", "SEQ", "PRG", "USR", "REL"];
 // Where an entry has the first blocks of its chains; a type that is not here has none.
-const STARTS = { SEQ: [3], PRG: [3], USR: [3], REL: [3, 21] };
-const BLOCKS = 683;
+const [STARTS, BLOCKS] = [{ SEQ: [3], PRG: [3], USR: [3], REL: [3, 21] }, 683];
 
 const blockAt = (track, sector) => (sector < (SECTORS[track - 1] ?? 0) ? FIRST[track - 1] + sector : -1);
 

@@ -1,7 +1,6 @@
 // Names for saved files that no machine takes for something else: no path, device, option or hidden file; not too long.
 
-const LONGEST = 60;
-const DEVICES = /^(con|prn|aux|nul|clock\$?|conin\$|conout\$|com[0-9]|lpt[0-9]) *(\.|$)/i;
+const [LONGEST, DEVICES] = [60, /^(con|prn|aux|nul|clock\$?|conin\$|conout\$|com[0-9]|lpt[0-9]) *(\.|$)/i];
 
 // A name for a file, from a text of any signs.
 export function safeName(text) {

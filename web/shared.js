@@ -62,8 +62,7 @@ const DESK_RULES = { D0: "no rule lets you see it", K0: "the key is unknown", S0
 
 // The kinds of image: their words, and how many bytes an image has.
 export const KINDS = {
-  cpm8: { words: "CP/M, 8 inches", length: 256256 },
-  d64: { words: "Commodore 1541", length: 174848 },
+  cpm8: { words: "CP/M, 8 inches", length: 256256 }, d64: { words: "Commodore 1541", length: 174848 },
   d64e: { words: "Commodore 1541 with error bytes", length: 175531 },
 };
 

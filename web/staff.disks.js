@@ -10,8 +10,7 @@ import { matchRows, rowProblem, rowsIn } from "./staff.sheet.js";
 import { LIMITS, listed, signedWords, standingWords, today } from "./staff.words.js";
 
 // The chosen dumps, and the rows of the sheet that came with them, or null.
-let dumps = [];
-let sheet = null;
+let [dumps, sheet] = [[], null];
 
 const kindOf = (length) => Object.keys(KINDS).find((kind) => KINDS[kind].length === length);
 

@@ -19,8 +19,7 @@ const SEARCHED = 15;
 async function read(day, tools) {
   const asked = { day, words: onDay(day), rules: byWhichRules(day), moment: momentNow(), changeCount, on: today() };
   asked.name = day === asked.on ? day : `${day}-by-the-rules-of-${asked.on}`;
-  const [files, once] = [[], keeper()];
-  const searchOf = keeper((kind) => keeper((name) => searchText(kind, name)));
+  const [files, once, searchOf] = [[], keeper(), keeper((kind) => keeper((name) => searchText(kind, name)))];
   const searched = (record) => searchOf(record[COLUMNS.kind])(record[COLUMNS.name]);
   // most texts are those of the line before; a text to look in is kept already
   let last = [];
@@ -45,9 +44,7 @@ const wanted = ({ audience, words, closed } = formOf("eyes").elements) =>
 
 // The files to show, of closed ones only what is asked for; their disk, if it is one; words; and counts of all files.
 async function lookThrough({ audience, words, showsClosed }, all) {
-  const isFound = finder(words, audience);
-  const counts = { read: 0, list: 0, deny: 0 };
-  const files = [];
+  const [isFound, counts, files] = [finder(words, audience), { read: 0, list: 0, deny: 0 }, []];
   let left = 0;
   const take = (file) => {
     const effect = effectOf(file, audience);
@@ -79,8 +76,7 @@ function fileRow(file, audience, asked) {
 let turn = 0;
 
 async function draw(wait) {
-  const [mine, of, asked] = [++turn, seen, wanted()];
-  const stands = part("eyes").querySelector(".stands");
+  const [mine, of, asked, stands] = [++turn, seen, wanted(), part("eyes").querySelector(".stands")];
   stands.setAttribute("aria-busy", "true");
   if (wait) await pause(wait);
   if (mine !== turn) return;

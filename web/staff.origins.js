@@ -144,8 +144,7 @@ const doneWords = (change, what = changeWords({ ...change, body: "", stood: [] }
 // Since when a file is to an audience as it is now, as far as the changes of its disk and its deed say.
 export function sinceWords(things, record, audience, { changes, isWhole, asked }) {
   const [[disk, ...rules], label] = [things, record[EFFECT_AT[audience] + 1]];
-  const own = rules.find((one) => one.label === label);
-  const far = isWhole ? "" : ", as far as it was read";
+  const [own, far] = [rules.find((one) => one.label === label), isWhole ? "" : ", as far as it was read"];
   if (!disk.put || !(own ? own.put : label === "D0")) return `since when: not in the journal${far}`;
   const { change, day, found, since, now } = turnOf(things, [record, audience], changes, asked.day);
   if (!now) return "since when: not known, for what stands has changed meanwhile";

@@ -30,8 +30,7 @@ function met({ audiences, select }, stand) {
 // A free rank for a rule, before those that it meets: one of 10, 20, 30 .. for one file, of 100, 200, 300 .. for more,
 // or else any. Where none is free there, the first free one behind the first of them; null where none is.
 function freeRank(rule, stand) {
-  const used = new Set(stand.map(({ rank }) => rank));
-  const first = Math.min(...met(rule, stand).map(({ rank }) => rank));
+  const [used, first] = [new Set(stand.map(({ rank }) => rank)), Math.min(...met(rule, stand).map(({ rank }) => rank))];
   const wide = rule.select.slot === undefined ? WIDE_STEP : STEP;
   const before = [wide, STEP, 1].map((step) => [(Math.ceil(first / step) - 1) * step, -step]);
   for (let [rank, step] of [...before, first < Infinity ? [1, 1] : [wide, wide], [1, 1]]) {

@@ -42,8 +42,7 @@ function diskWords([accession, { of, isSure, files }], isOfMany) {
 function partsOf(same) {
   if (!same) return [`Other disks with the same bytes: ${UNREAD}.`, [], ""];
   const { others, unnamed, count, asked, none, reach } = same;
-  const journal = `the journal${reach && `, back to ${reach},`}`;
-  const some = counted(others.length, "other disk");
+  const [journal, some] = [`the journal${reach && `, back to ${reach},`}`, counted(others.length, "other disk")];
   const also = `As ${journal} has it, the same bytes are also on ${some}. On ${asked.day}:`;
   const no = `T${journal.slice(1)} has no other disk with the same bytes.`;
   const of = unnamed.length > 9 ? counted(unnamed.length, "disk") : `disk ${listed(unnamed)}`;

@@ -6,8 +6,7 @@ import { recordsOf } from "./csv.js";
 const NUMBER = [/^[1-9][0-9]{0,5}$/, "a number from 1 to 999999"];
 const FITS = {
   accession: NUMBER, kind: [/^(cpm8|d64|d64e)$/, "cpm8, d64 or d64e"],
-  deed: NUMBER, sha256: [/^[0-9A-Fa-f]{64}$/, "64 hexadecimal digits"],
-  file: [/^./s, "the name of a file"],
+  deed: NUMBER, sha256: [/^[0-9A-Fa-f]{64}$/, "64 hexadecimal digits"], file: [/^./s, "the name of a file"],
 };
 const COLUMNS = Object.keys(FITS);
 

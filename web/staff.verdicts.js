@@ -47,8 +47,7 @@ export function fileOf(record) {
 export const given = (effect, isServed) => (effect === "read" && !isServed ? "list" : effect);
 export const effectOf = (record, audience) => given(record[EFFECT_AT[audience]], record[COLUMNS.size] !== "");
 const MAY = {
-  read: "read it", list: "see its name, not read it",
-  deny: "see only that a closed file is there, not its name",
+  read: "read it", list: "see its name, not read it", deny: "see only that a closed file is there, not its name",
 };
 
 // Why a file is only listed that a rule lets them read; of a day that is over, by which rules, and what was other then.

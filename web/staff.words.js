@@ -39,19 +39,16 @@ export const SELECTORS = {
   prefix: {
     choice: "files whose names begin alike",
     ...{ field: "They begin, as the desk prints them, with", limits: printed(1, 64) },
-    shown: (words) => `files whose names begin with ${quoted(words)}${asShown(words)}`,
-    sent: String,
+    ...{ shown: (words) => `files whose names begin with ${quoted(words)}${asShown(words)}`, sent: String },
   },
   user: {
     ...{ choice: "files of a user of CP/M", field: "User" },
     limits: { pattern: "[0-9]|1[0-5]", title: "a number from 0 to 15", required: true },
-    shown: (user) => `files of user ${user}`,
-    sent: Number,
+    ...{ shown: (user) => `files of user ${user}`, sent: Number },
   },
   type: {
     ...{ choice: "files of a type", field: "Type, or nothing", limits: printed(0, 16) },
-    shown: (words) => (words === "" ? "files without a type" : `files of type ${quoted(words)}`),
-    sent: String,
+    ...{ shown: (words) => (words === "" ? "files without a type" : `files of type ${quoted(words)}`), sent: String },
   },
 };
 
@@ -127,8 +124,7 @@ export const VISITS = `From which addresses files were fetched before, desk-visi
 for 14 days only: keep a copy if you need it (OPERATING, Logs).`;
 
 // Who put what stands, by the journal: the name of the column, and what is there before the journal is read.
-export const PUT = "Put when, by whom, and why";
-export const UNREAD = "not looked for in the journal";
+export const [PUT, UNREAD] = ["Put when, by whom, and why", "not looked for in the journal"];
 
 // This moment, to the second, with its time zone; and a moment of any zone in UTC, where it is one.
 export const momentNow = () => `${new Date().toISOString().slice(0, 19)}+00:00`;

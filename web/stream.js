@@ -46,9 +46,7 @@ export async function* partsOf(reply) {
 
 // Reads a table of the desk, hands its records on without the first. A pace of 64 KB keeps each piece of work short.
 export async function readTable(path, { method = "GET", body, take, progress = () => {}, signal }) {
-  const reply = await ask(path, { method, body, signal });
-  const records = new Records();
-  const breathe = breather();
+  const [reply, records, breathe] = [await ask(path, { method, body, signal }), new Records(), breather()];
   let count = -1;
   for await (const text of partsOf(reply)) {
     for (let at = 0; at < text.length; at += 65536) {
