@@ -86,6 +86,7 @@ def test_dumps_of_a_sheet_are_found_compared_and_put(museum, staff, choose):
     heads = [*"accession kind deed sha-256 file outcome by reason".split(), "tried at"]
     assert [head.partition(" (")[0] for head in rows[0]] == heads
     assert rows[4][:8] == ["2007", "cpm8", "99", digest(RECORD), "'=1+1", NO_DEED, "Ada Archivist", "a letter of today"]
+    assert rows[0][8] == "tried at (by the clock of the computer that sent it)", "by whose clock is not said"
     assert rows[4][8].startswith(f"{TODAY} 12:") and rows[-1][:6] == [*ROWS[4][:4], "gone.d64", NO_FILE]
     assert {one[2:] for one in staff.door.sent()} == {("Ada%20Archivist", "a%20letter%20of%20today")}
     museum.deeds[99] = "Late Donor", "2020-01-01"

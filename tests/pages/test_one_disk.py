@@ -203,7 +203,7 @@ def test_files_ticked_by_their_shown_names_are_taken_down_and_what_stands_after_
     clock = f"by the desk's clock, whose zone it does not tell: on {TODAY} at 12:"
     assert f"asking: {clock}" in heads[1] and heads[1].endswith(f" UTC it was {TODAY} there)"), "in nobody's zone"
     words = "slot (the file's place on its disk, counted from 0)", "rank (a place in the order of rules, lowest first)"
-    assert (heads[3], heads[5]) == words and f"(OPERATING, Logs). {asked}" in rows[0][1]
+    assert (heads[3], heads[5]) == words and f"if you need it. {asked}" in rows[0][1]
     assert "(an apostrophe at the beginning of a cell, before =, +, - or @, is not part of its text; mom" in heads[1]
 
 def test_other_disks_with_the_same_bytes_are_named_and_who_may_read_how_much_of_them(museum, disk):
