@@ -1,6 +1,6 @@
 // The staff's side of the desk: what stands there, changes to it, and the work of a section of the page.
 import { askObject, box, button, cell, element, fields, grouped, listOf, part, refusal } from "./shared.js";
-import { askToday, quoted } from "./staff.words.js";
+import { RULES, askToday, quoted } from "./staff.words.js";
 import { withTitle } from "./titles.js";
 
 // After these nobody here knows whether the desk has done what was sent. A command that is sent twice is done once.
@@ -22,13 +22,19 @@ export const held = { deeds: [], takedowns: [], keys: [], checks: [] };
 export const readHeld = async (what, signal) =>
   (held[what] = listOf((await askObject(`/staff/${what}`, { signal }))[what]));
 
-// The rules of a deed, or the takedowns of a disk, that stood when they were read last; and all, each with its scope.
+// The rules of deeds, or the takedowns of disks, that stood when they were read last, of all or of one; and read anew.
 export const listName = (name) => (name === "rules" ? "deeds" : name);
-const numberName = (name) => (name === "rules" ? "deed" : "accession");
-export const rulesOf = (name, scope, number = numberName(name)) =>
-  held[listName(name)].find((one) => one[number] === scope)?.rules ?? [];
-export const standing = (name, number = numberName(name)) =>
-  held[listName(name)].flatMap(({ [number]: scope, rules }) => rules.map((rule) => ({ scope, rule })));
+export function standing(name, of) {
+  const [number, { letter, path }] = [name === "rules" ? "deed" : "accession", RULES[name]];
+  const lists = held[listName(name)].filter((one) => of === undefined || one[number] === of);
+  const told = (scope, rule) => ({ label: `${letter}${scope}.${rule.rank}`, path: path(scope, rule.rank), rule });
+  return lists.flatMap(({ [number]: scope, rules }) => rules.map((rule) => ({ name, scope, ...told(scope, rule) })));
+}
+export const rulesOf = (name, scope) => standing(name, scope).map(({ rule }) => rule);
+export async function readRules(signal) {
+  for (const what of ["deeds", "takedowns"]) await readHeld(what, signal);
+  return Object.keys(RULES).flatMap((name) => standing(name));
+}
 
 const sentWords = (text) => encodeURIComponent(text.trim());
 

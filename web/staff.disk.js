@@ -2,7 +2,7 @@
 import { nameCell } from "./lists.js";
 import { askObject, box, button, cell, counted, element, grouped, part, row, table } from "./shared.js";
 import { checkWords, checked, surveyed } from "./staff.checks.js";
-import { ANY_NAME, change, dated, formOf, readHeld, rulesOf, showsAnew } from "./staff.desk.js";
+import { ANY_NAME, change, dated, formOf, readHeld, rulesOf, showsAnew, standing } from "./staff.desk.js";
 import { COLUMNS as CHANGES, changeRow } from "./staff.journal.js";
 import { SINCE, originsOf, sinceWords, standingDisk, standingRule } from "./staff.origins.js";
 import { placeOf } from "./staff.ranks.js";
@@ -11,16 +11,16 @@ import { makeRuleForm, ruleIn } from "./staff.ruleform.js";
 import { putMany } from "./staff.rules.js";
 import { sameBox, sameBytes, sameWords } from "./staff.same.js";
 import { forgetSaved, saveTable, saver } from "./staff.saved.js";
-import { COLUMNS, EFFECT_AT, SAVED_HEADS, UNSAID, askedWords, audienceCounts, byWhichRules } from "./staff.verdicts.js";
-import { effectOf, mayWords, nameOf, namesOf, ruleShown, savedVerdict, verdictsOf } from "./staff.verdicts.js";
+import { COLUMNS, EFFECT_AT, SAVED_HEADS, askedWords, audienceCounts, byWhichRules } from "./staff.verdicts.js";
+import { effectOf, laterOf, mayWords, nameOf, namesOf, ruleShown, savedVerdict, verdictsOf } from "./staff.verdicts.js";
 import { AUDIENCES, PUT, RULES, UNREAD, askToday, clockWords, listed, momentNow } from "./staff.words.js";
 import { ruleTexts, ruleWords, signedWords, today } from "./staff.words.js";
 import { noteOf, titleOf } from "./titles.js";
 
-// How many changes of the journal are shown at most; and how many later days on which rules begin or end are asked for.
-const [MOST_CHANGES, MOST_LATER] = [20, 20];
-const daysSaid = () => `A day of a rule begins at midnight ${clockWords()}. A change holds from the moment at which it \
-is put, not before, whatever its days. A name behind a slot is that of the disk as it was when the desk was asked.`;
+// How many changes of the journal are shown at most; what is said of the days of rules, and of names.
+const [MOST_CHANGES, HOLDS] = [20, "A rule holds only on its days, if it has any, and never before it was put."];
+const NAMES = "A name behind a slot is that of the disk as it was when the desk was asked.";
+const daysSaid = () => `A day of a rule begins at midnight ${clockWords()}. ${HOLDS} ${NAMES}`;
 
 // The disk that is shown: its survey, who put it and its rules, its files with their verdicts, and their names; where.
 let shown = null;
@@ -36,7 +36,7 @@ async function readDisk(accession, tools, show = showDisk) {
   show(disk);
   disk.files = await verdictsOf(survey, asked.day, tools);
   disk.names = namesOf(disk.files);
-  disk.later = await readLater(disk, tools);
+  disk.later = await laterOf(survey, asked.day, tools);
   show(disk);
   const { told, journal: { changes, ...journal } } = await originsOf(things, tools, true);
   things.forEach((thing, at) => Object.assign(thing, told[at]));
@@ -54,31 +54,20 @@ function showDisk(disk) {
   forgetSaved("disk");
   if (!disk.changes) drawFiles();
   const spans = frames.files.querySelectorAll(".since");
-  everyVerdict(disk).forEach((one, at) => (spans[at].textContent = ` ${sinceOf(disk, ...one)}`));
+  const timesOf = (...one) => [sinceOf(...one), untilOf(...one)].filter((text) => text !== ALWAYS).join("; ");
+  everyVerdict(disk).forEach((one, at) => (spans[at].textContent = ` ${timesOf(disk, ...one)}`));
 }
 
 // All rules that decide on a disk, in the order in which the desk tries them.
-function decidingRules({ accession, deed }) {
-  const of = (name, scope) => rulesOf(name, scope).map((rule) => {
-    const label = `${RULES[name].letter}${scope}.${rule.rank}`;
-    return { ...standingRule(RULES[name].path(scope, rule.rank), rule), rule, label, name, scope, origin: UNREAD };
-  });
-  return [...of("takedowns", accession), ...of("rules", deed)];
-}
-
-// What the desk says of a disk on the later days on which its rules begin or end, by the rules of today.
-async function readLater({ survey, things, asked }, tools) {
-  const turns = things.flatMap(({ rule }) => [rule?.from, rule?.until]).filter((day) => day > asked.day);
-  const [days, later] = [[...new Set(turns)].sort().slice(0, MOST_LATER), []];
-  for (const day of days) later.push({ day, files: await verdictsOf(survey, day, tools) });
-  return later;
-}
+const decidingRules = ({ accession, deed }) => [...standing("takedowns", accession), ...standing("rules", deed)]
+  .map((one) => ({ ...standingRule(one.path, one.rule), ...one, origin: UNREAD }));
 
 // Until when a file, by its place among them, is to an audience as it is, by the rules of today; and what comes then.
-function untilWords({ files, later }, at, audience) {
-  const turn = later.find(({ files: then }) => effectOf(then[at], audience) !== effectOf(files[at], audience));
+const ALWAYS = "until further notice";
+function untilOf({ later }, record, audience, at) {
+  const turn = later.find(({ files: then }) => effectOf(then[at], audience) !== effectOf(record, audience));
   if (turn) return `until ${turn.day}, then they may ${mayWords(turn.files[at], audience, {})}`;
-  return later.length < MOST_LATER ? "until further notice" : `at least until ${later.at(-1).day}`;
+  return later.isAll ? ALWAYS : `at least until ${later.at(-1).day}`;
 }
 
 // Each file with each audience, and its place, in the order in which they are shown.
@@ -149,7 +138,7 @@ function drawFiles() {
   frames.files.replaceChildren(
     dated("h2", `Who gets what on ${asked.day}`),
     box("ul", "", ...counts.map((text) => element("li", text))),
-    dated("p", `${askedWords(asked)} ${SINCE}`),
+    dated("p", `${askedWords(asked)} Until when is said where the rules that stood then have a day for it. ${SINCE}`),
     files.length ? table("files", columns, files.map(fileRow)) : element("p", "It has no file."),
     box("div", "choices", ...saver(button("Save who gets what as CSV"), () => saveDisk(shown))),
   );
@@ -158,27 +147,28 @@ function drawFiles() {
 
 // When a rule was put is another act than that since which a file is as it is: an older rule may have said the same.
 const HEADS = [
-  ...[...SAVED_HEADS, "what the rule that decides says", "when, by whom, and why that rule itself was put"],
-  "since when they may do just this with the file, by whichever rule (not since when that rule stands)",
-  "until when they may do just this, and what then, by the rules of that day, as the desk says of later days",
+  ...[...SAVED_HEADS, `when, by whom, and why that rule itself was put (${ANY_NAME})`],
+  `since when they may do just this with the file, by whichever rule (not since when that rule stands). ${SINCE}`,
+  `until when they may do just this, and what then, by the rules that stood when the desk was asked. ${HOLDS}`,
+  "about the disk (in one row only)",
 ];
 
 // Saves who gets what of a disk, what the rule says that decides, and who put it; gives the name of the file.
 function saveDisk(disk, more = "") {
-  const { survey, things, files, names, asked } = disk;
-  const rowOf = ([file, who, at]) => {
-    const { rule, origin = "" } = things.find(({ label }) => label === file[EFFECT_AT[who] + 1]) ?? {};
-    const said = [rule ? ruleWords(rule, names) : "", origin, sinceOf(disk, file, who), untilWords(disk, at, who)];
-    return [...savedVerdict(file, who, asked), ...said];
-  };
-  const { accession, deed } = survey;
+  const [{ survey, things, files, names, asked }, { accession, deed }] = [disk, disk.survey];
   const digest = disk.same?.digests.get(String(accession)) ?? "not known";
-  const came = `taken in: ${things[0].origin}; its SHA-256, as the journal has it: ${digest}`;
-  const whose = `under deed ${deed} of ${signedWords(survey)}; ${came}`;
   const looked = disk.isWhole ? ` The page looked for lines of the journal in each month back to ${disk.last}.` : "";
-  const asks = `${askedWords(asked)}${more}${looked} ${sameWords(disk.same)}`;
-  const all = `It has all ${counted(files.length, "file")}. ${asks}`;
-  const about = `Who gets what of disk ${accession}, ${whose}. ${all} ${SINCE} ${daysSaid()} ${ANY_NAME} ${UNSAID}`;
+  const came = `Taken in: ${things[0].origin}; its SHA-256, as the journal has it: ${digest}.`;
+  const whole = `${came}${looked} ${sameWords(disk.same)} ${NAMES}`;
+  const said = new Map(things.map(({ label, rule }) => [label, rule && ruleWords(rule, names)]));
+  const rowOf = ([file, who, at]) => {
+    const { origin } = things.find(({ label }) => label === file[EFFECT_AT[who] + 1]) ?? {};
+    const more = [sinceOf(disk, file, who), untilOf(disk, file, who, at), at === 0 && who === "public" ? whole : ""];
+    return [...savedVerdict(file, who, { ...asked, said }), origin, ...more];
+  };
+  const whose = `disk ${accession}, under deed ${deed} of ${signedWords(survey)}`;
+  const about = `Who gets what of ${whose}. This table has all files of the disk: ${files.length}. \
+${askedWords(asked)}${more} It does not say who has read or copied a file.${files.length ? "" : ` ${whole}`}`;
   const name = `disk-${accession}${more && "-before-an-answer"}-${asked.day}-asked`;
   return saveTable(name, asked.moment, about, HEADS, everyVerdict(disk), rowOf);
 }
@@ -193,7 +183,7 @@ export async function saveNow(accession, more, tools) {
 async function takeDown(records, tools) {
   const { accession } = shown.survey;
   await readHeld("takedowns");
-  const stand = [...rulesOf("takedowns", accession)];
+  const stand = rulesOf("takedowns", accession);
   const commands = records.map((record) => {
     const slot = Number(record[COLUMNS.slot]);
     const rule = { ...ruleIn(part("ticked")), select: { slot } };
@@ -209,18 +199,16 @@ async function takeDown(records, tools) {
   const saysOf = ({ rank, rule }) => placeOf("takedowns", accession, rank, rule, beside(rank)).says;
   const notes = commands.map((one) => `${one.name}: ${ruleWords(one.rule)}. ${saysOf(one)}`);
   const asked = { words, notes, commands, days: rehearsalDays(commands[0].rule), isTakedown: true, go: "Take down" };
-  asked.first = saveFirst(accession, words);
+  asked.first = [...saveFirst(accession, words), sameBox(shown.same)];
   if ((await rehearsed(asked, tools)).length === 0) return "Nothing is taken down.";
-  const isOf = (one, { rank, select }) => rank === one.rank && select.slot === one.slot;
-  const stands = (one) => rulesOf("takedowns", accession).some((rule) => isOf(one, rule));
-  const those = (some) => listed(some.map(({ name, rank }) => `${name} (takedown ${rank})`)) || "none";
-  const not = (one) => !stands(one);
-  const said = () => `These stand: ${those(commands.filter(stands))}. These do not: ${those(commands.filter(not))}.`;
+  const stands = ({ rank, slot }) =>
+    rulesOf("takedowns", accession).some((one) => one.rank === rank && one.select.slot === slot);
+  const some = (isStanding) => commands.filter((one) => stands(one) === isStanding);
+  const those = (is) => listed(some(is).map(({ name, rank }) => `${name} (takedown ${rank})`)) || "none";
+  const said = () => `These stand: ${those(true)}. These do not: ${those(false)}.`;
   const cells = ({ slot, name, rank }) => [accession, slot, name, rank].map(String);
-  const decided = ({ files, asked, same }) =>
-    `${decidedWords(files, commands.filter(stands), asked)} ${sameWords(same)}`;
-  const after = (how) => readDisk(accession, how).then(decided);
-  const more = { after, more: said, of: `disk-${accession}` };
+  const decided = (disk) => `${decidedWords(disk.files, some(true), disk.asked)} ${sameWords(disk.same)}`;
+  const more = { after: (how) => readDisk(accession, how).then(decided), more: said, of: `disk-${accession}` };
   return putMany("disk", commands, { ...more, heads: ["Disk", "Slot", "File", "Rank"], cells }, tools);
 }
 

@@ -2,13 +2,13 @@
 import { longTable, nameCell } from "./lists.js";
 import { searchText } from "./names.js";
 import { box, cell, counted, element, grouped, kindWords, part, row } from "./shared.js";
-import { changeCount, dated, diskCell, formOf, work } from "./staff.desk.js";
+import { changeCount, dated, diskCell, formOf, readRules, work } from "./staff.desk.js";
 import { limitFields, options } from "./staff.ruleform.js";
 import { pastOf } from "./staff.origins.js";
 import { forgetSaved, saveTable, saver } from "./staff.saved.js";
 import { COLUMNS, EFFECT_AT, SAVED_HEADS, UNSAID, askedWords, byWhichRules } from "./staff.verdicts.js";
 import { countWords, effectOf, mayWords, onDay, readVerdicts, ruleShown, savedVerdict } from "./staff.verdicts.js";
-import { AUDIENCES, momentNow, today } from "./staff.words.js";
+import { AUDIENCES, momentNow, ruleWords, today } from "./staff.words.js";
 import { inParts, keeper, pause } from "./stream.js";
 import { isTitled } from "./titles.js";
 
@@ -25,6 +25,7 @@ async function read(day, tools) {
   let last = [];
   const kept = (text, at) => (text === last[at] ? last[at] : at === SEARCHED ? text : once(text));
   const take = (record) => files.push((last = [...record, searched(record)].map(kept)));
+  asked.said = new Map((await readRules(tools.signal)).map(({ label, rule }) => [label, ruleWords(rule)]));
   const past = day < today() ? await pastOf(day, tools) : {};
   await readVerdicts(day, take, tools);
   seen = { ...asked, files, others: past.others, past: past.words };

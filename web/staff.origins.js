@@ -1,7 +1,7 @@
 // Who put what stands, when and why, as the journal says; and what it says of a day that is over.
 import { Refused, counted, meaning } from "./shared.js";
 import { UNKNOWN, bodyOf, changeWords, isUnknown, ruleOfBody, tried } from "./staff.changes.js";
-import { held, readHeld, standing } from "./staff.desk.js";
+import { held, readRules } from "./staff.desk.js";
 import { isFor } from "./staff.forecast.js";
 import { readBack } from "./staff.lines.js";
 import { COLUMNS, EFFECT_AT, effectOf, fileOf, given } from "./staff.verdicts.js";
@@ -171,12 +171,10 @@ function pastWords(name, { put, before }, { day, reach, isFar }) {
 // What the journal says of a day that is over: `others` gives, of a file and the rule that decides, what was other or
 // is not known; `words` says how much has changed since. (A promise takes what has a `then` for another promise.)
 export async function pastOf(day, tools) {
-  for (const what of ["deeds", "takedowns"]) await readHeld(what, tools.signal);
+  const rules = await readRules(tools.signal);
   const { changes, places, reach, none } = await journalTo((some) => goBackTo(day, some), tools);
   const known = { day, reach, isFar: goBackTo(day, changes) };
-  const labelled = ({ scope, rule }, name) =>
-    [`${RULES[name].letter}${scope}.${rule.rank}`, standingRule(RULES[name].path(scope, rule.rank), rule)];
-  const things = new Map(Object.keys(RULES).flatMap((name) => standing(name).map((one) => labelled(one, name))));
+  const things = new Map(rules.map(({ label, path, rule }) => [label, standingRule(path, rule)]));
   const signed = new Map(held.deeds.map((one) => [String(one.deed), one.signed]));
   const told = (name, one) => (one ? pastWords(name, originOf(one, places), known) : "");
   const diskTold = keeper((place) => told("", { ...standingDisk({}), place }));

@@ -1,15 +1,17 @@
-// Other disks with the same bytes: those put with the same SHA-256, as the journal has it, and who may read how many of
-// their files, as the desk says: a file that is closed on one disk may be open on another.
+// Other disks with the same bytes, as the journal has it, and who may read how many of their files, as the desk says.
 import { box, counted } from "./shared.js";
 import { UNKNOWN, isUnknown } from "./staff.changes.js";
-import { dated } from "./staff.desk.js";
+import { dated, readRules } from "./staff.desk.js";
 import { journalTo } from "./staff.origins.js";
-import { COLUMNS, askedWords, effectOf, readSome } from "./staff.verdicts.js";
+import { COLUMNS, askedWords, effectOf, laterOf, readSome } from "./staff.verdicts.js";
 import { AUDIENCES, UNREAD, listed, momentNow, quoted, today } from "./staff.words.js";
 import { titleOf } from "./titles.js";
 
-const LIMIT = `Of disks that the journal does not have the page cannot tell: the store has the SHA-256 of each, in the \
-column digest of its table image (FORMATS).`;
+// Of how many other disks the desk is asked what changes later; what is said of that, and what the page does not know.
+const [MOST_ASKED, LATER] = [10, `In brackets: the next day, if there is one, on which these are other files, and how \
+many then, by the rules that stood when it was asked. A takedown of one disk closes nothing on another.`];
+const LIMIT = `Only whole disks are compared: a file may also be on a disk that differs elsewhere. Of disks that the \
+journal does not have the page cannot tell: the store, a file of SQLite, has the SHA-256 of each in its table image.`;
 
 // The SHA-256 with which each disk was put last; and the others with that of some, by their numbers: of which of these,
 // whether that is sure, and their verdicts of today.
@@ -24,18 +26,30 @@ export async function sameBytes(accessions, { changes, none, reach }, tools) {
   }
   const asked = { day: found.size ? today() : "", moment: momentNow() };
   const take = (record) => found.get(record[COLUMNS.accession])?.files.push(record);
-  if (found.size) await readSome([...found.keys()], asked.day, take, tools);
+  if (found.size) await readSome([...found.keys()], asked.day, take, tools).then(() => readRules(tools.signal));
   const others = [...found].sort(([one], [other]) => one - other);
+  for (const [accession, one] of others.slice(0, MOST_ASKED)) {
+    const deed = Number(one.files[0]?.[COLUMNS.deed]);
+    one.later = await laterOf({ accession: Number(accession), deed }, asked.day, tools);
+  }
   return { digests, others, unnamed: named.get(undefined) ?? [], count: accessions.length, asked, none, reach };
 }
 
-function diskWords([accession, { of, isSure, files }], isOfMany) {
+// How many files an audience may read; and the next day on which these are others, with how many then.
+function readsWords({ files, later }, audience) {
+  const of = (all) => all.filter((one) => effectOf(one, audience) === "read").map((one) => one[COLUMNS.slot]);
+  const turn = later?.find((one) => String(of(one.files)) !== String(of(files)));
+  return `${of(files).length}${turn ? ` (from ${turn.day}: ${of(turn.files).length})` : ""}`;
+}
+
+function diskWords([accession, { of, isSure, files, later }], isOfMany) {
   const title = titleOf(Number(accession));
   const more = [title && quoted(title), isOfMany && `with the bytes of disk ${listed(of)}`, !isSure && UNKNOWN];
   const reads = Object.entries(AUDIENCES).map(([audience, words], at) =>
-    `${words}${at ? "" : " may read"} ${files.filter((record) => effectOf(record, audience) === "read").length}`);
+    `${words}${at ? "" : " may read"} ${readsWords({ files, later }, audience)}`);
+  const far = later?.isAll ? "" : " (on other days it may be otherwise: see the timeline)";
   const what = files.length ? `of ${counted(files.length, "file")} ${listed(reads)}` : "the desk has no file of it";
-  return `${[`disk ${accession}`, ...more].filter(Boolean).join(", ")}: ${what}`;
+  return `${[`disk ${accession}`, ...more].filter(Boolean).join(", ")}: ${what}${far}`;
 }
 
 // What is to be said: first, then of each disk, and of what is not known.
@@ -49,7 +63,7 @@ function partsOf(same) {
   const why = none || `${journal} does not have the SHA-256`;
   const unknown = unnamed.length && `Which other disks have the bytes of ${of} is not known: ${why}.`;
   const [first, ...more] = [unnamed.length < count && (others.length ? also : no), unknown].filter(Boolean);
-  const rest = [others.length && askedWords(asked), ...more, LIMIT].filter(Boolean).join(" ");
+  const rest = [others.length && `${askedWords(asked)} ${LATER}`, ...more, LIMIT].filter(Boolean).join(" ");
   return [first, others.map((one) => diskWords(one, count > 1)), rest];
 }
 

@@ -1,6 +1,7 @@
 // What every caller gets of every file on a day, as the desk says; and how that is said and saved.
 import { shownName } from "./names.js";
 import { Refused, element, explained, grouped, meaning } from "./shared.js";
+import { rulesOf } from "./staff.desk.js";
 import { AUDIENCES, EFFECTS, inUtc, today, whenWords } from "./staff.words.js";
 import { readTable } from "./stream.js";
 import { titleOf } from "./titles.js";
@@ -19,6 +20,17 @@ export async function verdictsOf({ accession, files }, day, { signal }) {
   await readTable(`/staff/verdicts/${day}/${accession}`, { take: (record) => found.push(record), signal });
   if (files !== undefined && found.length !== files) throw new Refused(0, {});
   return found;
+}
+
+// What the desk says of a disk on the later days on which its rules, as read last, begin or end: if so many, of all.
+const MOST_LATER = 20;
+export async function laterOf(disk, now, tools) {
+  const rules = [...rulesOf("takedowns", disk.accession), ...rulesOf("rules", disk.deed)];
+  const turns = rules.flatMap(({ from, until }) => [from, until]).filter((day) => day > now);
+  const days = [...new Set(turns)].sort();
+  const later = Object.assign([], { isAll: days.length <= MOST_LATER });
+  for (const day of days.slice(0, MOST_LATER)) later.push({ day, files: await verdictsOf(disk, day, tools) });
+  return later;
 }
 
 export const isNoDisk = (fault) => fault.said?.error === "no-accession";
@@ -94,11 +106,12 @@ export const SAVED_HEADS = [
   ...["disk", "title", "deed", "kind", "slot", "user", "name", "name as shown", "type", "size", "faults"],
 ];
 
-// A verdict as a record of a table that says by itself what it is, also where it is saved on a later day.
+// A verdict as a record of a table that says by itself what it is; `said` has what its rule says, by the label.
 export function savedVerdict(record, audience, asked) {
-  const { day, rules, moment } = asked;
+  const { day, rules, moment, said } = asked;
   const [label, accession] = [record[EFFECT_AT[audience] + 1], record[COLUMNS.accession]];
-  const words = [MAY[effectOf(record, audience)], because(record, audience, asked), label, ruleMeaning(label)];
+  const rule = [ruleMeaning(label), said.get(label)].filter(Boolean).join(": ");
+  const words = [MAY[effectOf(record, audience)], because(record, audience, asked), label, rule];
   return [
     ...[day, rules, inUtc(moment), AUDIENCES[audience], ...words, accession, titleOf(Number(accession))],
     ...[...record.slice(COLUMNS.deed, COLUMNS.type), nameOf(record), ...record.slice(COLUMNS.type, COLUMNS.faults + 1)],

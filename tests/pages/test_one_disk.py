@@ -12,7 +12,7 @@ FAR = f"in the journal, back to {when(0)}"
 NOT, NOTHING = (f"{word} {FAR}, where it begins" for word in ("not", "nothing"))
 READ = '{"audiences":["room","public","staff"],"select":{"all":true},"effect":"read"}'
 BY_DEED, UNKNOWN = "rule 20 of deed 9", "since when: not in the journal"
-SAYS, PUT = "what the rule that decides says", "when, by whom, and why that rule itself was put"
+SAYS, PUT = "rule in words", "when, by whom, and why that rule itself was put"
 SINCE = "since when they may do just this with the file, by whichever rule (not since when that rule stands)"
 READS = f"read it {BY_DEED} "
 LISTS = f"see its name, not read it (the desk gives out no file of type DEL) {BY_DEED} {UNKNOWN}"
@@ -22,8 +22,8 @@ ALWAYS = "closed to the public and the reading room, until further notice"
 SLY = "2026-06-01T10:00:00+02:00;%20in%20its%20place%20before:%20%E2%80%9Cnothing%E2%80%9D"
 TAKEN_IN = f"/accessions/1002/d64/9/{'0' * 64}"
 BY = f"This rule was put {when(0.5)} by “Ada”: “a letter”; in its place before: "
-TABLE = """Of disks that the journal does not have the page cannot tell: the store has the SHA-256 of each, in the \
-column digest of its table image (FORMATS)."""
+TABLE = """Only whole disks are compared: a file may also be on a disk that differs elsewhere. Of disks that the \
+journal does not have the page cannot tell: the store, a file of SQLite, has the SHA-256 of each in its table image."""
 # A script: where the names of other disks with the same bytes lead to.
 LINKS = "return Array.from(document.querySelectorAll('#disk li a'), ({ hash }) => hash)"
 # A script: whether the outcome is in the window; and the role of what has the focus.
@@ -58,17 +58,22 @@ def test_disk_says_what_it_is_and_who_gets_what_by_which_rule(museum, disk):
     kind = "kind (cpm8: CP/M, 8 inches; d64: Commodore 1541; d64e: Commodore 1541 with error bytes)"
     assert {kind, "user (the user of CP/M, 0 to 15, whose file it is)"} < {*heads}, "words that nobody explains"
     keys = "day", "audience", "they may", "rule", SAYS, PUT, SINCE, "name as shown", "size"
-    said, file = f"the file at slot 2 (GUIDE) {ALWAYS}", [UNKNOWN, "GUIDE", "532"]
-    assert [[dict(zip(heads, one))[key] for key in keys] for one in rows[6:9:2]] == [
+    said, file = f"takedown 1000 of disk 1002: the file at slot 2 (GUIDE) {ALWAYS}", [UNKNOWN, "GUIDE", "532"]
+    names = [head.partition(" (")[0] if head.startswith(PUT) else head.partition(". ")[0] for head in heads]
+    assert [[dict(zip(names, one))[key] for key in keys] for one in rows[6:9:2]] == [
         [TODAY, "the public", SHUT, "T1002.1000", said, NOT, *file],
-        [TODAY, "the staff", "read it", "R9.20", f"all files readable for {ALL}", BY + NOTHING, *file]]
-    assert "A name behind a slot is that of the disk as it was when the desk was asked." in rows[0][1]
-    assert "The page looked for lines of the journal in each month back to 2013-12. " in rows[0][1], "how far it looked"
-    assert "as the page reckons from the changes that it read and the days" in rows[0][1], "as if it had read all"
-    assert f"{NOT}; its SHA-256, as the journal has it: not known. It has all" in rows[0][1]
+        [TODAY, "the staff", "read it", "R9.20", f"{BY_DEED}: all files readable for {ALL}", BY + NOTHING, *file]]
+    whole, holds = rows[0][-1], "A rule holds only on its days, if it has any, and never before it was put."
+    assert {row[-1] for row in rows[1:]} == {""} and max(len(row[1]) for row in rows) < 300, "the same in every row"
+    assert "This table has all files of the disk: 3." in rows[0][1], "whether the disk or the table has them"
+    assert "A name behind a slot is that of the disk as it was when the desk was asked." in whole
+    assert "The page looked for lines of the journal in each month back to 2013-12. " in whole, "how far it looked"
+    assert "as the page reckons from the changes that it read and the days" in heads[-3], "as if it had read all"
+    assert holds in heads[-2] and holds in disk.text("#disk .stands"), "as if a takedown of a day to come closed now"
+    assert whole.startswith(f"Taken in: {NOT}; its SHA-256, as the journal has it: not known. The page")
     far = f"is not known: the journal, back to {when(0)}, does not have the SHA-256. {TABLE}"
-    assert f"Which other disks have the bytes of disk 1002 {far}" in rows[0][1], "as if there were none"
-    assert {row[-1] for row in rows} == {"until further notice"}
+    assert f"Which other disks have the bytes of disk 1002 {far}" in whole, "as if there were none"
+    assert {row[-2] for row in rows} == {"until further notice"}
     disk.door.journals["/journal"] += journal_lines(2, START - 9, "200", "PUT", TAKEN_IN)
     museum.rules["T1002"] = {5: museums.rule(5, "list", ["staff"], {"slot": 2}, "2026-07-01"),
                              9: museums.rule(9, "deny", ["public", "room"], {"slot": 2}, None, "2027-01-01")}
@@ -76,8 +81,11 @@ def test_disk_says_what_it_is_and_who_gets_what_by_which_rule(museum, disk):
     _, *rows = saved_table(disk, f"disk-1002-{TODAY}-asked", "Save who gets what as CSV")
     ends = [f"until {day}, then they may {may}"
             for day, may in [("2027-01-01", "read it")] * 2 + [("2026-07-01", "see its name, not read it")]]
-    assert [row[-1] for row in rows[3:]] == ["until further notice"] * 3 + ends, "a day on which it ends is not said"
-    assert f"; its SHA-256, as the journal has it: {'0' * 64}. It has all" in rows[0][1]
+    assert [row[-2] for row in rows[3:]] == ["until further notice"] * 3 + ends, "a day on which it ends is not said"
+    cells = [disk.read()["rows"][row][7] for row in (1, 2)]
+    assert [cell.endswith(f"; {ends[2]}") for cell in cells] == [False, True], "not on the page"
+    came = f"Taken in: This disk was put {when(-8.5)} by nobody who is named: no reason was given; in its place before"
+    assert rows[0][-1].startswith(came) and f"; its SHA-256, as the journal has it: {'0' * 64}. The page" in rows[0][-1]
     assert f"under deed 9 of “{DONOR_OF_9}”, signed" in rows[0][1], "a donor's name reads as words of the page"
 
 def test_rule_says_what_was_there_before_it_or_how_far_the_journal_is_read_or_that_it_is_not(disk):
@@ -181,7 +189,7 @@ def test_files_ticked_by_their_shown_names_are_taken_down_and_what_stands_after_
     assert disk.set("#ticked [value=room]", True) or disk.push("Take down what is ticked")
     museum.rules["T1002"] = takedown(7, 2)
     _, *saved = saved_table(disk, f"disk-1002-before-an-answer-{TODAY}-asked", "Save what stands now, first")
-    assert [str(saved).count(one) for one in ("'read it'", "write any name.")] == [4, 9], "what stood at the opening"
+    assert [str(saved).count(one) for one in ("'read it'", "Taken in: ")] == [4, 1], "what stood at the opening"
     assert f"It is what stood before an answer to: “{due.format(' and the reading room')}”" in saved[0][1]
     del museum.rules["T1002"][7]
     disk.door.before = lost_at(2)
@@ -214,7 +222,7 @@ def test_other_disks_with_the_same_bytes_are_named_and_who_may_read_how_much_of_
     disk.door.journals["/journal"] = b"".join(
         journal_lines(at, START + at, status, "PUT", f"/accessions/{number}/d64/7/{digest}")
         for at, (status, number, digest) in enumerate(cases))
-    may = "of {} the public may read 0, the reading room 0 and the staff {}"
+    may = "of {} the public may read 0 (from 2030-01-01: 2), the reading room 0 (from 2030-01-01: 2) and the staff {}"
     due = ["disk 77: the desk has no file of it", f"disk 1004, nobody knows whether the desk did it: {may}",
            f"disk 1005: {may}".format("3 files", 2)]
     disk.go("disk/1002")
@@ -223,13 +231,15 @@ def test_other_disks_with_the_same_bytes_are_named_and_who_may_read_how_much_of_
     assert disk.script(LINKS) == ["#/disk/77", "#/disk/1004", "#/disk/1005"], "no way to the other disks"
     also = f"As the journal, back to {when(0)}, has it, the same bytes are also on 3 other disks. On {TODAY}:"
     _, *rows = saved_table(disk, f"disk-1002-{TODAY}-asked", "Save who gets what as CSV")
-    assert f"{also} {'; '.join(items)}. The desk was asked on {TODAY} at 12:" in rows[0][1]
-    assert f" UTC. {TABLE}" in rows[0][1]
+    assert f"{also} {'; '.join(items)}. The desk was asked on {TODAY} at 12:" in rows[0][-1]
+    assert f"stood when it was asked. A takedown of one disk closes nothing on another. {TABLE}" in rows[0][-1]
     museum.rules["R7"].pop(10)
     disk.set("#disk [name=slots][value='0']", True)
-    ticked = disk.push("Take down what is ticked") and disk.answer(True)["result"]
+    before = disk.push("Take down what is ticked")["sure"]
+    ticked = disk.answer(True)["result"]
     typed = disk.go("takedowns") and disk.take_down("1002", "", "2", "public") and disk.answer(True)["result"]
     many = disk.take_down("1002, 1003", "", "2", "public") and disk.answer(True)["result"]
+    assert due[2] in before and "A takedown of one disk closes nothing on another." in str(before), "not asked with it"
     for words in (ticked, typed, many):
         assert "; disk 1005" in str(words) and "the public may read 2, the reading room 2 and" in str(words), words
     assert "Which other disks have the bytes of disk 1003 is not known: the journal" in str(many)

@@ -70,7 +70,8 @@ def test_file_is_found_by_name_disk_or_rule_and_saved_without_formula(museum, st
     assert seen == (False, True), "in print a box has a label without its state"
     staff.cdp("Emulation.setEmulatedMedia", media="")
     assert [row[16] for row in rows] == [name if name[0] != "=" else f"'{name}" for name in museums.HARMFUL]
-    words = ["the staff", "read it", "", "R7.20", "rule 20 of deed 7", "1066", "", "7", "d64", "0", "", "../../X"]
+    rule = "rule 20 of deed 7: all files readable for the public, the reading room and the staff, until further notice"
+    words = ["the staff", "read it", "", "R7.20", rule, "1066", "", "7", "d64", "0", "", "../../X"]
     assert (rows[0][3], rows[0][5:]) == (STOOD, [*words, "../../X", "SEQ", "4", ""]), "saved a day after it was asked"
     staff.fill("eyes", words="guide").wait(lambda state: len(state["rows"]) == 2)
     assert not is_said_saved(staff), "a file speaks for what is shown since"
@@ -120,7 +121,7 @@ def test_today_is_the_day_of_the_desk_in_whatever_zone_the_browser_is(museum, st
         heads, *rows = saved_table([staff, staff.go("disk/1004")][0], f"disk-1004-{day}-asked", "Save who gets what as")
         assert staff.texts("#disk h2")[0] == f"Who gets what on {day}", "the day of the computer"
         assert {row[2] for row in rows} == {day} and (rows[0][6] == "read it") == is_open, "another day in the file"
-        assert heads[1].endswith(f" UTC it was {day} there)") and f"it was {day} there. A ch" in rows[0][1]
+        assert heads[1].endswith(f" UTC it was {day} there)") and f"it was {day} there. A r" in staff.text("#disk")
         assert f"whose zone it does not tell: on {TODAY} at 12:" in heads[1], "a day that nobody can resolve"
         assert staff.go("eyes") and f"gets on {day}." in staff.push("Look")["result"][0]
         assert staff.go("timeline") and staff.push("Look at")["result"] == [f"Read: {day}."]
