@@ -76,6 +76,7 @@ const REFUSED = {
   405: "that cannot be done there", 409: "it did not fit what stood, or it was the last key of the staff",
   413: "it was longer than the desk takes", 422: "the bytes were not those that it named",
 };
+const CHECKED = "done: what it found is not in the journal; Checks has what the latest check of each disk found";
 export const UNKNOWN = "nobody knows whether the desk did it";
 
 // What became of a change: it was done, or refused, or nobody knows, as where it took too long or its sender left.
@@ -84,7 +85,7 @@ export const isUnknown = (change) => change.status !== "200" && !isRefused(chang
 
 export function outcomeWords(change) {
   const { status } = change;
-  if (status === "200") return "done";
+  if (status === "200") return change.isCheck ? CHECKED : "done";
   if (isRefused(change)) return `refused: ${own(REFUSED, status) || status}`;
   return status === "begun" ? UNKNOWN : `${UNKNOWN} (${status})`;
 }
@@ -106,8 +107,7 @@ export class AllChanges {
 
   // The line that came when it ended decides.
   add(came) {
-    const known = this.byId.get(came.id);
-    const { moment, at, status } = came;
+    const [known, { moment, at, status }] = [this.byId.get(came.id), came];
     if (this.oldest === "" || moment < this.oldest) this.oldest = moment;
     if (known === undefined) this.byId.set(came.id, changeOf(came));
     else if (status !== "begun") Object.assign(known, { moment, at, status: textOf(status) });
@@ -116,8 +116,7 @@ export class AllChanges {
   // From the newest on, each with the bodies of what may have stood at its place before, undefined where no line says,
   // null for nothing; and whether it has surely replaced another.
   inOrder() {
-    const all = Array.from(this.byId.values()).sort((one, other) => one.at - other.at);
-    const stands = new Map();
+    const [all, stands] = [Array.from(this.byId.values()).sort((one, other) => one.at - other.at), new Map()];
     for (const change of all) {
       const stood = (change.stood = stands.get(change.place) ?? [undefined]);
       change.hasReplaced = stood.every((one) => typeof one === "string" && one !== change.body);

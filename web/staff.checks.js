@@ -1,15 +1,18 @@
 // Survey and check of disks, and the latest check of each.
-import { listTable } from "./lists.js";
 import { box, cell, counted, element, grouped, kindWords, own, part, row } from "./shared.js";
 import { buttonsCell, change, changed, dated, diskCell, formOf, held, readHeld } from "./staff.desk.js";
 import { shownAnew, showsAnew } from "./staff.desk.js";
 import { isDone, sendMany } from "./staff.many.js";
 import { limitFields } from "./staff.ruleform.js";
+import { showList } from "./staff.saved.js";
 import { dayAfter, quoted, signedWords, today } from "./staff.words.js";
 
 // After how many days a disk is due to be checked again.
 const DAYS = 365;
 const DIRECTORIES = { end: "it ends well", loop: "it leads back into itself", off: "it leads off the disk" };
+
+const SOUND = `\u201cSound\u201d says: the bytes that the desk has still have the SHA-256 with which the disk was \
+taken in. It says nothing of damaged files: a sound disk may have some.`;
 
 // What a check has found: a warning where a disk is changed.
 const finding = (text, isBad, more = isBad ? " Restore a backup of what is changed." : "") =>
@@ -55,7 +58,7 @@ async function checkAll(tools) {
       const checks = items.map((item) => ({ ...item, outcome: item.found }));
       return foundOf(checks, `${counted(items.filter(isDone).length, "disk")} checked`, `.${rest}`);
     },
-    heads: ["Disk", "Found"],
+    ...{ what: "Checks of disks that were to be made", says: SOUND, heads: ["Disk", "Found"] },
     cells: ({ accession, found }) => [String(accession), found],
   };
   return due.length ? sendMany(run, tools) : `There is no disk whose latest check is before ${before}.`;
@@ -80,7 +83,7 @@ function checkRow({ accession, day, outcome }) {
 export function checkWords(disk) {
   const { day, outcome } = held.checks.find(({ accession }) => accession === disk) ?? {};
   const isBad = outcome === "changed";
-  return finding(day ? `Latest check: ${isBad ? "CHANGED" : outcome} on ${day}.` : "Never checked.", isBad);
+  return finding(day ? `Latest check: ${isBad ? "CHANGED" : outcome} on ${day}. ${SOUND}` : "Never checked.", isBad);
 }
 
 // What stands of all disks: the warning stays there as long as a disk is changed.
@@ -92,9 +95,8 @@ async function showChecks() {
   const checks = await readHeld("checks");
   const columns = { Disk: (one) => one.accession, "Checked on": (one) => one.day ?? "never" };
   Object.assign(columns, { Outcome: (one) => one.outcome ?? "", "": null });
-  const made = listTable("latest checks", columns, held.checks, checkRow);
   const words = checks.length ? summary(checks) : element("p", "There is no disk.");
-  part("checks").querySelector(".stands").replaceChildren(words, ...(checks.length ? [made] : []));
+  showList("checks", words, ["latest checks", columns, checks, checkRow], SOUND);
   formOf("checks").elements.before.defaultValue = dayAfter(today(), -DAYS);
 }
 

@@ -3,16 +3,14 @@ import { longTable } from "./lists.js";
 import { Refused, box, button, cell, counted, element, explainRefusal, refusalName, row } from "./shared.js";
 import { ANY_NAME, change, dated, diskCell, isUnsure, keepReason, older, paragraph, whoNow } from "./staff.desk.js";
 import { saveTable, saver } from "./staff.saved.js";
-import { VISITS, askToday, inUtc, momentNow } from "./staff.words.js";
+import { VISITS, askToday, inUtc, momentNow, whenWords } from "./staff.words.js";
 
-const DONE = "done";
-const isTakedown = ({ word }) => word === "takedown";
+const [DONE, isTakedown] = ["done", ({ word }) => word === "takedown"];
 
 // What is to be said of a change that failed.
 function outcomeWords(fault) {
   if (!(fault instanceof Refused)) return "This page cannot read the desk's answer.";
-  const name = refusalName(fault);
-  const more = isUnsure(fault) ? " The desk may have done it all the same." : "";
+  const [name, more] = [refusalName(fault), isUnsure(fault) ? " The desk may have done it all the same." : ""];
   return `${explainRefusal(fault)}${more}${name && ` (${name})`}`;
 }
 
@@ -47,8 +45,7 @@ export async function sendMany(run, { progress, signal }) {
 
 // How many are done, and, behind that or behind what the run says of them, how many are not.
 function summary({ items, word, verb, said }) {
-  const done = items.filter(isDone).length;
-  const open = items.filter((item) => !outcomeOf(item)).length;
+  const [done, open] = [items.filter(isDone).length, items.filter((item) => !outcomeOf(item)).length];
   const out = items.filter(isOver).length - done;
   const more = `${open ? `, ${open} not sent yet` : ""}${out ? `, ${out} left out` : ""}`;
   const rest = `${items.length - done - open - out} failed${more}.`;
@@ -58,26 +55,24 @@ function summary({ items, word, verb, said }) {
 
 // What became of the items: in short, those not done, buttons to go on or save it; and whether the list is older.
 function report(run, isOlder) {
-  const others = run.items.filter((item) => outcomeOf(item) && !isDone(item));
-  const isWhole = run.items.every(isOver);
-  const columns = [...run.heads, "Outcome"];
-  const isDisk = (column, text) => text && /^(Accession|Disk)$/.test(column);
+  const [others, isWhole] = [run.items.filter((item) => outcomeOf(item) && !isDone(item)), run.items.every(isOver)];
+  const [columns, isDisk] = [[...run.heads, "Outcome"], (column, text) => text && /^(Accession|Disk)$/.test(column)];
   const cellOf = (column, text) => (isDisk(column, text) ? diskCell(text, column) : cell(column, text ?? "", "words"));
   const rowOf = (item) => row([...run.cells(item), outcomeOf(item)].map((text, at) => cellOf(columns[at], text)));
   const table = others.length ? longTable("Not done", columns, others, rowOf) : null;
   const more = run.more && !isWhole && !isOlder ? element("p", run.more()) : null;
-  const decided = run.decided ? dated("p", run.decided) : null;
+  const [decided, visits] = [run.decided && dated("p", run.decided), isTakedown(run) ? paragraph(VISITS) : null];
+  const last = `Begun, or gone on with, ${whenWords(run.begun)}.`;
   const goOn = isWhole ? null : button("Go on with the rest", () => change(run.section, (how) => sendMany(run, how)));
-  const buttons = box("p", "choices", goOn, ...saver(button("Save the report"), () => saveReport(run)));
-  const visits = isTakedown(run) ? paragraph(VISITS) : null;
+  const buttons = box("p", "choices", goOn, ...saver(button("Save the report"), () => saveReport(run)), last);
   return box("div", "report", summary(run), table, more, decided, visits, buttons, isOlder ? older(run.section) : null);
 }
 
 function saveReport({ section, of = section, begun, items, heads, cells, decided, ...run }) {
   const columns = [...heads.map((head) => head.toLowerCase()), "outcome", "by", "reason", "tried at"];
+  const put = isTakedown(run) ? "Takedowns that were to be put" : "Disks that were to be put";
   const recordOf = (item) => [...cells(item), outcomeOf(item) || "not sent", ...(item.who ?? ["", "", ""])];
-  const [what, ...more] = isTakedown(run) ? ["Takedowns that were to be put", VISITS] : ["What was to be sent"];
-  const about = `${what}, and what became of each. It does not say what stands since.`;
-  const all = [about, ANY_NAME, ...more, decided].filter(Boolean).join(" ");
+  const about = `${run.what ?? put}, and what became of each. It does not say what stands since.`;
+  const all = [about, ANY_NAME, isTakedown(run) ? VISITS : run.says, decided].filter(Boolean).join(" ");
   return saveTable(`${of}-report-of`, begun, all, columns, items, recordOf);
 }
