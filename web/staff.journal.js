@@ -7,7 +7,7 @@ import { Lines, MONTHS, MOST, PIECE } from "./staff.lines.js";
 import { limitFields } from "./staff.ruleform.js";
 import { forgetSaved, saveTable, saver } from "./staff.saved.js";
 import { isNoDisk, namesOf, verdictsOf } from "./staff.verdicts.js";
-import { inUtc, momentNow } from "./staff.words.js";
+import { inUtc, momentNow, whenWords } from "./staff.words.js";
 import { withTitle } from "./titles.js";
 
 export const COLUMNS = ["When", "Who", "What", "Outcome", "Reason"];
@@ -49,15 +49,14 @@ function ofWords(change) {
 
 // The changes to show, and words for which these are.
 function found({ accession: { value: number }, deed, words, day, checks }) {
-  const text = words.value.trim().toLowerCase();
+  const text = words.value.trim();
+  const isSaid = ({ search }) => search.includes(text.toLowerCase());
   const its = disk.deed ? `and of its deed ${disk.deed}, which decides about it too` : "of whose deed nothing is known";
-  const isOfDay = ({ moment }) => moment.startsWith(day.value);
-  const zone = changes.find(isOfDay)?.moment.slice(19) ?? "";
   const holds = [
     [number, `of disk ${number} ${its}`, (change) => change.accession === number || isOfDeed(change, disk)],
     [deed.value, `of deed ${deed.value}`, (change) => change.deed === deed.value],
-    [text, `with \u201c${text}\u201d in the name or the reason`, (change) => change.search.includes(text)],
-    [day.value, `of ${day.value} by the clock of the museum's machine${zone && ` (UTC${zone})`}`, isOfDay],
+    [text, `with \u201c${text}\u201d in the name or the reason`, isSaid],
+    [day.value, `of ${day.value} in UTC`, ({ moment }) => inUtc(moment).startsWith(day.value)],
     [!checks.checked, "without checks of disks", (change) => change.isCheck !== true],
     [disk.names, `with the names of files as disk ${number} had them when the page asked for it`, () => true],
   ].filter(([value]) => value);
@@ -73,7 +72,7 @@ const namesFor = ({ accession }, { names }) =>
 // The row of a change; `of` is the disk for which it is shown, if any.
 export function changeRow(change, of) {
   const words = `${isOfDeed(change, of) ? "Of its deed: " : ""}${changeWords(change, namesFor(change, of))}`;
-  const [when, who] = [cell("When", change.moment.replace("T", " ")), cell("Who", change.name, "words")];
+  const [when, who] = [cell("When", dated("span", inUtc(change.moment))), cell("Who", change.name, "words")];
   const what = cell("What", withTitle(dated("span", words), Number(change.accession)), "words");
   const outcome = cell("Outcome", outcomeWords(change), isUnknown(change) ? "warning" : "");
   return row([when, who, what, outcome, cell("Reason", change.reason, "words")]);
@@ -108,8 +107,8 @@ async function draw() {
   if (mine !== turn) return;
   const { shown, which } = found(form.elements);
   const made = shown.length ? [longTable("changes", COLUMNS, shown, (change) => changeRow(change, disk))] : [];
-  const words = [dated("p", summary()), element("p", `Shown: ${which}.`)];
-  stands.replaceChildren(...words, ...made);
+  const words = `Shown: ${which}, the newest first. The journal was read ${whenWords(readAt)}.`;
+  stands.replaceChildren(dated("p", summary()), element("p", words), ...made);
   forgetSaved("journal");
   stands.setAttribute("aria-busy", "false");
   form.elements.older.disabled = lines.isWhole || isFull();
@@ -128,8 +127,7 @@ export function explained(fault) {
 
 // Reads what is older than what was read, and shows all.
 async function readOlder(tools) {
-  const before = read.byId.size;
-  const reading = lines.readOlder((line) => read.take(line), () => read.oldest, tools);
+  const [before, reading] = [read.byId.size, lines.readOlder((line) => read.take(line), () => read.oldest, tools)];
   const fault = await reading.then(() => null, (came) => came);
   changes = read.inOrder();
   await draw();
@@ -149,12 +147,13 @@ function readAnew(tools) {
 }
 
 const UNSAID = "It does not say what was changed by other ways, nor whether a name is that of who wrote it.";
-const HEADS = ["moment", "name", "reason", "of", "what", "outcome", "method", "path", "status", "body"];
+const HEADS = ["number (1 is the oldest of those here)", "moment", "name", "reason", "of", "what", "outcome"];
+const ASKED = ["method", "path", "status", "body"];
 
-function savedRecord(change) {
+function savedRecord([change, number]) {
   const { moment, name, reason, method, path, status, body } = change;
   const words = [ofWords(change), changeWords(change, namesFor(change, disk)), outcomeWords(change)];
-  return [inUtc(moment), name, reason, ...words, method, path, status, body];
+  return [number, inUtc(moment), name, reason, ...words, method, path, status, body];
 }
 
 // Saves what is shown as a table for a spreadsheet.
@@ -164,8 +163,9 @@ async function saveShown() {
   const [since, of] = [inUtc(read.oldest).slice(0, 10), disk.accession && `-of-disk-${disk.accession}`];
   const counts = `${shown.length}-of-${changes.length}-changes`;
   const name = `journal${of}-${counts}${since ? `-back-to-${since}` : ""}-asked`;
-  const about = `The journal, read at ${inUtc(readAt)}: ${summary()} Here: ${which}. ${UNSAID}`;
-  return saveTable(name, readAt, about, HEADS, shown, savedRecord);
+  const about = `The journal, read at ${inUtc(readAt)}: ${summary()} Here: ${which}, the newest first. ${UNSAID}`;
+  const numbered = shown.map((change, at) => [change, shown.length - at]);
+  return saveTable(name, readAt, about, [...HEADS, ...ASKED], numbered, savedRecord);
 }
 
 // Shows the journal, of one disk where its number is given, and else all.

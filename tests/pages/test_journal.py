@@ -16,6 +16,7 @@ ELSEWHERE = HIDDEN.replace(" closed", " (that of disk 99, if there is one) close
 MAY_REPLACE = "they may say that a change replaced something."
 UNKNOWN, NOT_THERE = "nobody knows whether the desk did it", "refused: that cannot be done there"
 DEED = "/deeds/7", "Ada%20M%C3%BCller", "a%20letter%20of%203%20May", '{"donor":"A. <b>C</b>","signed":"2019-05-04"}'
+CHECKED = "done: what it found is not in the journal; Checks has what the latest check of each disk found"
 NO_DISK = "refused: there was no such disk, deed or address"
 BAD_BODY = "refused: the desk could not read it, or a value was beyond its limits"
 # Changes from the oldest on: the status, what came, and the cells of who, what, outcome and reason.
@@ -25,7 +26,7 @@ CHANGES = [("200", ("PUT", *DEED), "Ada Müller|Put deed 7: “A. <b>C</b>”, s
     ("200", ("PUT", f"/accessions/1002/d64/9/{KEY}", "'=1+1", "100%"),
      f"'=1+1|Put disk 1002, Commodore 1541, under deed 9, SHA-256 {KEY}|done|100%"),
     ("404", ("PUT", "/images/99/rules/9", "bob", "", RULE), f"bob|Put takedown 9 of disk 99: {ELSEWHERE}|{NO_DISK}|"),
-    ("200", ("POST", "/images/1002/check"), "|Check disk 1002|done|"),
+    ("200", ("POST", "/images/1002/check"), f"|Check disk 1002|{CHECKED}|"),
     ("502", ("PUT", f"/badges/{KEY}", "bob", "", '{"audience":"room"}'),
      f"bob|Put a key of the reading room, SHA-256 {KEY}|{UNKNOWN} (502)|"),
     (None, ("DELETE", f"/badges/{KEY}", "bob"), f"bob|Drop the key with SHA-256 {KEY}|{UNKNOWN}|"),
@@ -38,9 +39,13 @@ JOURNAL = b"".join(LINES) + b'{"id":"torn","moment":"2027-01-15T09:0'
 
 time_of = lambda number: moment(START + 60 * number + (0.5 if CHANGES[number][0] else 0))[:19].replace("T", " ")
 
+def shown_words(which, shown):
+    """What the page says of the changes that it shows; at which second it read them is as it says."""
+    return f"Shown: {which}, the newest first. The journal was read on {TODAY} at 12:{shown['stands'][1][-10:-5]} UTC."
+
 def rows_of(*numbers):
     """The rows of some changes, from the newest on."""
-    return [[f"{time_of(number)}+00:00", *CHANGES[number][2].split("|")] for number in sorted(numbers, reverse=True)]
+    return [[f"{time_of(number)} UTC", *CHANGES[number][2].split("|")] for number in sorted(numbers, reverse=True)]
 
 def read(staff, journal, older=None, place="journal"):
     """Opens the journal with these files: what is written now, and what was rotated away."""
@@ -57,7 +62,7 @@ def test_changes_stand_with_who_what_outcome_and_reason(staff):
     shown = read(staff, JOURNAL)
     summary = f"11 changes read, from {time_of(0)} UTC to {time_of(10)} UTC; older lines, if any, were not read: "
     summary += f"{MAY_REPLACE} Of 3 {UNKNOWN}, or it has not ended yet. 1 line cannot be read."
-    assert shown["stands"] == [summary, "Shown: 10 changes of these, without checks of disks."]
+    assert shown["stands"] == [summary, shown_words("10 changes of these, without checks of disks", shown)]
     assert (shown["result"], shown["rows"]) == (["Read: 11 changes."], rows_of(0, 1, 2, 3, 4, 6, 7, 8, 9, 10))
     assert (staff.harmed(), staff.one("#who").is_displayed()) == ([None, 0], False)
     assert shown["links"].count("#/disk/99") == 2, "no way to the names of its files"
@@ -76,10 +81,13 @@ def test_what_is_looked_for_is_found_and_saved_without_a_formula(staff):
         staff.fill("journal", **{"accession": "", "deed": "", "words": "", "day": "", "checks": False, **typed})
         shown = staff.read()
         assert (shown["rows"], int(shown["stands"][1].split()[1])) == (rows_of(*found), len(found)), typed
+        assert f"“{typed.get('words', 'x')}”" in shown["stands"][1] or "words" not in typed, "not as it was typed"
     heads, *records = saved_table(staff, f"journal-of-disk-1002-3-of-11-changes-back-to-{moment(START)[:10]}-asked")
-    assert heads[2:] == ["moment", "name", "reason", "of", "what", "outcome", "method", "path", "status", "body"]
+    number, others = "number (1 is the oldest of those here)", "name reason of what outcome method path status body"
+    assert heads[2:] == [number, "moment", *others.split()] and ", the newest first." in records[0][1]
+    assert [row[2] for row in records] == ["3", "2", "1"], "lines of one second lose their order"
     what, path = rows_of(3)[0][2], CHANGES[3][1][1]
-    assert (len(records), records[2][3:]) == (3, ["''=1+1", "100%", "disk 1002", what, "done", "PUT", path, "200", ""])
+    assert (len(records), records[2][4:]) == (3, ["''=1+1", "100%", "disk 1002", what, "done", "PUT", path, "200", ""])
     due = f" UTC: 11 changes read, from {time_of(0)} UTC to {time_of(10)} UTC; older lines, if any"
     assert f"The journal, read at {TODAY} 12:{records[0][1][35:40]}{due}" in records[0][1], "saved without its hour"
     staff.fill("journal", accession="", checks=False).read()
@@ -105,16 +113,16 @@ def test_journal_of_a_disk_has_the_changes_of_its_deed_and_the_names_of_files(st
     due = [f"Drop takedown 1 of disk 1002, which said: {named}", words[0], f"Of its deed: {words[1]}"]
     assert [row[2] for row in shown["rows"]] == due, "a deed's rules stand elsewhere"
     _, *rows = saved_table(staff, f"journal-of-disk-1002-3-of-4-changes-back-to-{moment(START)[:10]}-asked")
-    assert [row[5:7] for row in rows[1:]] == [["disk 1002", words[0]], ["deed 9, the deed of disk 1002", words[1]]]
+    assert [row[6:8] for row in rows[1:]] == [["disk 1002", words[0]], ["deed 9, the deed of disk 1002", words[1]]]
     holds = "Here: 3 changes of these, of disk 1002 and of its deed 9, which decides about it too, without checks"
     assert holds in rows[0][1], "a saved journal says not which lines it has"
-    names = " of disks, with the names of files as disk 1002 had them when the page asked for it."
-    assert names in rows[0][1] and shown["stands"][1].endswith(names), "a name of today is told as one of that time"
+    names = " of disks, with the names of files as disk 1002 had them when the page asked for it, the newest first."
+    assert names in rows[0][1] and names in shown["stands"][1], "a name of today is told as one of that time"
     day, hour = moment(START - 7200)[:19].split("T")
-    assert f"{day} {hour}" in rows[0][1] and rows[2][2][:16] == f"{day} {hour[:5]}" and rows[2][2].endswith(" UTC")
-    assert "+0" not in str(rows), "two zones in one file"
+    assert f"{day} {hour}" in rows[0][1] and rows[2][3][:16] == f"{day} {hour[:5]}" and rows[2][3].endswith(" UTC")
+    assert "+0" not in f"{rows} {shown['rows']}", "two zones in one file, or one view"
     which = staff.fill("journal", day=moment(START)[:10]).read()["stands"][1]
-    assert f"of {moment(START)[:10]} by the clock of the museum's machine (UTC+02:00), without" in which
+    assert f"of {moment(START)[:10]} in UTC, without" in which
 
 def many(count, first=0, begun=START):
     """The changes of so many deeds, each with two lines."""
@@ -131,7 +139,8 @@ def test_long_journal_is_read_in_pieces_and_then_month_by_month(staff):
         assert asked(staff) == [("/journal", f"bytes={max(0, until - PIECE)}-{until - 1}")]
     back = f"from {time_of(0)} UTC to {in_utc(START + 6999.5)}; "
     back += f"older lines, if any, were not read: {MAY_REPLACE}"
-    assert shown["stands"] == [f"7,000 changes read, {back}", "Shown: 7,000 changes of these, without checks of disks."]
+    which = shown_words("7,000 changes of these, without checks of disks", shown)
+    assert shown["stands"] == [f"7,000 changes read, {back}", which]
     months = ["/journal-2027-01", *(f"/journal-{2026 - at // 12}-{12 - at % 12:02}" for at in range(120))]
     for begin, end, more in ((0, 5, 40), (5, 14, 50), (14, 120, 0)):
         shown = staff.push("Read what is older")
