@@ -84,8 +84,7 @@ export function longTable(caption, columns, items, rowOf) {
 }
 
 // Up to so many rows nobody needs to sort or filter; and how somebody has done it, by the caption of the list.
-const FEW = 20;
-const choices = new Map();
+const [FEW, choices] = [20, new Map()];
 
 // A table of items that can be sorted by the columns that have a value of each, and filtered by a text in these.
 export function listTable(caption, columns, items, rowOf) {
@@ -94,7 +93,7 @@ export function listTable(caption, columns, items, rowOf) {
   const chosen = choices.get(caption) ?? { words: "", column: "", turn: 1 };
   const filter = element("input", null, { type: "search", value: chosen.words });
   const count = element("span", "", { role: "status" });
-  const made = box("div", "", box("label", "", "Only rows with ", filter, " ", count), element("table", null));
+  const made = box("div", "", box("label", "", "Only rows with ", filter), " ", count, element("table", null));
   const isFound = (one) => names.some((name) => `${columns[name]?.(one) ?? ""}`.toLowerCase().includes(chosen.words));
   const order = (one, other) => {
     const [first, second] = [one, other].map(columns[chosen.column]);
@@ -104,7 +103,8 @@ export function listTable(caption, columns, items, rowOf) {
     chosen.words = filter.value.toLowerCase();
     const found = chosen.words ? items.filter(isFound) : items;
     const shown = chosen.column ? found.toSorted(order) : found;
-    count.textContent = `${grouped(shown.length)} of ${grouped(items.length)} shown`;
+    const those = chosen.words && `, those with \u201c${filter.value}\u201d`;
+    count.textContent = `${grouped(shown.length)} of ${grouped(items.length)} shown${those}`;
     made.lastChild.replaceWith(longTable(caption, names, shown, rowOf));
     made.querySelectorAll("th").forEach(addSort);
   };
@@ -130,8 +130,7 @@ export function listTable(caption, columns, items, rowOf) {
 
 // The cell of a file's name: as the machine showed it, and below it where it is printed otherwise.
 export function nameCell(kind, printed) {
-  const shown = shownName(kind, printed);
-  const more = { className: "printed", title: "as the desk prints it" };
+  const [shown, more] = [shownName(kind, printed), { className: "printed", title: "as the desk prints it" }];
   const other = shown === printed ? null : element("span", printed, more);
   return cell("Name", box("div", "", element("span", shown), other), "name");
 }

@@ -32,7 +32,8 @@ CUT_OFF = IS_SEEN + """return Array.from(root.querySelectorAll("body *"))
   .filter((one) => isSeen(one) && !one.matches("input, .skip") && (one.getBoundingClientRect().right > innerWidth + 1 ||
     (getComputedStyle(one).overflowX !== "visible" && one.scrollWidth > one.clientWidth + 1)))
   .map((one) => one.outerHTML);"""
-IN_PRINT = IS_SEEN + """return Array.from(root.querySelectorAll("button, input, nav, pre")).filter((one) => isSeen(one)
+IN_PRINT = IS_SEEN + """const useless = "button, input, nav, pre, #work form, [aria-label=files] th:first-child";
+return Array.from(root.querySelectorAll(useless)).filter((one) => isSeen(one)
   && (one.tagName !== "PRE" || one.scrollHeight > one.clientHeight + 1)).map((one) => one.outerHTML);"""
 # A script: how many controls the Tab key has to reach. Then window.came has those where the focus comes and shows.
 DUE = IS_SEEN + """document.activeElement.blur(); window.getSelection().removeAllRanges(); window.scrollTo(0, 0);
@@ -44,6 +45,11 @@ document.addEventListener("focusin", ({ target }) => {
   if (at >= 0 && isShown && !window.came.includes(at)) window.came.push(at);
 });
 return due.length;"""
+# A script: how a question stands in print, and whether the view behind it is printed, too; null where none is open.
+ASKS = """const one = document.querySelector("#sure[open]");
+return one && [getComputedStyle(one).position, document.querySelector("main").checkVisibility()];"""
+# A script: the rows of tables that may be split between two sheets of paper.
+SPLIT = "return Array.from(document.querySelectorAll('tr')).filter((one) => getComputedStyle(one).breakInside !== 'avoid')"
 MOST_TABS = 400
 # What has to have a name, by the roles that the browser tells a screen reader.
 NAMED = {*"link button textbox searchbox spinbutton combobox checkbox Date DisclosureTriangle".split(),
@@ -136,6 +142,6 @@ def test_each_view_has_a_title_of_its_own(whose, request):
 
 def test_print_is_on_light_paper_and_has_all_that_is_read_and_nothing_to_press(view):
     view.cdp("Emulation.setEmulatedMedia", media="print", features=[{"name": "prefers-color-scheme", "value": "dark"}])
-    paper, others = view.script(PAPER), view.script(IN_PRINT)
+    paper, others, asks, split = (view.script(script) for script in (PAPER, IN_PRINT, ASKS, SPLIT))
     view.cdp("Emulation.setEmulatedMedia", media="", features=[])
-    assert min(paper) > 200 and others == []
+    assert min(paper) > 200 and others == split == [] and asks in (None, ["absolute", False])
