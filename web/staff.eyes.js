@@ -32,7 +32,7 @@ async function read(day, tools) {
 }
 
 // Says of a file whether it is looked for: by a part of its name or its disk's title, by the disk's number or its rule.
-function finder(words, audience) {
+function finder(typed, audience, words = typed.toLowerCase()) {
   const [rule, ruleAt] = [words.toUpperCase(), EFFECT_AT[audience] + 1];
   const number = words.replace(/^disk\s+/, "");
   const isNumbered = (file) => file[COLUMNS.accession] === number || file[ruleAt] === rule;
@@ -41,7 +41,7 @@ function finder(words, audience) {
 }
 
 const wanted = ({ audience, words, closed } = formOf("eyes").elements) =>
-  ({ audience: audience.value, words: words.value.trim().toLowerCase(), showsClosed: closed.checked });
+  ({ audience: audience.value, words: words.value.trim(), showsClosed: closed.checked });
 
 // The files to show, of closed ones only what is asked for; their disk, if it is one; words; and counts of all files.
 async function lookThrough({ audience, words, showsClosed }, all) {

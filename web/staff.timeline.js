@@ -1,24 +1,23 @@
 // The timeline: the days of each rule that begins or ends by itself; a day to drag, and who gets what on it.
 import { listTable } from "./lists.js";
 import { askObject, box, button, cell, element, listOf, loaded, part, row } from "./shared.js";
-import { dated, formOf, work } from "./staff.desk.js";
+import { dated, formOf, paragraph, show, work } from "./staff.desk.js";
 import { Changes, dayParts } from "./staff.rehearsal.js";
 import { limitFields } from "./staff.ruleform.js";
 import { saveTable, saver } from "./staff.saved.js";
-import { COLUMNS, askedWords, audienceCounts, effectOf, onDay, readVerdicts } from "./staff.verdicts.js";
-import { AUDIENCES, RULES, dayAfter, inUtc, isDay, isOnNoDay, momentNow, standingWords, today } from "./staff.words.js";
+import { COLUMNS, askedWords, audienceCounts, byWhichRules, effectOf, onDay, readVerdicts } from "./staff.verdicts.js";
+import { AUDIENCES, RULES, dayAfter, inUtc, isDay, isOnNoDay, momentNow, signedWords } from "./staff.words.js";
+import { standingWords, today } from "./staff.words.js";
 import { keeper } from "./stream.js";
 
 // How many days the bars show before today and after the last change, and how far from today that one may be.
 const DAYS = 365;
-const MOST_DAYS = 50 * DAYS;
-const numberOf = (day) => Date.parse(`${day}T00:00:00Z`) / 86400000;
+const [MOST_DAYS, numberOf] = [50 * DAYS, (day) => Date.parse(`${day}T00:00:00Z`) / 86400000];
 // The rules that begin or end some day, each with the next of these days; and the first and the last day of the bars.
 let [lines, range] = [[], { first: 0, last: 1 }];
 // The day on which the desk was asked for them, and the moment.
 let asked = { day: "", moment: "" };
-const field = () => formOf("timeline").elements.day;
-const stands = () => part("timeline").querySelector(".stands");
+const [field, stands] = [() => formOf("timeline").elements.day, () => part("timeline").querySelector(".stands")];
 const turnsOf = (rule) => (isOnNoDay(rule) ? [] : [rule.from, rule.until].filter(Boolean));
 const allTurns = () => lines.flatMap(({ rule }) => turnsOf(rule)).sort();
 
@@ -34,9 +33,10 @@ async function readLines() {
   asked = { day: now, moment: momentNow() };
   const nextOf = (rule) => turnsOf(rule).find((day) => day > now) ?? "none";
   for (const [name, list, of] of [["rules", "deeds", "deed"], ["takedowns", "takedowns", "accession"]]) {
-    for (const { [of]: scope, rules } of listOf((await askObject(`/staff/${list}`))[list])) {
+    for (const { [of]: scope, rules, ...more } of listOf((await askObject(`/staff/${list}`))[list])) {
+      const donor = more.donor === undefined ? "" : signedWords(more);
       const turning = rules.filter((rule) => turnsOf(rule).length);
-      found.push(...turning.map((rule) => ({ name, scope, rule, next: nextOf(rule) })));
+      found.push(...turning.map((rule) => ({ name, scope, rule, donor, next: nextOf(rule) })));
     }
   }
   lines = found.sort((one, other) => (one.next < other.next ? -1 : 1));
@@ -66,8 +66,9 @@ function draw() {
   });
   slider.addEventListener("change", look);
   const made = lines.length ? listTable("rules", HEADS, lines, lineRow) : element("p", "No rule begins or ends.");
-  const choices = box("div", "choices", ...saver(button("Save these rules as CSV"), saveLines));
-  stands().replaceChildren(slider, made, choices, box("div", "day"));
+  const save = saver(button("Save these rules as CSV"), saveLines);
+  const choices = box("div", "choices", askedWords(asked), ...save);
+  stands().replaceChildren(slider, choices, made, box("div", "day"));
   mark();
 }
 
@@ -75,14 +76,15 @@ function draw() {
 function saveLines() {
   const { day, moment } = asked;
   const all = `Rules that begin or end by themselves, as they stood on ${day}: ${lines.length}. ${askedWords(asked)}`;
-  const about = `${all} On the day until which a rule is it does not hold any more. Rules without days are not here, \
-and may decide before these. It does not say since when a rule stands, nor who gets what: the views Journal and Who \
-sees what do.`;
-  const recordOf = ({ name, scope, rule, next }) => {
+  const about = `${all} A rule until 2030-01-01 holds for the last time on 2029-12-31. Rules without days are not \
+here, and may decide before these. It does not say since when a rule stands, nor who gets what: the views Journal and \
+Who sees what do.`;
+  const recordOf = ({ name, scope, rule, donor, next }) => {
     const words = [`${RULES[name].letter}${scope}.${rule.rank}`, RULES[name].words(scope, rule.rank)];
-    return [day, inUtc(moment), ...words, standingWords(rule), rule.from, rule.until, next];
+    return [day, inUtc(moment), ...words, standingWords(rule), rule.from, rule.until, next, donor];
   };
   const heads = ["day of asking", "asked at", "rule", "rule in words", "what it does", "from", "until", "next change"];
+  heads.push("donor of the deed whose rule it is (a takedown is of no deed)");
   return saveTable(`timeline-${lines.length}-rules-${day}-asked`, moment, about, heads, lines, recordOf);
 }
 
@@ -93,14 +95,15 @@ function mark() {
   Object.assign(stands().querySelector("[type=range]"), { value: numberOf(value), ariaValueText: value });
 }
 
-function choose(day) {
-  if (day) field().value = day;
+function choose(day, where) {
+  if (!day) return show("timeline", paragraph(`There is no ${where} change: no rule that stands begins or ends then.`));
+  field().value = day;
   mark();
   look();
 }
 
-// Reads a day: its files in order, the effects for each, how many are alike, and how they differ from those before.
-async function readDay(day, before, tools) {
+// Reads a day: its files in order, the effects for each, how many are alike, and how they differ from those of another.
+async function readDay(day, other, tools) {
   const [files, effects, changes, audiences] = [[], [], new Changes(), Object.keys(AUDIENCES)];
   const alikeOf = keeper((text) => ({ text, now: text.split(" "), count: 0 }));
   let [at, mine] = [0, { now: [] }];
@@ -112,8 +115,8 @@ async function readDay(day, before, tools) {
     const file = 10000 * record[COLUMNS.accession] + Number(record[COLUMNS.slot]);
     files.push(file);
     effects.push(mine);
-    while (before?.files[at] < file) at += 1;
-    const old = before?.files[at] === file ? before.effects[at] : mine;
+    while (other?.files[at] < file) at += 1;
+    const old = other?.files[at] === file ? other.effects[at] : mine;
     if (old.text === mine.text) return;
     const parts = ["accession", "slot", "kind", "name"].map((column) => record[COLUMNS[column]]);
     audiences.forEach((audience, of) => {
@@ -125,22 +128,22 @@ async function readDay(day, before, tools) {
   return { files, effects, alike: [...new Set(effects)], groups: changes.all() };
 }
 
-// Who gets what on a day, and what is other than today.
+// Who gets what on a day, and what is other than on the day before it; of a day that is over, than today.
 async function showDay(day, tools) {
-  const [current, when] = [today(), onDay(day)];
-  const now = await readDay(current, null, tools);
-  const then = day === current ? now : await readDay(day, now, tools);
-  const past = day < current ? `on ${day}, by the rules of ${current}, they` : "";
+  const [current, moment, rules] = [today(), momentNow(), byWhichRules(today())];
+  const past = day < current ? `on ${day}, ${rules}, they` : "";
+  const other = past ? current : dayAfter(day, -1);
+  const { alike, groups } = await readDay(day, await readDay(other, null, tools), tools);
   // what only a day that is over needs is loaded then
   const since = past ? await loaded(import("./staff.origins.js")).then(({ pastOf }) => pastOf(day, tools)) : {};
   const texts = audienceCounts((audience, effect) => {
     const at = Object.keys(AUDIENCES).indexOf(audience);
-    return then.alike.reduce((sum, one) => sum + (one.now[at] === effect ? one.count : 0), 0);
-  }).concat(since.words ?? []);
-  const words = `What is other ${past && `on ${day} `}than today, ${past && "by the rules of "}${current}`;
-  const none = past && `By the rules of ${current} nothing is other on that day; ${since.then}`;
-  const more = day === current ? [] : dayParts({ words, past, none, groups: then.groups });
-  const heading = dated("h2", `Who gets what ${when}`);
+    return alike.reduce((sum, one) => sum + (one.now[at] === effect ? one.count : 0), 0);
+  }).concat(askedWords({ moment }), since.words ?? []);
+  const words = `What is other on ${day} than ${past ? "today" : "on the day before it"}, ${other}, ${rules}`;
+  const none = past && `By these rules nothing is other on that day; ${since.then}`;
+  const more = dayParts({ words, past, none, groups, first: past ? "Now" : "The day before" });
+  const heading = dated("h2", `Who gets what ${onDay(day)}`);
   stands().querySelector(".day").replaceChildren(heading, ...texts.map((text) => dated("p", text)), ...more);
 }
 
@@ -173,6 +176,6 @@ export function listen() {
   limitFields(form);
   form.addEventListener("submit", look);
   day.addEventListener("change", () => day.reportValidity() && mark());
-  earlier.addEventListener("click", () => choose(allTurns().findLast((one) => one < day.value)));
-  later.addEventListener("click", () => choose(allTurns().find((one) => one > day.value)));
+  earlier.addEventListener("click", () => choose(allTurns().findLast((one) => one < day.value), "earlier"));
+  later.addEventListener("click", () => choose(allTurns().find((one) => one > day.value), "later"));
 }

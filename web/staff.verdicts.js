@@ -92,8 +92,8 @@ export const ruleShown = (record, audience) =>
 
 // By which rules the verdicts of a day are.
 export function byWhichRules(day) {
-  const rules = `by the rules of ${today()}`;
-  if (day === today()) return `${rules} when it was asked`;
+  const rules = "by the rules that stood when the desk was asked";
+  if (day === today()) return rules;
   return day < today() ? `${rules}, not by those that stood then` : `${rules}, which may change until then`;
 }
 

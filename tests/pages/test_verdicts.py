@@ -8,7 +8,7 @@ import pytest
 from staff_helpers import is_said_saved, journal_lines, saved_table, takedown
 from support import museums, stand_in
 from support.browser import TODAY
-from support.samples import refused, told
+from support.samples import DONOR_OF_9, refused, told
 
 DAYS = ["2026-06-25", "2026-07-05", "2027-06-15", "2027-06-16"]
 AUDIENCES = {"public": "the public", "room": "the reading room", "staff": "the staff"}
@@ -23,7 +23,8 @@ ENDS = "return ['.lane', '[type=range]'].map((at) => document.querySelector(`#ti
 LATE = """const later = setTimeout; let far = 0; performance.now = () => (far += 99);
 setTimeout = (go) => { setTimeout = later; delete performance.now; later(go, 2000); };"""
 UNSAID = "It does not say who has read or copied a file, nor what stands on other days."
-STOOD, PAST = f"by the rules of {TODAY} when it was asked", f"by the rules of {TODAY}, not by those that stood then"
+STOOD = "by the rules that stood when the desk was asked"
+PAST = f"{STOOD}, not by those that stood then"
 NO_JOURNAL = "what stood then is not known: there is no journal"
 SINCE = "What has changed since then is not known: there is no journal."
 
@@ -58,9 +59,10 @@ def test_each_audience_sees_and_counts_what_the_desk_gives_out(museum, staff, da
 
 def test_file_is_found_by_name_disk_or_rule_and_saved_without_formula(museum, staff):
     museums.harmful_disk(museum, 1066, 7)
-    for words, count in {"guide": 2, "1002": 3, "r9.20": 7, "=1+1": 1, "no such": 0, "Disk 1066": 5, "1066": 5}.items():
+    for words, count in {"Guide": 2, "1002": 3, "r9.20": 7, "=1+1": 1, "no such": 0, "Disk 1066": 5, "1066": 5}.items():
         shown = look(staff, TODAY, "staff", True) and staff.one("#eyes [name=words]").send_keys(words) or staff.read()
         assert (len(shown["rows"]), int(shown["stands"][1].split()[1])) == (count, count), words
+        assert f"“{words}”" in shown["stands"][1], "words that nobody typed"
     night(museum)
     _, *rows = saved_table(staff, f"who-sees-what-staff-of-disk-1066-{TODAY}-5-of-19-files-asked")
     only = "only of disk 1066, which has 5; also what is closed to them. The desk was asked on"
@@ -100,7 +102,7 @@ def test_day_that_nobody_typed_is_today_also_where_a_page_stays_open_overnight(m
     assert staff.go("eyes") and staff.texts("#eyes h2") == ["What the public gets on 2026-06-19"], "what stood days ago"
     assert look(staff, "2026-06-19") and night(museum)
     assert staff.go("eyes") and "on 2026-06-19, by" in staff.push("Look")["result"][0], "not the day that was typed"
-    for day, due in (("2030-01-01", "2030-01-01, by the rules of 2026-06-21"), ("2026-06-21", "2026-06-22")):
+    for day, due in (("2030-01-01", f"2030-01-01, {STOOD}, which may"), ("2026-06-21", "2026-06-22")):
         assert look(staff, day) and staff.fill("eyes", day="2026-02-30") and night(museum)
         assert staff.go("eyes") and f"gets on {due}" in staff.text("#eyes h2"), "of an older day, or of none"
     museum.latest |= dict.fromkeys(museum.images, ("2025-06-22", "sound"))
@@ -136,7 +138,8 @@ def test_desk_that_does_not_tell_its_day_is_said_and_no_view_guesses_it(staff):
         staff.door.before = lambda _, path: reply if path == "/staff/today" else None
         for view in ("eyes", "disk/1002", "timeline", "checks"):
             assert staff.go(view)["result"] == ["The desk did not tell which day it is there. Try again."], view
-            assert TODAY not in staff.text(f"#{view[:4]}{view[4:].partition('/')[0]} .stands"), view
+            said = staff.text(f"#{view[:4]}{view[4:].partition('/')[0]} .stands")
+            assert TODAY not in said.replace(f"The desk was asked on {TODAY} at 12:", ""), view
         assert staff.go("takedowns")["result"] == [] and staff.take_down("1002", "", "2", "public")["sure"] is None
         assert "The desk did not tell" in staff.text("#takedowns .result"), "a rehearsal of a day that nobody knows"
     staff.door.before = lambda _, path: refused(401, "unknown-key") if path == "/staff/today" else None
@@ -219,28 +222,38 @@ def test_timeline_has_the_next_change_first_and_says_what_is_other_on_each_day(m
     assert rows[0][4] == "R9.5" and rows[0][6].startswith("the file at slot 0 closed to the public, not begun: from ")
     assert (rows[0][7:9], rows[2][7:9]) == (DAYS[:2], ["", "2030-01-01"])
     assert f"as they stood on {TODAY}: 3. The desk was asked on" in rows[0][1] and "nor who gets what" in rows[0][1]
+    assert "A rule until 2030-01-01 holds for the last time on 2029-12-31." in rows[0][1]
+    donors = [f"“{DONOR_OF_9}”, signed on 0001-01-01", "", "“A. Curator”, signed on 2019-05-04"]
+    assert [row[10] for row in rows] == donors
     # slot 0 of the disks of deed 9: that of the last is damaged, so nobody is given it, and it is closed all the same
-    may, see = "Now they may read them; then they may ", "see their names, not read them"
+    may, see = "The day before they may read them; then they may ", "see their names, not read them"
     nothing = "see only that closed files are there, not their names."
     two, one = "WELCOME.TXT (disk 1001, slot 0)TOUR (disk 1002, slot 0)", "LOGBOOK (disk 1003, slot 0)"
     closes = [f"Closes for the public: 2 files. {may}{nothing}", two,
-              f"Closes for the public: 1 file. Now they may {see}; then they may {nothing}", one]
+              f"Closes for the public: 1 file. The day before they may {see}; then they may {nothing}", one]
+    opens = [f"Opens for the public: 2 files. The day before they may {nothing[:-1]}; then they may read them.", two,
+             f"Opens for the public: 1 file. The day before they may {nothing[:-1]}; then they may {see}.", one]
     lists = [f"Closes for the public and the reading room: 2 files. {may}{see}.",
              "TOUR (disk 1002, slot 0)GUIDE (disk 1002, slot 2)"]
-    none = ["Nothing opens, and nothing closes."]
-    for day, counts, turns in zip(DAYS, [(3, 1, 10), (5, 2, 7), (3, 4, 7), (5, 2, 7)], [closes, none, lists, none]):
+    back = f"The day before they may {see}; then they may read them."
+    reads = [f"Opens for the public and the reading room: 2 files. {back}", lists[1]]
+    for day, counts, turns in zip(DAYS, [(3, 1, 10), (5, 2, 7), (3, 4, 7), (5, 2, 7)], [closes, opens, lists, reads]):
         staff.push("Change after")
-        heading, public, _, _, *more = staff.texts("#timeline .day > *")
+        heading, public, _, _, asked, *more = staff.texts("#timeline .day > *")
         words = "The public: {} to read, {} only in the list, {} closed.".format(*counts)
-        due = f"Who gets what on {day}, by the rules of {TODAY}, which may change until then"
-        assert (heading, public) == (due, words)
-        assert more == [f"What is other than today, {TODAY}", *turns]
+        due = f"Who gets what on {day}, {STOOD}, which may change until then"
+        assert (heading, public, asked[:-10]) == (due, words, f"The desk was asked on {TODAY} at 12:")
+        before = datetime.date.fromisoformat(day) - datetime.timedelta(1)
+        assert more == [f"What is other on {day} than on the day before it, {before}, {STOOD}", *turns]
+    staff.push("Change after")
+    last = staff.push("Change after")["result"]
+    assert last == ["There is no later change: no rule that stands begins or ends then."], "a button that does nothing"
     put = journal_lines(1, 1781078400, "200", "PUT", "/deeds/9/rules/4", "Ada", "a%20letter")
     says = ". Since then it has: Put rule 4 of deed 9, 2026-06-10 08:00:00 UTC by “Ada”: “a letter”"
     for lines, words in [({"/journal": put}, f", the journal says{says}"), ({}, " is not known: there is no journal")]:
         staff.door.journals = lines
         staff.fill("timeline", day="2026-06-09").push("Look at this day")
-        none = f"By the rules of {TODAY} nothing is other on that day; what stood then{words}."
+        none = f"By these rules nothing is other on that day; what stood then{words}."
         assert staff.texts("#timeline .day > p")[-1] == none, "a day is told as one like today"
     museum.rules["R9"][6] = museums.rule(6, "deny", ["public"], {"slot": 1}, None, "2025-07-01")
     staff.set("#timeline [type=range]", int(staff.one("#timeline [type=range]").get_property("min")))
@@ -248,10 +261,10 @@ def test_timeline_has_the_next_change_first_and_says_what_is_other_on_each_day(m
     ended = "the file at slot 1 closed to the public, until 2025-07-01, over"
     assert staff.go("timeline")["rows"][-1][:3] == ["rule 6 of deed 9", ended, "none"]
     staff.push("Look at")
-    heading, _, _, _, since, other, closes, *_ = staff.texts("#timeline .day > :not(ul)")
+    heading, _, _, _, _, since, other, closes, *_ = staff.texts("#timeline .day > :not(ul)")
     assert (heading, since) == (f"Who gets what on 2025-06-15, {PAST}", SINCE)
-    assert other == f"What is other on 2025-06-15 than today, by the rules of {TODAY}"
-    then = f"Now they may read them; on 2025-06-15, by the rules of {TODAY}, they may {nothing}"
+    assert other == f"What is other on 2025-06-15 than today, {TODAY}, {STOOD}"
+    then = f"Now they may read them; on 2025-06-15, {STOOD}, they may {nothing}"
     assert closes == f"More closed for the public: 2 files. {then}", "a past day looks like one that opens or closes"
     for width in (390, 1280):
         with staff.phone(width):

@@ -17,8 +17,8 @@ LEAST, TIMES = 50, 3
 WATCH = """window.longest = 0;
 const take = (list) => list.getEntries().forEach((one) => { window.longest = Math.max(window.longest, one.duration); });
 new PerformanceObserver(take).observe({ type: "longtask" });"""
-# The commit of the earlier page, whose view of the year is the timeline now; a day on which something opens.
-BEFORE, TURN, ROUNDS = "1cccd23d", "2026-12-01", 7
+# The commit of the earlier page, whose view of the year is the timeline now; a day on which something opens, its eve.
+BEFORE, TURN, EVE, ROUNDS = "1cccd23d", "2026-12-01", "2026-11-30", 7
 GIVE = "const form = document.forms['key-form']; form.key.value = 'abc'; form.requestSubmit()"
 LOOK = """const form = document.querySelector("section:not([hidden]) form"), { day, later } = form.elements;
 if (later) { day.value = "%s"; later.click(); } else form.requestSubmit();""" % TODAY
@@ -83,7 +83,7 @@ def test_no_view_of_the_staff_costs_more_than_before(tmp_path):
     museum.rules["T100"][1000]["until"] = TURN
     views = ("deeds", "takedowns", "keys", "checks", "rules", "eyes", "timeline")
     replies = {f"/staff/{name}": getattr(museum, f"show_{name}")(None).reply for name in views[:4]}
-    replies |= {f"/staff/verdicts/{day}": museum.show_verdicts(None, day).reply for day in (TODAY, TURN)}
+    replies |= {f"/staff/verdicts/{day}": museum.show_verdicts(None, day).reply for day in (TODAY, EVE, TURN)}
     for _, view, page in itertools.product(range(ROUNDS), views, pages):
         name = view if page == stand_in.WEB else view.replace("timeline", "year")
         with chromium(tmp_path) as driver:
