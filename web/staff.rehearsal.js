@@ -4,6 +4,7 @@ import { box, button, counted, element, loaded, part } from "./shared.js";
 import { dated, refusedWork, sure } from "./staff.desk.js";
 import { isFor } from "./staff.forecast.js";
 import { sameNow } from "./staff.same.js";
+import { saveTable, saver } from "./staff.saved.js";
 import { COLUMNS, EFFECT_AT, askedWords, effectOf, fileOf, given, isNoDisk } from "./staff.verdicts.js";
 import { readSome, ruleMeaning, verdictsOf } from "./staff.verdicts.js";
 import { AUDIENCES, EFFECTS, SHORT, audienceWords, dayAfter, isOnNoDay } from "./staff.words.js";
@@ -169,16 +170,26 @@ export function saveFirst(accession, question) {
   return [box("div", "choices", button("Save what stands now, first", press), said)];
 }
 
+// Saves what a rehearsal shows, line by line: once its question is answered nobody can have it.
+function saveRehearsal(question, shown, moment) {
+  const lines = shown.flatMap((one) => (one.matches("ul") ? [...one.children] : [one]));
+  const about = `What the page said before an answer to: \u201c${question}\u201d ${askedWords({ moment })} \
+It does not say what was answered, nor what was done.`;
+  const numbered = lines.map(({ textContent }, at) => [at + 1, textContent]);
+  return saveTable("rehearsal-asked", moment, about, ["line", "what it says"], numbered, (one) => one);
+}
+
 // Shows what commands would change, and asks whether to send them. Gives those to send, none where the answer is no.
 export async function rehearsed({ words, notes, first = [], commands, days, isTakedown, go }, tools) {
-  const { found, missing } = await rehearse(commands, days, tools);
+  const [moment, { found, missing }] = [momentNow(), await rehearse(commands, days, tools)];
   const left = commands.filter((command) => !missing.has(command));
   const [said, none] = [[...notes], [...missing].map((command) => String(command.scope))];
   if (none.length) said.push(`There is no disk ${listed(none)}: left out.`);
   const closes = found.some(({ groups }) => groups.some((group) => !group.opens));
   if (isTakedown && !closes) said.push("Mind: it closes nothing on any of these days.");
   if (left.length === 0) return [];
-  const turns = found.flatMap((day, at) => dayParts(day, found[at - 1]));
-  const more = [...said.map((text) => dated("p", text)), ...first, ...turns];
+  const [texts, turns] = [said.map((one) => dated("p", one)), found.flatMap((day, at) => dayParts(day, found[at - 1]))];
+  const save = saver(button("Save this rehearsal as CSV"), () => saveRehearsal(words, [...texts, ...turns], moment));
+  const more = [...texts, ...first, ...turns, box("div", "choices", ...save)];
   return (await sure({ words, more, go, keep: "Leave it as it is" })) ? left : [];
 }

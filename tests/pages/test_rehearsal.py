@@ -83,6 +83,10 @@ def test_drop_is_rehearsed_and_done(takedowns):
     shown = takedowns.of_row("takedown 1 of disk 1005", "Drop")
     wanted = ["Drop takedown 1 of disk 1005?", f"It stands: {HIDDEN.format(0)}", NOW, *TURNS[:2]]
     assert (shown["sure"], takedowns.focused()) == (wanted, "Leave it as it is")
+    _, *rows = saved_table(takedowns, "rehearsal-asked", "Save this rehearsal as CSV")
+    assert [row[2:] for row in rows] == [[str(at), text] for at, text in enumerate(wanted[1:], 1)]
+    asked = f"What the page said before an answer to: “{wanted[0]}” {ASKED}"
+    assert all(row[1].startswith(asked) for row in rows), "a file that does not say of what it is"
     takedowns.press(Keys.ESCAPE)
     shown = takedowns.wait(lambda state: not state["busy"] and not state["sure"])
     assert shown["result"] == ["Kept: takedown 1 of disk 1005."]
