@@ -30,8 +30,7 @@ export class Records {
 
   // Takes the next part of the text, and gives the records that are whole now.
   add(part) {
-    const text = this.rest + part;
-    const records = [];
+    const [text, records] = [this.rest + part, []];
     let [at, isPlain] = [0, !text.includes('"')];
     for (let found = recordAt(text, at, isPlain); found !== null; found = recordAt(text, at, isPlain)) {
       records.push(found.record);
@@ -45,8 +44,7 @@ export class Records {
 // The records of a table that somebody wrote by hand or with a spreadsheet: lines may end with CR LF, a byte order mark
 // may stand in front, the last line may lack its end, and empty lines count for nothing. Null where a quote is wrong.
 export function recordsOf(text) {
-  const lines = `${text.replace(/^\ufeff/, "").replaceAll("\r\n", "\n").trimEnd()}\n`;
-  const reader = new Records();
+  const [lines, reader] = [`${text.replace(/^\ufeff/, "").replaceAll("\r\n", "\n").trimEnd()}\n`, new Records()];
   const records = reader.add(lines);
   return reader.rest === "" ? records.filter((record) => record.length > 1 || record[0] !== "") : null;
 }
@@ -63,7 +61,8 @@ function written(value) {
 const MEANINGS = {
   kind: "cpm8: CP/M, 8 inches; d64: Commodore 1541; d64e: Commodore 1541 with error bytes",
   rank: "a place in the order of rules, lowest first", slot: "the file's place on its disk, counted from 0",
-  user: "the user of CP/M, 0 to 15, whose file it is", "tried at": "by the clock of the computer that sent it",
+  user: "the user of CP/M, 0 to 15, whose file it is", rules: "by rank; the first that matches a file decides",
+  "tried at": "by the clock of the computer that sent it",
 };
 export const explainedHead = (head) => (Object.hasOwn(MEANINGS, head) ? `${head} (${MEANINGS[head]})` : head);
 export const csvText = (records) => records.map((record) => `${record.map(written).join(",")}\n`).join("");

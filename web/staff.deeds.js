@@ -1,9 +1,9 @@
 // Deeds: who gave disks, and when they signed; each with its rules.
-import { listTable } from "./lists.js";
 import { box, cell, counted, element, grouped, part, row } from "./shared.js";
 import { buttonsCell, change, dated, formOf, held, readHeld, send } from "./staff.desk.js";
 import { showChange, shownAnew, showsAnew, sure } from "./staff.desk.js";
 import { limitFields } from "./staff.ruleform.js";
+import { showList } from "./staff.saved.js";
 import { signedWords, standingWords } from "./staff.words.js";
 
 // Puts a deed. One that stands and has another donor or day is replaced only when that is said once more.
@@ -29,10 +29,12 @@ function changeDeed({ deed, donor, signed }) {
   showChange(`Change deed ${deed}`, form, () => change("deeds", () => put(String(deed), bodyOf(form.elements))));
 }
 
+const NO_RULE = "No rule: closed to everybody";
+
 // The rules of a deed in short, and the way to all that can be done with them.
 function rulesCell({ deed, rules }) {
   const lines = rules.map((rule) => dated("li", `${rule.rank}: ${standingWords(rule)}`));
-  const words = rules.length ? "Rules" : "No rule: closed to everybody";
+  const words = rules.length ? "Rules" : NO_RULE;
   const link = element("a", words, { href: `#/rules/${deed}`, ariaLabel: `${words}, of deed ${deed}` });
   return cell("Rules", box("div", "", lines.length ? box("ul", "", ...lines) : null, link));
 }
@@ -49,10 +51,9 @@ export async function showDeeds() {
   await readHeld("deeds");
   const count = element("p", held.deeds.length ? `${counted(held.deeds.length, "deed")}.` : "There is no deed.");
   const columns = { Deed: ({ deed }) => deed, Donor: ({ donor }) => donor, "Signed on": ({ signed }) => signed };
-  const rulesOf = ({ rules }) => rules.map((rule) => standingWords(rule)).join("; ");
+  const rulesOf = ({ rules }) => rules.map((one) => `${one.rank}: ${standingWords(one)}`).join("; ") || NO_RULE;
   Object.assign(columns, { Disks: ({ accessions }) => accessions, Rules: rulesOf, "": null });
-  const made = held.deeds.length ? [listTable("deeds that stand", columns, held.deeds, deedRow)] : [];
-  part("deeds").querySelector(".stands").replaceChildren(count, ...made);
+  showList("deeds", count, ["deeds that stand", columns, held.deeds, deedRow]);
 }
 
 export function listenForDeeds() {

@@ -1,11 +1,10 @@
 // The staff's side of the desk: what stands there, changes to it, and the work of a section of the page.
 import { askObject, box, button, cell, element, fields, grouped, listOf, part, refusal } from "./shared.js";
-import { RULES, askToday, quoted } from "./staff.words.js";
+import { RULES, askToday, momentNow, quoted, whenWords } from "./staff.words.js";
 import { withTitle } from "./titles.js";
 
 // After these nobody here knows whether the desk has done what was sent. A command that is sent twice is done once.
-const UNSURE = [0, 502, 503, 504];
-const AGAIN = "The desk may have done it all the same. You can safely send it again.";
+const [UNSURE, AGAIN] = [[0, 502, 503, 504], "The desk may have done it all the same. You can safely send it again."];
 
 // Whether a change was sent and nobody here knows what became of it.
 export const isUnsure = (fault) => fault.isOfChange === true && UNSURE.includes(fault.status);
@@ -16,11 +15,11 @@ const LONGEST_WORDS = 1000;
 export const ANY_NAME = "Whoever has a key of the staff can write any name.";
 export const formOf = (name) => part(name).querySelector("form");
 
-// What the desk holds, as it was when it was read last.
+// What the desk holds, as it was when it was read last, and the moment at which the desk was asked for it.
 export const held = { deeds: [], takedowns: [], keys: [], checks: [] };
 
-export const readHeld = async (what, signal) =>
-  (held[what] = listOf((await askObject(`/staff/${what}`, { signal }))[what]));
+export const readHeld = async (what, signal, moment = momentNow()) =>
+  (held[what] = Object.assign(listOf((await askObject(`/staff/${what}`, { signal }))[what]), { moment }));
 
 // The rules of deeds, or the takedowns of disks, that stood when they were read last, of all or of one; and read anew.
 export const listName = (name) => (name === "rules" ? "deeds" : name);
@@ -118,8 +117,7 @@ export const diskCell = (accession, column = "Disk") =>
   cell(column, withTitle(diskLink(accession), Number(accession)), "number");
 
 // How each section shows anew what stands, and how its latest work shows how far it has come.
-const shows = {};
-const progresses = {};
+const [shows, progresses] = [{}, {}];
 export const showsAnew = (name, how) => (shows[name] = how);
 const again = async (name) => shows[name]?.({ progress: progresses[name] });
 
@@ -218,8 +216,7 @@ export async function change(name, doing) {
 
 // Shows how far a long work of a section has come, with a button that stops it.
 function progressOf(name, stop) {
-  const words = element("span", "");
-  const bar = element("progress", null, { ariaLabel: "Progress" });
+  const [words, bar] = [element("span", ""), element("progress", null, { ariaLabel: "Progress" })];
   const shown = box("p", "choices", words, bar, button("Stop", () => stop.abort()));
   return (doing, count, all) => {
     words.textContent = `${doing}: ${grouped(count)}${all ? ` of ${grouped(all)}` : ""}.`;
@@ -230,10 +227,10 @@ function progressOf(name, stop) {
 
 // Asks once more: the words, who does it and why, more below them, and the buttons for yes and for no.
 export function sure({ words, more = [], go, keep }) {
-  const dialog = part("sure");
-  const { name, reason } = whoNow();
+  const [dialog, { name, reason }] = [part("sure"), whoNow()];
   part("sure-words").textContent = words;
-  part("sure-who").textContent = `By ${quoted(name)}. Reason: ${quoted(reason)}`;
+  const asks = `The page asks this ${whenWords(momentNow())}.`;
+  part("sure-who").textContent = `${asks} By ${quoted(name)}. Reason: ${quoted(reason)}`;
   part("sure-more").replaceChildren(...more);
   const [yes, no] = dialog.querySelectorAll("button[value]");
   // (a save that was under way when an earlier question was left may have shut it)

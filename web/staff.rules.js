@@ -1,10 +1,10 @@
 // Rules of deeds, and takedowns: the forms that put and change them, and the tables of those that stand.
-import { listTable } from "./lists.js";
 import { cell, counted, element, loaded, part, row } from "./shared.js";
 import { buttonsCell, change, dated, diskCell, formOf, listName, readHeld, rulesOf, send } from "./staff.desk.js";
 import { showChange, shownAnew, showsAnew, standing } from "./staff.desk.js";
 import { MOST_DISKS, accessionsIn, placeOf } from "./staff.ranks.js";
 import { fillRule, makeRuleForm, ruleIn } from "./staff.ruleform.js";
+import { showList } from "./staff.saved.js";
 import { RULES, VISITS, ruleTexts, ruleWords, standingWords } from "./staff.words.js";
 import { titleOf } from "./titles.js";
 
@@ -21,13 +21,11 @@ async function put(name, scopes, typedRank, rule, tools) {
   if (full) return full.says;
   const sent = { rule, method: "PUT", body: JSON.stringify(rule) };
   const commands = places.map(({ scope, rank }) => ({ ...sent, scope, rank, path: RULES[name].path(scope, rank) }));
-  const words = placesWords(name, places);
-  const replaced = places.flatMap((place) => place.replaced ?? []);
+  const [words, replaced] = [placesWords(name, places), places.flatMap((place) => place.replaced ?? [])];
   const [word, done] = replaced.length === places.length ? ["Replace", "Replaced"] : ["Put", "Put"];
   const notes = [`It says: ${ruleWords(rule)}.`, ...placeNotes(places)];
   const { decidedNow, rehearsalDays, rehearsed, sameAs, saveFirst } = await rehearsals();
-  const days = rehearsalDays(rule, replaced);
-  const isTakedown = name === "takedowns";
+  const [days, isTakedown] = [rehearsalDays(rule, replaced), name === "takedowns"];
   const asked = { words: `${word} ${words}?`, notes, commands, days, isTakedown, go: `${word} it` };
   if (isTakedown && places.length === 1) asked.first = saveFirst(scopes[0], asked.words);
   const agreed = await rehearsed(asked, tools);
@@ -89,8 +87,7 @@ function changeRule(name, scope, rule) {
 }
 
 function ruleRow(name, { scope, rule }) {
-  const { of, words } = RULES[name];
-  const texts = Object.entries(ruleTexts(rule));
+  const [{ of, words }, texts] = [RULES[name], Object.entries(ruleTexts(rule))];
   const first = name === "takedowns" ? diskCell(scope, of) : cell(of, String(scope));
   const cells = [first, ...texts.map(([label, text]) => cell(label, dated("span", text)))];
   const presses = {
@@ -103,16 +100,14 @@ function ruleRow(name, { scope, rule }) {
 // Draws those that stand: of the deed or the disks that are typed, or all.
 function draw(name) {
   const [{ of, word, thing }, typed] = [RULES[name], formOf(name).elements.scope.value];
-  const scopes = new Set(scopesIn(name, typed));
-  const all = standing(name);
+  const [scopes, all] = [new Set(scopesIn(name, typed)), standing(name)];
   const shown = typed === "" ? all : all.filter(({ scope }) => scopes.has(scope));
   const where = typed === "" ? "" : ` of ${thing}${scopes.size > 1 ? "s" : ""} ${typed}`;
   const count = element("p", shown.length ? `${counted(shown.length, word)}${where}.` : `There is no ${word}${where}.`);
   const textOf = (column) => [column, (one) => ruleTexts(one.rule)[column]];
   const columns = { [of]: ({ scope: number }) => number, Rank: ({ rule }) => rule.rank };
   Object.assign(columns, Object.fromEntries(["For whom", "Which files", "They may", "Days"].map(textOf)), { "": null });
-  const made = shown.length ? [listTable(`${word}s that stand`, columns, shown, (one) => ruleRow(name, one))] : [];
-  part(name).querySelector(".stands").replaceChildren(count, ...made);
+  showList(name, count, [`${word}s that stand`, columns, shown, (one) => ruleRow(name, one)]);
 }
 
 // Reads what stands anew, and shows it.

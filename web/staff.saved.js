@@ -1,17 +1,24 @@
-// Tables that the page saves. Each row says by itself whose it is, what the table has, and what it does not say; the
-// heads say by whose clocks it is, and the name of the file at which moment the page asked for it.
+// Tables that the page saves, and lists of what stands. Each row says by itself whose it is, what the table has, and
+// what it does not say; the heads say who saved it, and by whose clocks; the name of the file, when the page asked.
 import { holder } from "./about.js";
 import { APOSTROPHES, csvText, explainedHead } from "./csv.js";
-import { element, part } from "./shared.js";
-import { clockWords } from "./staff.words.js";
+import { listTable } from "./lists.js";
+import { box, button, element, part } from "./shared.js";
+import { held, listName, whoNow } from "./staff.desk.js";
+import { clockWords, momentNow, quoted, whenWords } from "./staff.words.js";
 import { inParts, save } from "./stream.js";
 
-const clocks = () => `this table (${APOSTROPHES}; moments: in UTC, of the journal by the museum's machine, of asking \
-by the computer that saved this; days of rules and of asking: ${clockWords()})`;
+const byWhom = ({ name } = whoNow()) =>
+  (name ? `by ${quoted(name)}, as they typed their name` : "by somebody who typed no name");
 
+const clocks = () => `this table, in UTF-8, saved ${byWhom()} (${APOSTROPHES}; moments: in UTC, of the journal by the \
+museum's machine, of asking by the computer that saved this; days of rules and of asking: ${clockWords()})`;
+
+// (by the mark at its beginning a spreadsheet sees that it is UTF-8)
 export async function saveTable(name, moment, about, heads, items, recordOf) {
   const said = [holder() || "(the museum's name was not found)", about];
-  const texts = [csvText([["museum", clocks(), ...heads.map(explainedHead)], ...(items.length ? [] : [said])])];
+  const first = ["museum", clocks(), ...heads.map(explainedHead)];
+  const texts = ["\ufeff", csvText([first, ...(items.length ? [] : [said])])];
   await inParts(items, (some) => texts.push(csvText(some.map((one) => [...said, ...recordOf(one)]))));
   const file = `${name}-${moment.slice(0, 19).replaceAll(":", "")}Z.csv`;
   save(file, texts, "text/csv");
@@ -27,3 +34,25 @@ export function saver(button, saved) {
 }
 
 export const forgetSaved = (name) => part(name).querySelectorAll(".saved").forEach((said) => said.replaceChildren());
+
+// Shows what stands in a section, in words and as a list, when the desk was asked for it, and a button that saves it.
+export function showList(name, words, [caption, columns, items, rowOf], more = "") {
+  const [{ moment }, heads] = [held[listName(name)], Object.keys(columns).filter((head) => columns[head])];
+  const when = `the desk was asked ${whenWords(moment)}`;
+  const about = `As things stood when ${when}: ${words.textContent} It does not say what stood before or stands since, \
+nor who gets what. ${more}`.trim();
+  const saved = () => saveTable(`${name}-${items.length}-asked`, moment, about, heads.map((head) => head.toLowerCase()),
+    items, (one) => heads.map((head) => columns[head](one)));
+  const bar = box("div", "choices", `T${when.slice(1)}.`, ...saver(button("Save this list as CSV"), saved));
+  const made = items.length ? listTable(caption, columns, items, rowOf) : "";
+  part(name).querySelector(".stands").replaceChildren(words, bar, made);
+}
+
+// What is printed says when and by whom; where a question is open, only that is printed.
+const printed = element("p", "");
+window.addEventListener("beforeprint", () => {
+  const from = `Printed from the staff's page${holder() && ` of ${holder()}`}`;
+  printed.textContent = `${from} ${whenWords(momentNow())} ${byWhom()}.`;
+  (document.querySelector("#sure[open]") ?? part("main")).prepend(printed);
+});
+window.addEventListener("afterprint", () => printed.remove());

@@ -1,9 +1,9 @@
 """What stands at the desk: deeds, rules, takedowns, keys, checks. Each is put, changed, dropped, and read anew then."""
 
-from staff_helpers import OLDER, in_utc, journal_lines, lost_at, put_deed
+from staff_helpers import OLDER, in_utc, journal_lines, lost_at, put_deed, saved_table, takedown
 from support import museums
 from support.browser import TODAY, wait_for
-from support.samples import digest
+from support.samples import DONOR_OF_9, digest
 
 EVERYBODY = "the public, the reading room and the staff"
 RULE_20 = ["20", EVERYBODY, "all files", "read them", "until further notice", "ChangeDrop"]
@@ -12,6 +12,10 @@ START, NOBODY = 1_800_000_000, "Nobody can use it any more."
 # A script: the index that each row of the list has for a screen reader, and its number.
 ROWS = """return Array.from(document.querySelectorAll("#checks tbody tr:not(.space)"),
   (row) => [Number(row.ariaRowIndex), Number(row.cells[0].textContent)]);"""
+# A script: what a print says first, once the page has said that.
+SAYS = "addEventListener('beforeprint', () => (window.said = document.querySelector('main').firstChild.textContent))"
+SOUND = """“Sound” says: the bytes that the desk has still have the SHA-256 with which the disk was taken in. It says \
+nothing of damaged files: a sound disk may have some."""
 NOT = f"not in the journal, back to {in_utc(START)}, where it begins"
 
 def test_deed_is_put_with_name_and_reason(staff):
@@ -37,7 +41,8 @@ def test_deed_is_replaced_only_when_that_is_agreed(staff):
         staff.of_row("deed 8", "Change")
         assert staff.fill("change", donor="E. Müller").push("Put the deed")["sure"] == ["Replace deed 8?", stands, then]
         who = staff.texts("#sure > p:not(.choices)")
-        assert who == ["By “Ada Archivist”. Reason: “a letter of today”"], "a question names neither who asks nor why"
+        assert who[0].startswith(f"The page asks this on {TODAY} at 12:"), "a question that is printed has no moment"
+        assert who[0].endswith(" UTC. By “Ada Archivist”. Reason: “a letter of today”"), "neither who asks nor why"
         shown = staff.answer(is_agreed)
         assert (shown["result"], shown["rows"][1][1], len(staff.door.sent())) == ([said], donor, is_agreed)
 
@@ -89,7 +94,8 @@ def test_long_list_stays_sorted_and_filtered_when_it_is_read_anew(museum, staff)
     assert [staff.push("Disk")["heading"] for _ in range(2)] == ["Checks"] * 2
     assert numbers() == [*range(1006, 1000, -1), *range(30, 0, -1)]
     staff.type("Only rows with", "2026-01")
-    assert (numbers(), staff.text("#checks label [role=status]")) == ([1003, 1002, 1001], "3 of 36 shown")
+    said = "3 of 36 shown, those with “2026-01”"
+    assert (numbers(), staff.text("#checks label ~ [role=status]")) == ([1003, 1002, 1001], said)
 
 def test_long_list_has_its_rows_in_order_keeps_the_focus_and_is_printed_whole(museum, staff):
     for number in range(1, 91):
@@ -108,6 +114,29 @@ def test_long_list_has_its_rows_in_order_keeps_the_focus_and_is_printed_whole(mu
     assert staff.cdp("Page.printToPDF")["data"]
     assert staff.script("return window.printed") == [[at, number] for at, number in enumerate(due, 2)]
     wait_for("rows that the screen has no need of to go", lambda: len(staff.script(ROWS)) < 96)
+
+def test_each_list_is_saved_and_printed_with_its_moment_and_who_does_it(museum, staff):
+    museum.rules |= {"T1002": takedown(1000, 2), "R8": {}}
+    shut, ever = "see only that closed files are there, not their names", "until further notice"
+    deny = ["1002", "1000", "the public and the reading room", "the file at slot 2", shut, ever]
+    wanted = {"deeds": (3, ["9", DONOR_OF_9, "0001-01-01", "3", f"20: all files readable for {EVERYBODY}, {ever}"]),
+              "rules": (3, ["9", *RULE_20[:-1]]), "takedowns": (1, deny),
+              "keys": (2, [STAFF, "the staff", "there is no journal"]), "checks": (6, ["1006", "never", ""])}
+    staff.script(SAYS)
+    for view, (count, cells) in wanted.items():
+        asked = f"he desk was asked on {TODAY} at 12:"
+        words = staff.go(view)["stands"][0]
+        heads, *rows = saved_table(staff, f"{view}-{count}-asked", "Save this list as CSV")
+        assert [row[2:] for row in rows if row[2] == cells[0]] == [cells] and len(rows) == count
+        assert len(heads) == len(cells) + 2, "a column without a head"
+        assert f"when t{asked}" in rows[0][1] and f" UTC: {words} It does not say what stood before" in rows[0][1]
+        assert (SOUND in rows[0][1]) == (view == "checks"), "a word that nobody explains"
+        assert asked in staff.text(f"#{view} .stands .choices"), "a print without a moment"
+        said = staff.cdp("Page.printToPDF") and staff.script("return window.said")
+        assert said.startswith(f"Printed from the staff's page on {TODAY} at 12:"), "a print that nobody can date"
+        assert said.endswith(" UTC by “Ada Archivist”, as they typed their name.")
+    assert staff.fill("who", name=" ").cdp("Page.printToPDF")
+    assert staff.script("return window.said").endswith(" UTC by somebody who typed no name.")
 
 def test_key_is_put_given_away_and_dropped(museum, staff):
     rows = staff.go("keys")["rows"]
@@ -148,7 +177,12 @@ def test_check_says_which_disk_has_changed_in_a_warning_that_stays(museum, staff
     assert one["result"] == ["Disk 1002 is sound: it still has the SHA-256 that came with it."]
     assert [row[1:] for row in one["rows"][:2]] == [["never", "", "Check"], [TODAY, "sound", "Check"]]
     assert shown["result"][0] == f"{words} 1 failed, 1 not sent yet.{RESTORE}"
+    _, *rows = saved_table(staff, "checks-report-of", "Save the report")
+    assert f"Begun, or gone on with, on {TODAY} at 12:" in shown["result"][-1], "a report that nobody can date"
+    assert rows[0][1].startswith("Checks of disks that were to be made, and what became of each. It does not")
+    assert SOUND in rows[0][1] and [row[3] for row in rows].count("sound") == 3, "a word that nobody explains"
     assert staff.push("Go on with the rest")["result"][0] == f"6 disks checked: 5 sound, 1 CHANGED: 1003.{RESTORE}"
     assert staff.push("Check all of these")["result"] == ["There is no disk whose latest check is before 2025-06-15."]
     stays = [f"6 disks: 5 sound, 1 CHANGED: 1003; 0 never checked.{RESTORE}"]
     assert staff.texts("#checks .stands > .refused") == stays, "the warning is gone with the next work"
+    assert staff.go("disk/1002") and staff.text("#disk .stands .callout") == f"Latest check: sound on {TODAY}. {SOUND}"
