@@ -44,8 +44,7 @@ function linesOf(bytes) {
   const lines = [];
   let at = 2;
   while (at + 1 < bytes.length && word(at) !== 0) {
-    const end = bytes.indexOf(0, at + 4);
-    const number = word(at + 2);
+    const [end, number] = [bytes.indexOf(0, at + 4), word(at + 2)];
     if (end < 0 || number > 63999 || (lines.length && number <= lines.at(-1).number)) return null;
     if (word(at) - word(0) !== end + 1 - 2) return null;
     lines.push({ number, codes: bytes.subarray(at + 4, end) });

@@ -40,8 +40,7 @@ export async function closedNow(accession, listed, signal) {
 
 // How many files of a disk are closed besides those of a list, and why; an empty text if the desk tells of none.
 export function closedWords(closed) {
-  const are = closed.length === 1 ? "is" : "are";
-  const most = closed.isCut ? "At least " : "";
+  const [are, most] = [closed.length === 1 ? "is" : "are", closed.isCut ? "At least " : ""];
   const words = `${most}${counted(closed.length, "more file")} ${are} closed to ${whom()}, name and all:`;
   return closed.length ? `${words} ${rulesOf(closed)}.` : "";
 }

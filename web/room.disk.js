@@ -8,16 +8,14 @@ import { box, button, cell, counted, element, kindWords, loaded, refusal, row, t
 import { noteOf } from "./titles.js";
 
 function fileRow(kind, accession, file, hasUsers) {
-  const name = nameOfFile(kind, file);
-  const { word, colour, why } = permission(kind, file);
+  const [name, { word, colour, why }] = [nameOfFile(kind, file), permission(kind, file)];
   const way = (words, more) => link(words, `${accession}/${file.slot}`, more);
   const badge = way(word, { ariaLabel: `${word}: ${name}`, tabIndex: -1, className: `badge ${colour}` });
   const may = box("span", "", badge);
   if (why) may.append(" ", element("small", why));
   const type = box("span", "", file.type, " ", element("small", typeWords(kind, file)));
   const bytes = cell("Bytes", file.size === null ? "" : file.size.toLocaleString("en"), "number");
-  const user = hasUsers ? [cell("User", `user ${file.user}`)] : [];
-  const said = cell("You may", may, "may");
+  const [user, said] = [hasUsers ? [cell("User", `user ${file.user}`)] : [], cell("You may", may, "may")];
   return row([cell("Name", way(name), "name"), cell("Type", type, "type"), bytes, ...user, said]);
 }
 
@@ -37,8 +35,7 @@ function zipWay({ accession, kind, files, quotes }) {
 
 // The directory on the screen of the machine: a picture, of which the table is the text.
 function machine(disk) {
-  const isCpm = disk.kind === "cpm8";
-  const screen = directoryScreen(disk);
+  const [isCpm, screen] = [disk.kind === "cpm8", directoryScreen(disk)];
   const words = `The directory as ${isCpm ? "CP/M shows it on a terminal" : "a C64 lists it"}`;
   Object.assign(screen, { role: "img", ariaLabel: `${words}: the same files as in the table` });
   screen.setAttribute("aria-details", "files");
@@ -58,8 +55,7 @@ async function otherDisks(accession) {
 
 export async function showDisk(number, signal) {
   const accession = Number(number);
-  const { kind, deed, files } = await listingOf(accession);
-  const title = nameOfDisk(accession);
+  const [{ kind, deed, files }, title] = [await listingOf(accession), nameOfDisk(accession)];
   const sight = inSight(files.length, files.filter(mayRead).length);
   const facts = `Disk ${accession} \u00b7 ${kindWords(kind)} \u00b7 ${sight}`;
   const hasUsers = files.some((file) => file.user);
@@ -67,8 +63,7 @@ export async function showDisk(number, signal) {
   const list = table("Files", columns, files.map((file) => fileRow(kind, accession, file, hasUsers)));
   Object.assign(list, { id: "files", className: "files" });
   const none = element("p", "There is no file on it that you may see.", { className: "callout" });
-  const rules = files.length ? `What decides here: ${rulesOf(files)}. ` : "";
-  const staff = askAbout(accession);
+  const [rules, staff] = [files.length ? `What decides here: ${rulesOf(files)}. ` : "", askAbout(accession)];
   const why = box("p", "quiet", rules, deedWords(deed), staff);
   const say = (closed) => closed && why.before(box("p", "callout", `${closed} `, staff));
   closedNow(accession, files, signal).then(closedWords).then(say, () => {});

@@ -48,8 +48,7 @@ function cpmViews(bytes, type) {
 // Those of the 1541 are in either set of letters: a listing at first in that with which the machine starts.
 function cbmViews(bytes) {
   const [listing, image, screen] = [basicListing(bytes, false), pictureIn(bytes), textScreen(bytes)];
-  const letters = { isSmall: listing === null && isInSmall(bytes) };
-  const views = [];
+  const [letters, views] = [{ isSmall: listing === null && isInSmall(bytes) }, []];
   if (listing) {
     const rest = listing.rest ? `, without the ${counted(listing.rest, "byte")} after it` : "";
     const text = () => basicListing(bytes, letters.isSmall).text;
@@ -155,8 +154,7 @@ export async function showFile(number, slot, signal) {
   };
   const bytes = new Uint8Array(await (await ask(`/images/${accession}/files/${slot}`).catch(named)).arrayBuffer());
   if (file === undefined) throw new Refused("changed", {});
-  const digest = await digestOf(bytes).catch(() => "");
-  const views = viewsOf(kind, file.type, bytes);
+  const [digest, views] = [await digestOf(bytes).catch(() => ""), viewsOf(kind, file.type, bytes)];
   const name = fileName(kind, heading, file.type);
   const save = element("a", "Download", { id: "download", className: "button primary", download: name });
   const words = `\u201c${heading}\u201d, ${`${file.type} file`.trim()}, ${counted(bytes.length, "byte")}, slot ${slot}`;
@@ -178,7 +176,6 @@ export async function showFile(number, slot, signal) {
   const readable = files.filter(mayRead);
   const wayTo = (one) => ({ words: nameOfFile(kind, one), place: `${accession}/${one.slot}` });
   const others = neighbours("file", readable, readable.indexOf(file), wayTo);
-  const title = `${heading}, ${nameOfDisk(accession)}`;
-  const parts = [box("div", "split", main, aside), others];
+  const [title, parts] = [`${heading}, ${nameOfDisk(accession)}`, [box("div", "split", main, aside), others]];
   return { heading, isName: true, title, parts, fill, leave: () => URL.revokeObjectURL(save.href) };
 }

@@ -9,8 +9,7 @@ import { noteOf } from "./titles.js";
 const [PAGE, MOST_MATCHES, MOST_TYPES] = [48, 5, 9];
 // Of how many disks that were found the page asks which files are closed, and up to how many it reads the list of all
 // files before somebody looks for something; and how long it waits for the next letter, in milliseconds.
-const [FEW, SMALL, PAUSE] = [6, 500, 250];
-const HAS_ROOM = matchMedia("(min-width: 60rem)");
+const [[FEW, SMALL, PAUSE], HAS_ROOM] = [[6, 500, 250], matchMedia("(min-width: 60rem)")];
 HAS_ROOM.addEventListener("change", () => part("choices")?.toggleAttribute("open", HAS_ROOM.matches));
 const SORTS = { title: "Title", number: "Number", files: "Most files" };
 const LOOKS = { list: "List", screens: "Directories" };
@@ -37,8 +36,7 @@ function placeOf(choices) {
 // A text in which the words that were looked for are marked.
 function marked(text, words) {
   if (words.length === 0) return text;
-  const made = box("span", "");
-  const low = plain(text);
+  const [made, low] = [box("span", ""), plain(text)];
   const pieces = words.flat(2).filter((piece) => low.length === text.length && low.includes(piece));
   for (let at = 0; at < text.length; ) {
     const next = pieces.map((piece) => [low.indexOf(piece, at), piece.length]).filter(([place]) => place >= 0);
@@ -177,8 +175,7 @@ async function showDay(disks, place) {
   const some = disks.filter(({ files }) => files > 3);
   if (some.length === 0 || !HAS_ROOM.matches) return;
   const { accession } = some[Math.floor(Date.now() / 86400000) % some.length];
-  const listing = await kept("today", () => listingOf(accession));
-  const { directoryScreen } = await machines();
+  const [listing, { directoryScreen }] = [await kept("today", () => listingOf(accession)), await machines()];
   const screen = directoryScreen(listing, true, 3);
   screen.ariaHidden = "true";
   const caption = box("figcaption", "quiet", "On the screen today: ", link(nameOfDisk(accession), accession));
@@ -196,8 +193,7 @@ export async function showHome(choices, progress) {
     const { hits, matches, counts } = await found(items, files, now);
     const machine = files && now.as === "screens" ? await machines() : null;
     if (mine !== drawn) return;
-    const words = wordsOf(now.q);
-    const { shown, nav } = pages(hits, now);
+    const [words, { shown, nav }] = [wordsOf(now.q), pages(hits, now)];
     const cards = shown.map((disk) => diskCard(disk, matches.get(disk) ?? [], files, machine, words));
     const list = cards.length ? box("ul", `disks as-${now.as === "screens" ? "screens" : "list"}`, ...cards) : "";
     showsNow(hits);

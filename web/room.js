@@ -100,10 +100,7 @@ function arrive() {
 }
 
 async function show(isMoved) {
-  const here = place();
-  const mine = ++turn;
-  const focused = focusedLink();
-  const at = arrive();
+  const [here, mine, focused, at] = [place(), ++turn, focusedLink(), arrive()];
   leaving.abort();
   const { signal } = (leaving = new AbortController());
   const progress = (words, asked) => {

@@ -64,17 +64,14 @@ const spellings = (text) => [...new Set([text, withE(text)].map(plain))];
 
 // What a file is found by: its name as it was shown and as it is printed, its type, and what it is or may be.
 function fileText(kind, file) {
-  const shown = shownName(kind, file.name);
-  const end = kind === "cpm8" ? "" : `.${file.type}`;
-  const printed = shown === file.name ? "" : `\n${file.name}`;
-  const words = typeWords(kind, file);
+  const [shown, end] = [shownName(kind, file.name), kind === "cpm8" ? "" : `.${file.type}`];
+  const [printed, words] = [shown === file.name ? "" : `\n${file.name}`, typeWords(kind, file)];
   return plain(`${shown}${end}${printed}\n${words}${words === "program" ? " basic" : ""}`);
 }
 
 // All files, by their disks. Of a text only one copy is kept.
 async function readFiles(progress) {
-  const [disks, once] = [new Map(), keeper()];
-  const number = (text) => (text === "" ? null : Number(text));
+  const [[disks, once], number] = [[new Map(), keeper()], (text) => (text === "" ? null : Number(text))];
   let spoken = performance.now();
   await readTable("/catalogue", {
     take: ([accession, , kind, slot, user, name, type, size, faults, rule, effect]) => {
@@ -110,8 +107,7 @@ export async function listingOf(accession, signal) {
 }
 
 // Words to look for, in their spellings, as pieces between stars. Little ones count only alone, a plural's s never.
-const PLURAL = /(?<=[a-z]{2}[a-hj-rtv-z])s$/i;
-const LITTLE = /^(an?|and|at|by|for|from|in|of|on|or|the|to|with)$/i;
+const [PLURAL, LITTLE] = [/(?<=[a-z]{2}[a-hj-rtv-z])s$/i, /^(an?|and|at|by|for|from|in|of|on|or|the|to|with)$/i];
 export function wordsOf(typed = "") {
   const text = typed.replace(/\b(disk|accession number) +(?=\d)/gi, "");
   const [all, few] = [text.match(/\S*[^\s*]\S*/g) ?? [], (word) => !LITTLE.test(word)];
@@ -177,13 +173,11 @@ export const isForBasic = (q) => /\bbasic/i.test(q ?? "");
 
 // The disks that were found (all, where nothing is looked for), by disks the files that have all words, and counts.
 export async function found(disks, files, { q, type, kind, sort }) {
-  const words = wordsOf(q);
-  const counts = { kinds: new Map(), types: new Map(), all: 0, files: 0, read: 0 };
+  const [words, counts] = [wordsOf(q), { kinds: new Map(), types: new Map(), all: 0, files: 0, read: 0 }];
   const [isAll, matches] = [!words.length && !type && !kind, new Map()];
   const hits = isAll ? disks : [];
   const look = (disk) => {
-    const missing = words.filter((word) => !inDisk(diskText(disk), word));
-    const all = files?.get(disk.accession) ?? [];
+    const [missing, all] = [words.filter((word) => !inDisk(diskText(disk), word)), files?.get(disk.accession) ?? []];
     const hasMissing = ({ text }) => missing.every((word) => has(text, word));
     const named = words.length ? namedBy(words, all.filter(hasMissing)) : all;
     const isOfKind = !kind || familyOf(disk.kind) === kind;

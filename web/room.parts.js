@@ -37,8 +37,7 @@ export function permission(kind, file) {
 
 // Whom to ask about a disk or a file of it: what a mail is about has all that names it.
 export function askAbout(accession, slot, name) {
-  const isFile = slot !== undefined;
-  const names = [name, titleOf(accession)].filter(Boolean).join(" on ");
+  const [isFile, names] = [slot !== undefined, [name, titleOf(accession)].filter(Boolean).join(" on ")];
   const of = `Disk ${accession}${isFile ? `, slot ${slot}` : ""}${names && `: ${names}`}`;
   return askStaff(isFile ? "this file" : "this disk", of);
 }

@@ -91,8 +91,7 @@ function cpmDirectory({ files }, isSmall) {
   for (const user of [...new Set(files.map((file) => file.user ?? 0))].sort((one, other) => one - other)) {
     if (user) lines.push(typed(`A>USER ${user}`, BRIGHT));
     lines.push(typed("A>DIR", BRIGHT));
-    const mine = files.filter((file) => (file.user ?? 0) === user);
-    const across = isSmall ? 2 : 4;
+    const [mine, across] = [files.filter((file) => (file.user ?? 0) === user), isSmall ? 2 : 4];
     for (let at = 0; at < mine.length; at += across) {
       lines.push(mine.slice(at, at + across).flatMap((file, place) => {
         const [name] = shownName("cpm8", file.name).split(/\.(?=[^.]*$)/);

@@ -9,8 +9,7 @@ const MATCHES = {
 
 // Whether a rule is for a file and an audience on a day.
 export function isFor(rule, file, audience, day) {
-  const [how, what] = selection(rule);
-  const isOn = (rule.from ?? "") <= day && (!rule.until || day < rule.until);
+  const [[how, what], isOn] = [selection(rule), (rule.from ?? "") <= day && (!rule.until || day < rule.until)];
   return isOn && rule.audiences.includes(audience) && MATCHES[how](what, file);
 }
 

@@ -21,8 +21,7 @@ const unless = (status, reply) => reply.catch((fault) => (fault.status === statu
 
 // Hands on each line of some bytes.
 async function eachLine(bytes, take) {
-  const breathe = breather();
-  const decoder = new TextDecoder();
+  const [breathe, decoder] = [breather(), new TextDecoder()];
   for (let at = 0; at < bytes.length; ) {
     const found = bytes.indexOf(LINE_FEED, at);
     const end = found < 0 ? bytes.length : found;

@@ -44,8 +44,7 @@ function sectorsOf(disk) {
 
 export function diskMap(kind, bytes) {
   const disk = readDump(kind, bytes);
-  const cells = sectorsOf(disk);
-  const damaged = disk.files.filter(({ faults }) => faults.length).length;
+  const [cells, damaged] = [sectorsOf(disk), disk.files.filter(({ faults }) => faults.length).length];
   const summary = `${counted(disk.files.length, "file")}, ${damaged || "none"} of them damaged.`;
   const says = element("figcaption", summary, { role: "status" });
   const faultWords = ({ faults }) => faults.map(explained).join("; ") || "No fault";

@@ -36,8 +36,7 @@ export function makeRuleForm(name, form) {
 
 // Shows the field for a value where the way to select takes one.
 function chooseWay({ how, what }) {
-  const { field, limits } = own(SELECTORS, how.value) || SELECTORS.all;
-  const label = what.closest("label");
+  const [{ field, limits }, label] = [own(SELECTORS, how.value) || SELECTORS.all, what.closest("label")];
   label.hidden = what.disabled = field === undefined;
   label.querySelector("span").textContent = field ?? "";
   Object.assign(what, { value: "", ...limits });
@@ -50,8 +49,7 @@ const needAudience = (form, lacks = chosenAudiences(form).length === 0) =>
 
 // Fills a form with a rule that stands.
 export function fillRule(form, rule) {
-  const { how, what, effect, from, until } = form.elements;
-  const [way, value] = selection(rule);
+  const [{ how, what, effect, from, until }, [way, value]] = [form.elements, selection(rule)];
   for (const box of form.querySelectorAll("[name=audiences]")) box.checked = rule.audiences.includes(box.value);
   how.value = way;
   chooseWay(form.elements);

@@ -8,8 +8,7 @@ const END = 0x1a;
 // zeros alone; null where it is other bytes, or where there is nothing before it.
 function beforeEnd(bytes) {
   const found = bytes.indexOf(END);
-  const end = found < 0 ? bytes.length : found;
-  const isRest = (byte) => byte === END || byte === 0;
+  const [end, isRest] = [found < 0 ? bytes.length : found, (byte) => byte === END || byte === 0];
   if (end === 0 || (bytes.length - end > 128 && !bytes.subarray(end).every(isRest))) return null;
   return bytes.subarray(0, end);
 }
@@ -38,8 +37,7 @@ export function wordStarText(bytes) {
   return plain.length && plain.every(isText) ? ascii(plain) : null;
 }
 
-const LINE_ENDS = [0x0d, 0x8d];
-const [SMALL, CAPITAL] = [0x0e, 0x8e];
+const [LINE_ENDS, [SMALL, CAPITAL]] = [[0x0d, 0x8d], [0x0e, 0x8e]];
 
 // A text of the 1541: lines end with CR, 0D hex, or with a shifted one, 8D hex. Letters are those of the set with small
 // letters where the text has a shifted one, and else those of the set with which the machine starts.

@@ -2,8 +2,7 @@
 import { recordsOf } from "./csv.js";
 import { box, element } from "./shared.js";
 
-const COLUMNS = "accession,title,note";
-const titles = new Map();
+const [COLUMNS, titles] = ["accession,title,note", new Map()];
 
 // Reads tables, of which a later one goes before an earlier one. A table that is not there, or is none, has no titles.
 export async function readTitles(paths) {

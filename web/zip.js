@@ -43,8 +43,7 @@ export function zipParts(files) {
     directory.push(numbers([4, 0x02014b50], [2, VERSION], ...fields(file), ...more), file.name);
     place += head.length + file.name.length + bytes.length;
   }
-  const size = directory.reduce((length, part) => length + part.length, 0);
-  const count = files.length;
+  const [size, count] = [directory.reduce((length, part) => length + part.length, 0), files.length];
   const end = numbers([4, 0x06054b50], [2, 0], [2, 0], [2, count], [2, count], [4, size], [4, place], [2, 0]);
   return [...parts, ...directory, end];
 }

@@ -38,7 +38,8 @@ def saved_table(page, name, button="Save what is shown as CSV"):
     mark, text = page.push(button) and page.saved(f"{name}-{TODAY}T12*Z.csv").decode().partition("museum")[::2]
     assert f"Saved: {name}-{TODAY}T12" in "".join(page.texts("[role=status]")), "nothing says that it is saved"
     records = list(csv.reader(f"museum{text}".splitlines()))
-    assert mark == "\ufeff" and ", in UTF-8, saved by “Ada Archivist”, as they typed their name (" in records[0][1], name
+    assert mark == "\ufeff", "a spreadsheet takes it for other than UTF-8"
+    assert ", in UTF-8, saved by “Ada Archivist”, as they typed their name (" in records[0][1], name
     return records
 
 def moment(at):

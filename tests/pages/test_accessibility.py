@@ -49,7 +49,7 @@ return due.length;"""
 ASKS = """const one = document.querySelector("#sure[open]");
 return one && [getComputedStyle(one).position, document.querySelector("main").checkVisibility()];"""
 # A script: the rows of tables that may be split between two sheets of paper.
-SPLIT = "return Array.from(document.querySelectorAll('tr')).filter((one) => getComputedStyle(one).breakInside !== 'avoid')"
+SPLIT = "return [...document.querySelectorAll('tr')].filter((one) => getComputedStyle(one).breakInside !== 'avoid')"
 MOST_TABS = 400
 # What has to have a name, by the roles that the browser tells a screen reader.
 NAMED = {*"link button textbox searchbox spinbutton combobox checkbox Date DisclosureTriangle".split(),
