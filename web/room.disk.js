@@ -36,7 +36,7 @@ function zipWay({ accession, kind, files, quotes }) {
 // The directory on the screen of the machine: a picture, of which the table is the text.
 function machine(disk) {
   const [isCpm, screen] = [disk.kind === "cpm8", directoryScreen(disk)];
-  const words = `The directory as ${isCpm ? "CP/M shows it on a terminal" : "a C64 lists it"}`;
+  const words = `The directory as ${isCpm ? "CP/M shows it on a terminal" : "a C64 lists files"}`;
   Object.assign(screen, { role: "img", ariaLabel: `${words}: the same files as in the table` });
   screen.setAttribute("aria-details", "files");
   const dim = disk.files.every(mayRead) ? "" : " What you may not read is dim.";

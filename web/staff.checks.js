@@ -11,8 +11,8 @@ import { dayAfter, quoted, signedWords, today } from "./staff.words.js";
 const DAYS = 365;
 const DIRECTORIES = { end: "it ends well", loop: "it leads back into itself", off: "it leads off the disk" };
 
-const SOUND = `\u201cSound\u201d says: the bytes that the desk has still have the SHA-256 with which the disk was \
-taken in. It says nothing of damaged files: a sound disk may have some.`;
+const SOUND = `\u201cSound\u201d says: the bytes that the desk had that day have the SHA-256 with which the disk \
+was taken in. It says nothing of damaged files: a sound disk may have some.`;
 
 // What a check has found: a warning where a disk is changed.
 const finding = (text, isBad, more = isBad ? " Restore a backup of what is changed." : "") =>

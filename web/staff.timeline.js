@@ -96,7 +96,7 @@ function mark() {
 }
 
 function choose(day, where) {
-  if (!day) return show("timeline", paragraph(`There is no ${where} change: no rule that stands begins or ends then.`));
+  if (!day) return show("timeline", paragraph(`No rule that stands begins or ends ${where} than ${field().value}.`));
   field().value = day;
   mark();
   look();

@@ -121,7 +121,7 @@ export const standingWords = (rule, names) => ruleWords(rule, names, daysNow);
 
 // What is to be said of a takedown that is put.
 export const VISITS = `From which addresses files were fetched before, desk-visits.log on the museum's machine says \
-for 14 days only: keep a copy if you need it.`;
+for 14 days at most: keep a copy if you need it.`;
 
 // Who put what stands, by the journal: the name of the column, and what is there before the journal is read.
 export const [PUT, UNREAD] = ["Put when, by whom, and why", "not looked for in the journal"];

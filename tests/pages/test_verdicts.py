@@ -247,7 +247,7 @@ def test_timeline_has_the_next_change_first_and_says_what_is_other_on_each_day(m
         assert more == [f"What is other on {day} than on the day before it, {before}, {STOOD}", *turns]
     staff.push("Change after")
     last = staff.push("Change after")["result"]
-    assert last == ["There is no later change: no rule that stands begins or ends then."], "a button that does nothing"
+    assert last == ["No rule that stands begins or ends later than 2030-01-01."], "a button that does nothing"
     put = journal_lines(1, 1781078400, "200", "PUT", "/deeds/9/rules/4", "Ada", "a%20letter")
     says = ". Since then it has: Put rule 4 of deed 9, 2026-06-10 08:00:00 UTC by “Ada”: “a letter”"
     for lines, words in [({"/journal": put}, f", the journal says{says}"), ({}, " is not known: there is no journal")]:
