@@ -46,11 +46,6 @@ module _ (moment : ℤ) (note : List ℕ) where
   entries_tell number [] = refl
   entries_tell number (change ∷ changes) = ap (λ l. change ∷ l) (entries_tell (number + 1) changes)
 
-  -- the first line
-  pub base_line : (number : ℕ) (change : Change) (text : List ℕ) → text ≡ line_of (base_entry moment note number change) → IsUtf8 text
-      → IsEntry (base_entry moment note number change) → TellsDigests change → AreBaseLines moment note number (change ∷ []) (text ∷ [])
-  base_line number change text is utf8 within digests = record { are = ap (λ l. l ∷ []) is; texts = (utf8, tt); numbered = (refl, within, (tt, digests), tt) }
-
   -- a line more
   pub base_line_more : (number : ℕ) (changes : List Change) (lines : List (List ℕ)) (change : Change) (text : List ℕ) → AreBaseLines moment note number changes lines
       → text ≡ line_of (base_entry moment note (number + length changes) change) → IsUtf8 text

@@ -92,3 +92,12 @@ base_lines moment note number listed = map line_of (base_entries moment note num
 -- the line of an entry at a number
 abbrev pub line_at : ℕ → Entry → List ℕ
 line_at number entry = line_of (record entry { number = number })
+
+-- lines with that of one entry more behind them, which has the next number
+abbrev pub with_entry : List (List ℕ) → Entry → List (List ℕ)
+with_entry lines entry = lines ++ line_at (length lines + 1) entry ∷ []
+
+-- an entry that takes the one before it back at a moment, for a cause: no key asked it, and nobody wrote beside it
+abbrev pub void_of : ℤ → Cause → Entry
+void_of moment cause =
+    record { badge = None; change = Void cause; moment = moment; note = []; number = 1; staff = [] }

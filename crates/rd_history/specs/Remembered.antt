@@ -1,5 +1,5 @@
 -- A desk that remembers: what a request does to its store, and to its history.
-use Rattle.std.specs.Prelude.{◌≡◌, ◌≢◌, ◌+◌, ℕ, List, [], ◌∷◌, ◌++◌, Bool, false, true, IfSome, None, Some, Result, Ok, Err, length}
+use Rattle.std.specs.Prelude.{◌≡◌, ◌≢◌, ◌⊎◌, ◌↔◌, ◌+◌, ℕ, ℤ, List, ◌++◌, Bool, false, true, IfSome, None, Some, Result, Ok, Err, OnOk, OnErr, length}
 use Rattle.sqlite.specs.Store.{Ghosts}
 use Rattle.sqlite.specs.Held.{Held}
 use Rattle.rd_tables.specs.Connections.{IsOpen}
@@ -7,13 +7,21 @@ use Rattle.rd_policy.specs.declared.audience.Audience.TheVariants.{Staff}
 use Rattle.rd_store.specs.Held.{desk as desk_of}
 use Rattle.rd_holdings.specs.State.{Desk}
 use Rattle.rd_chain.specs.Held.{lines}
-use Rattle.rd_protocol.specs.Judged.{audience_of}
+use Rattle.rd_protocol.specs.Judged.{IsRefusedOn, audience_of}
+use Rattle.rd_protocol.specs.Refusals.{name_of}
+use Rattle.rd_protocol.specs.Texts.{UNAVAILABLE, reply_of}
+use Rattle.rd_protocol.specs.declared.refusal.Refusal.{Refusal}
+use Rattle.rd_protocol.specs.declared.refusal.Refusal.TheVariants as refusal
 use Rattle.rd_protocol.specs.declared.request.Request.{Request}
 use Rattle.rd_protocol.specs.declared.response.Reply.{Reply}
+use Rattle.rd_protocol.specs.declared.response.Response.{Response}
+use Rattle.rd_protocol.specs.declared.response.Response.TheVariants.{Done, Refused}
 use Rattle.rd_history.specs.Changes.{change_of}
-use Rattle.rd_history.specs.Entries.{HasDigests, IsEntry}
-use Rattle.rd_history.specs.Histories.{AreLinesOf, IsAsked, IsHistory, line_at}
+use Rattle.rd_history.specs.Entries.{HasDigests, IsEntry, cause_word}
+use Rattle.rd_history.specs.Histories.{AreLinesOf, IsAsked, IsHistory, void_of, with_entry}
 use Rattle.rd_history.specs.Settled.{IsTold, StandsNear}
+use Rattle.rd_history.specs.declared.entry.Cause.{Cause}
+use Rattle.rd_history.specs.declared.entry.Cause.TheVariants.{NoAccession, NoDeed, WrongSize, DigestDiffers, Conflict, Unavailable, Lost}
 use Rattle.rd_history.specs.declared.entry.Change.{Change}
 use Rattle.rd_history.specs.declared.entry.Entry.{Entry}
 use Rattle.rd_history.specs.declared.remembering.Signature.{Signature}
@@ -33,35 +41,82 @@ entry_of signature badge change =
 abbrev pub Grows : List (List ℕ) → List (List ℕ) → Type 0
 Grows old new = (more : List (List ℕ)) × (new ≡ old ++ more)
 
--- lines came behind those that were there, the last of them that of an entry
-abbrev pub EndsIn : List (List ℕ) → List (List ℕ) → Entry → Type 0
-EndsIn old new entry = (front : List (List ℕ)) × Grows old front × (new ≡ front ++ line_at (length front + 1) entry ∷ [])
+-- lines once it is settled whether the last entry was carried out: as they were; or, where this was unsettled, with an
+-- entry behind that takes it back at a moment, as found undone
+abbrev pub AreSettled : Bool → ℤ → List (List ℕ) → List (List ℕ) → Type 0
+AreSettled was moment old new = (new ≡ old) ⊎ ((was ≡ true) × (new ≡ with_entry old (void_of moment Lost)))
+
+-- The desk refused a request, and the last entry was taken back at a moment, with the name of the refusal. The reply
+-- says the refusal, or that the desk is unavailable.
+pub record IsTakenBack (desk : Desk) (day : ℤ) (request : Request) (reply : Reply) (moment : ℤ) (old new : List (List ℕ)) : Type 0 where
+  pub refusal : Refusal
+  pub refused : IsRefusedOn desk day request refusal
+  pub written : (reply ≡ reply_of (Refused refusal)) ⊎ (reply ≡ UNAVAILABLE)
+  pub cause : Cause
+  pub named : cause_word cause ≡ name_of refusal
+  pub are : new ≡ with_entry old (void_of moment cause)
+
+-- What comes behind the lines of a history where the staff asks a change, of which this is the entry. First it is settled
+-- whether the last entry was carried out. Then nothing is put, and the desk is unavailable: what was unsettled may still
+-- be so. Or the entry is put, and it is unsettled exactly where the status is not 200. Or the entry is put and taken back,
+-- and nothing is unsettled.
+pub record Adds (desk : Desk) (day : ℤ) (request : Request) (reply : Reply) (entry : Entry) (was is : Bool) (old new : List (List ℕ)) : Type 0 where
+  pub settled : List (List ℕ)
+  pub first : AreSettled was entry.moment old settled
+  pub after :
+      ((new ≡ settled) × (reply ≡ UNAVAILABLE) × (is ≡ true → (was ≡ true) × (new ≡ old)))
+      ⊎ ((new ≡ with_entry settled entry) × (is ≡ true ↔ (reply.status ≢ 200)))
+      ⊎ (IsTakenBack desk day request reply entry.moment (with_entry settled entry) new × (is ≡ false))
 
 -- One request to a desk that remembers. Where both connections are open at its end, and the desk stood as its history
--- told, it still does. Where it is done, the history ends in an entry of the change that it asks. What asks no change
--- adds nothing, and nobody adds anything but the staff.
+-- told, it still does; and where the staff asked a change, its history has what `Adds` says, and no more. What asks no
+-- change adds nothing, and nobody adds anything but the staff. Lines come behind those that were there.
 pub record Remembers {S H : Type 0} (g : Ghosts S) (h : Ghosts H) (old new : Held S) (before after : Held H) (was is : Bool)
-    (signature : Signature) (request : Request) (reply : Reply) : Type 0 where
+    (day : ℤ) (signature : Signature) (request : Request) (reply : Reply) : Type 0 where
   pub told : IsOpen g new → IsOpen h after → Agrees was (desk_of g old) (lines h before) → Agrees is (desk_of g new) (lines h after)
-  pub entered : IsOpen g new → IsOpen h after → reply.status ≡ 200 → IfSome (change_of request.what) (λ change.
-      IfSome request.badge (λ badge. EndsIn (lines h before) (lines h after) (entry_of signature badge change)))
+  pub adds : IsOpen g new → IsOpen h after → audience_of (desk_of g old) request.badge ≡ Some Staff
+      → IfSome (change_of request.what) (λ change. IfSome request.badge (λ badge.
+      Adds (desk_of g old) day request reply (entry_of signature badge change) was is (lines h before) (lines h after)))
   pub grows : IsOpen h after → Grows (lines h before) (lines h after)
-  pub others : change_of request.what ≡ None → after ≡ before
-  pub strangers : IsOpen g new → audience_of (desk_of g old) request.badge ≢ Some Staff → after ≡ before
+  pub others : change_of request.what ≡ None → (after ≡ before) × (is ≡ was)
+  pub strangers : IsOpen g new → audience_of (desk_of g old) request.badge ≢ Some Staff → (after ≡ before) × (is ≡ was)
 
 -- ---- inside
 
 -- The last line is that of an entry, and the desk stands as the lines before it tell.
-pub record Leads (desk : Desk) (lines : List (List ℕ)) (entry : Entry) : Type 0 where
+pub record IsPending (desk : Desk) (lines : List (List ℕ)) (entry : Entry) : Type 0 where
   pub front : List (List ℕ)
-  pub are : lines ≡ front ++ line_at (length front + 1) entry ∷ []
+  pub are : lines ≡ with_entry front entry
   pub within : IsEntry (record entry { number = length front + 1 })
   pub digests : HasDigests entry
   pub asked : IsAsked entry.change
   pub told : IsTold desk front
   pub history : IsHistory lines
 
--- an entry leads; or none was put, and the desk stands as before
+-- an entry is pending; or none was put, and the desk stands as before
 abbrev pub IsAhead : {T X : Type 0} → Desk → List (List ℕ) → Entry → Bool → Result T X → Type 0
-IsAhead desk lines entry is (Ok done) = Leads desk lines entry
+IsAhead desk lines entry is (Ok done) = IsPending desk lines entry
 IsAhead desk lines entry is (Err fault) = Agrees is desk lines
+
+-- An entry was put, once it was settled whether the one before it was carried out; or it was not, as the result says.
+pub record PutsAhead {T X : Type 0} (was is : Bool) (old new : List (List ℕ)) (entry : Entry) (result : Result T X) : Type 0 where
+  pub settled : List (List ℕ)
+  pub first : AreSettled was entry.moment old settled
+  pub ok : OnOk result (new ≡ with_entry settled entry)
+  pub err : OnErr result ((new ≡ settled) × (is ≡ true → (was ≡ true) × (new ≡ old)))
+
+-- the cause for which an entry of the staff is taken back, by the refusal
+abbrev pub cause_by : Refusal → Cause
+cause_by refusal.NoAccession = NoAccession
+cause_by refusal.NoDeed = NoDeed
+cause_by refusal.WrongSize = WrongSize
+cause_by refusal.DigestDiffers = DigestDiffers
+cause_by refusal.Conflict = Conflict
+cause_by other = Unavailable
+
+-- the last entry stays, and is unsettled exactly where the answer is not that it is done; or the answer is a refusal, and
+-- the entry is taken back at a moment
+abbrev pub EndsAs : {X : Type 0} → Bool → ℤ → List (List ℕ) → List (List ℕ) → Result Response X → Type 0
+EndsAs is moment old new result =
+    ((new ≡ old) × (is ≡ true ↔ (result ≢ Ok Done)))
+    ⊎ ((refusal : Refusal) × (result ≡ Ok (Refused refusal)) × (new ≡ with_entry old (void_of moment (cause_by refusal))) × (is ≡ false))

@@ -1,5 +1,5 @@
 -- Whether a desk stands as a history tells.
-use Rattle.std.specs.Prelude.{◌≡◌, ◌⊎◌, ◌+◌, ℕ, List, [], ◌∷◌, ◌++◌, None, OnOk, Result, Some, length, option_map}
+use Rattle.std.specs.Prelude.{◌≡◌, ◌⊎◌, ◌+◌, ℕ, ℤ, List, [], ◌∷◌, ◌++◌, None, OnOk, Result, Some, length, option_map}
 use Rattle.std.specs.FinMap.{get}
 use Rattle.sqlite.specs.Held.{Held}
 use Rattle.sqlite.specs.Store.{Ghosts}
@@ -7,14 +7,14 @@ use Rattle.rd_tables.specs.Connections.{IsOpen}
 use Rattle.rd_chain.specs.Held.{Appends, Keeps, lines}
 use Rattle.rd_holdings.specs.State.{Desk, place_of, terms_of}
 use Rattle.rd_holdings.specs.declared.rows.ImageRow.{ImageRow}
-use Rattle.rd_history.specs.Entries.{HasDigests, IsEntry}
-use Rattle.rd_history.specs.Histories.{AreLinesOf, AreParts, IsAsked, changes_of, line_at}
+use Rattle.rd_history.specs.Entries.{IsEntry}
+use Rattle.rd_history.specs.Histories.{AreLinesOf, AreParts, IsAsked, changes_of, line_at, void_of}
 use Rattle.rd_history.specs.Reading.{IsLineOf}
 use Rattle.rd_history.specs.Standings.{Deposit, Standing, standing_after}
 use Rattle.rd_history.specs.declared.entry.Cause.{Cause}
 use Rattle.rd_history.specs.declared.entry.Cause.TheVariants.{Lost}
 use Rattle.rd_history.specs.declared.entry.Change.{Change}
-use Rattle.rd_history.specs.declared.entry.Change.TheVariants.{Deed, Image, Rule, DropRule, Key, DropKey, Void}
+use Rattle.rd_history.specs.declared.entry.Change.TheVariants.{Deed, Image, Rule, DropRule, Key, DropKey}
 use Rattle.rd_history.specs.declared.entry.Entry.{Entry}
 
 -- an image without its bytes
@@ -64,17 +64,14 @@ pub record EndIn (lines : List (List ℕ)) (entry : Entry) : Type 0 where
   pub are : lines ≡ before ++ line ∷ []
   pub of : IsLineOf line entry
 
--- An entry was put that takes the last one back, for a cause; or it was not, as the result says.
-pub record TakesBack {S T X : Type 0} (g : Ghosts S) (cause : Cause) (old new : Held S) (result : Result T X) : Type 0 where
-  pub void : Entry
-  pub change : void.change ≡ Void cause
-  pub digests : HasDigests void
-  pub within : IsOpen g old → OnOk result (IsEntry (record void { number = length (lines g old) + 1 }))
-  pub appends : Appends g old new (line_at (length (lines g old) + 1) void ∷ []) result
+-- An entry was put that takes the last one back at a moment, for a cause; or it was not, as the result says.
+pub record TakesBack {S T X : Type 0} (g : Ghosts S) (moment : ℤ) (cause : Cause) (old new : Held S) (result : Result T X) : Type 0 where
+  pub within : IsOpen g old → OnOk result (IsEntry (record (void_of moment cause) { number = length (lines g old) + 1 }))
+  pub appends : Appends g old new (line_at (length (lines g old) + 1) (void_of moment cause) ∷ []) result
 
--- The history is as calls that read left it; or as an entry left it that they put behind, and that takes the last one back,
--- as found undone.
-pub record Settles {S T X : Type 0} (g : Ghosts S) (old new : Held S) (result : Result T X) : Type 0 where
+-- The history is as calls that read left it; or as an entry left it that they put behind at a moment, and that takes the
+-- last one back, as found undone.
+pub record Settles {S T X : Type 0} (g : Ghosts S) (moment : ℤ) (old new : Held S) (result : Result T X) : Type 0 where
   pub middle : Held S
   pub keeps : Keeps g old middle
-  pub last : (new ≡ middle) ⊎ TakesBack g Lost middle new result
+  pub last : (new ≡ middle) ⊎ TakesBack g moment Lost middle new result

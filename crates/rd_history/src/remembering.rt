@@ -1,6 +1,6 @@
 //! A desk that remembers: a change that the staff asks is put into a history before the desk carries it out.
 
-ghost use Rattle.std.specs.Prelude.{◌≡◌, ◌≢◌, IfOk, Ok, OnOk, Some};
+ghost use Rattle.std.specs.Prelude.{◌≡◌, ◌↔◌, IfOk, IsTrue, Ok, OnOk, Some};
 ghost use Rattle.rd_policy.specs.Days.{HasDay, IsDay};
 ghost use Rattle.rd_policy.specs.Rules.{IsPlainText};
 ghost use Rattle.rd_tables.specs.Connections.{IsClean, IsOpen};
@@ -11,7 +11,7 @@ ghost use Rattle.rd_desk.specs.Served.{Responds, Serves};
 ghost use Rattle.rd_history.specs.Changes as spec;
 ghost use Rattle.rd_history.specs.Entries.{HasDigests, IsEntry};
 ghost use Rattle.rd_history.specs.Histories.{IsAsked, MayBeTakenBack};
-ghost use Rattle.rd_history.specs.Remembered.{Agrees, EndsIn, Grows, IsAhead, Leads, Remembers, entry_of};
+ghost use Rattle.rd_history.specs.Remembered.{Agrees, EndsAs, IsAhead, IsPending, PutsAhead, Remembers, cause_by, entry_of};
 
 use crate::change::change_of;
 use crate::entry::{Cause, Change, Entry};
@@ -85,9 +85,9 @@ fn put_ahead<S: Alter, H: Alter>(
     requires asked { IsAsked entry.change }
     ensures store { Keeps S.Store store.old store.new }
     ensures opens { (IsClean S.Store store.old → IsOpen S.Store store.old) → OnOk result (IsClean S.Store store.new → IsOpen S.Store store.new) }
-    ensures puts { IsOpen H.Store recorder.new.history → OnOk result (EndsIn (lines H.Store recorder.old.history) (lines H.Store recorder.new.history) entry) }
+    ensures puts { IsOpen H.Store recorder.new.history → PutsAhead recorder.old.is_unsettled recorder.new.is_unsettled
+        (lines H.Store recorder.old.history) (lines H.Store recorder.new.history) entry result }
     ensures back { IsOpen H.Store recorder.new.history → OnOk result (MayBeTakenBack (lines H.Store recorder.new.history)) }
-    ensures grows { IsOpen H.Store recorder.new.history → Grows (lines H.Store recorder.old.history) (lines H.Store recorder.new.history) }
     ensures ahead { IsOpen S.Store store.new → IsOpen H.Store recorder.new.history
         → Agrees recorder.old.is_unsettled (desk_of S.Store store.old) (lines H.Store recorder.old.history)
         → IsAhead (desk_of S.Store store.old) (lines H.Store recorder.new.history) entry recorder.new.is_unsettled result }
@@ -105,7 +105,9 @@ fn put_ahead<S: Alter, H: Alter>(
 }
 
 /// Why an entry of the staff was not carried out, by the refusal.
-fn cause_of(refusal: Refusal) -> Cause {
+fn cause_of(refusal: Refusal) -> Cause
+    ensures { result ≡ cause_by refusal }
+{
     match refusal {
         Refusal::NoAccession => Cause::NoAccession,
         Refusal::NoDeed => Cause::NoDeed,
@@ -114,6 +116,13 @@ fn cause_of(refusal: Refusal) -> Cause {
         Refusal::Conflict => Cause::Conflict,
         _ => Cause::Unavailable,
     }
+}
+
+/// Whether the answer is that the command is done.
+fn is_done(answer: &Result<Response, Unavailable>) -> bool
+    ensures { IsTrue result ↔ (answer.now ≡ Ok Response.Done) }
+{
+    matches!(answer, Ok(Response::Done))
 }
 
 /// Has the desk answer a request whose entry was put, and takes the entry back where it refuses.
@@ -132,21 +141,18 @@ fn carry_out<S: Alter, H: Alter>(
     ensures responds { Responds S.Store desk.old.store desk.new.store day request.now result }
     ensures zone { desk.new.zone ≡ desk.old.zone }
     ensures told { IsOpen S.Store desk.new.store → IsOpen H.Store recorder.new.history
-        → (entry : _) → spec.change_of request.now.what ≡ Some entry.change → Leads (desk_of S.Store desk.old.store) (lines H.Store recorder.old.history) entry
+        → (entry : _) → spec.change_of request.now.what ≡ Some entry.change → IsPending (desk_of S.Store desk.old.store) (lines H.Store recorder.old.history) entry
         → Agrees recorder.new.is_unsettled (desk_of S.Store desk.new.store) (lines H.Store recorder.new.history) }
     ensures was_open { IsOpen H.Store recorder.new.history → IsOpen H.Store recorder.old.history }
-    ensures kept { ((refusal : _) → result ≢ Ok (Response.Refused refusal)) → recorder.new.history ≡ recorder.old.history }
-    ensures grows { IsOpen H.Store recorder.new.history → Grows (lines H.Store recorder.old.history) (lines H.Store recorder.new.history) }
+    ensures ends { IsOpen H.Store recorder.new.history → EndsAs recorder.new.is_unsettled moment (lines H.Store recorder.old.history) (lines H.Store recorder.new.history) result }
 {
     let answer = desk.respond(alloc, day, request);
-    let settled = match &answer {
-        Ok(Response::Done) => Ok(()),
+    recorder.is_unsettled = match &answer {
         Ok(Response::Refused(refusal)) => {
-            take_back(alloc, moment, cause_of(*refusal), &mut recorder.history)
+            take_back(alloc, moment, cause_of(*refusal), &mut recorder.history).is_err()
         }
-        Ok(_) | Err(_) => Err(Unsettled),
+        _ => !is_done(&answer),
     };
-    recorder.is_unsettled = settled.is_err();
     answer
 }
 
@@ -172,7 +178,7 @@ pub fn answer_on<S: Alter, H: Alter>(
     ensures serves { Serves S.Store desk.old.store desk.new.store day request.now result }
     ensures zone { desk.new.zone ≡ desk.old.zone }
     ensures remembers { Remembers S.Store H.Store desk.old.store desk.new.store recorder.old.history recorder.new.history
-        recorder.old.is_unsettled recorder.new.is_unsettled signature.entry request.now result }
+        recorder.old.is_unsettled recorder.new.is_unsettled day signature.entry request.now result }
 {
     // Where no call is made a crash leaves the desk as it is here.
     desk.store.between_calls();

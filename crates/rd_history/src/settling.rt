@@ -7,7 +7,7 @@ ghost use Rattle.rd_store.specs.Held.{Keeps, Reads, desk};
 ghost use Rattle.rd_holdings.specs.State.{terms_of};
 ghost use Rattle.rd_chain.specs.Held.{lines};
 ghost use Rattle.rd_history.specs.Entries.{HasDigests, IsEntry};
-ghost use Rattle.rd_history.specs.Histories.{AreLinesOf, IsHistory, MayBeTakenBack};
+ghost use Rattle.rd_history.specs.Histories.{AreLinesOf, IsHistory, MayBeTakenBack, void_of};
 ghost use Rattle.rd_history.specs.Settled.{IsSo, IsTold, Settles, StandsNear, TakesBack};
 
 use crate::entry::{Cause, Change, Entry};
@@ -138,7 +138,7 @@ fn void(alloc: Global, moment: i64, cause: Cause) -> Entry
     requires { HasDay moment }
     ensures fits { IsEntry result }
     ensures digests { HasDigests result }
-    ensures change { result.change ≡ Change.Void cause }
+    ensures same { result ≡ void_of moment cause }
 {
     Entry {
         badge: None,
@@ -159,7 +159,7 @@ pub(crate) fn take_back<H: Alter>(
 ) -> Result<(), Unsettled>
     requires moment { HasDay moment }
     requires comes { IsOpen H.Store history.old → MayBeTakenBack (lines H.Store history.old) }
-    ensures takes { TakesBack H.Store cause history.old history.new result }
+    ensures takes { TakesBack H.Store moment cause history.old history.new result }
     ensures history { IsOpen H.Store history.new → IsHistory (lines H.Store history.new) }
 {
     let put = history.append(alloc, void(alloc, moment, cause));
@@ -187,7 +187,7 @@ pub fn settle<S: Alter, H: Alter>(
     ensures opens { (IsClean S.Store store.old → IsOpen S.Store store.old) → OnOk result (IsClean S.Store store.new → IsOpen S.Store store.new) }
     ensures told { IsOpen S.Store store.new → IsOpen H.Store history.new → (entries : _) → AreLinesOf entries (lines H.Store history.old)
         → StandsNear (desk S.Store store.old) entries → OnOk result (IsTold (desk S.Store store.old) (lines H.Store history.new)) }
-    ensures history { Settles H.Store history.old history.new result }
+    ensures history { Settles H.Store moment history.old history.new result }
 {
     // Until a call is made a crash leaves both as they are here.
     store.between_calls();

@@ -1,4 +1,4 @@
-use Rattle.std.proofs.Common.{◌≡◌, ◌≢◌, ◌∙◌, FitsSigned, IfSome, None, Option, Some, List, ℕ, ap, inl, inr, rules, subst, sym, w32}
+use Rattle.std.proofs.Common.{◌≡◌, ◌≢◌, ◌∙◌, FitsSigned, None, Option, Some, List, ℕ, ap, inl, inr, rules, subst, sym, w32, w64}
 use Rattle.std.proofs.lemmas.Int.{to_z-of_z}
 use Rattle.rd_chain.specs.Held.{lines}
 use Rattle.rd_policy.specs.declared.audience.Audience.{Audience}
@@ -7,12 +7,14 @@ use Rattle.rd_protocol.specs.Judged.{audience_of}
 use Rattle.rd_store.proofs.CopyLemmas.{keeps_here, keeps_then}
 use Rattle.rd_store.specs.Held.{IsClean, IsOpen, desk}
 use Rattle.rd_desk.proofs.ReplyLemmas.{serves}
+use Rattle.rd_desk.specs.Calls.{IsResponse}
 use Rattle.rd_desk.specs.Served.{Serves}
+use Rattle.rd_desk.specs.declared.asking.Unavailable.{Unavailable}
 use Rattle.rd_history.specs.Changes.{change_of}
-use Rattle.rd_history.specs.Remembered.{Agrees, EndsIn, Leads, entry_of}
+use Rattle.rd_history.specs.Remembered.{Adds, Agrees, EndsAs, IsPending, entry_of}
 use Rattle.rd_history.specs.declared.entry.Change.{Change}
 use Rattle.rd_history.specs.declared.entry.Entry.{Entry}
-use Rattle.rd_history.proofs.Carried.{agrees_after, grows_then, never_enters, none_enters, not_refused, stranger_refused, unrecorded}
+use Rattle.rd_history.proofs.Carried.{adds_none, adds_then, agrees_after, ends_grow, grows_then, puts_grow, said_of, unavailable, unrecorded}
 use Rattle.rd_history.proofs.Composed.{responds_after, serves_after, serves_none}
 use Rattle.rd_history.proofs.remembering.answer_on.Goals as goal
 
@@ -25,14 +27,19 @@ returns-in_default-clause-remembers g c =
     let served = c.answer_on.ensures.serves in
     let stranger : audience_of (desk g.S.Store store) request.badge ≢ Some Staff = λ staff.
     let e : ◌≡◌ {A = Option Audience} (Some Public) (Some Staff) = subst (λ b. audience_of (desk g.S.Store store) b ≡ Some Staff) c.in_default.is staff in cc in
-    unrecorded g.S.Store g.H.Store store new history c.args.recorder.now.is_unsettled c.args.signature request c.answer_on.result
+    unrecorded g.S.Store g.H.Store store new history c.args.recorder.now.is_unsettled c.args.day c.args.signature request c.answer_on.result
     (λ so. agrees_after c.args.recorder.now.is_unsettled (desk g.S.Store store) _ request c.answer_on.result (desk g.S.Store new) (lines g.H.Store history) (served.answers so) (inr stranger))
-    (λ so status. never_enters (change_of request.what) _ (λ change asks. stranger_refused (desk g.S.Store store) _ request c.answer_on.result (desk g.S.Store new) change (served.answers so) asks stranger status))
+    (λ so staff. absurd (stranger staff))
 
 pub returns-in_default-change_of-clause-serves : goal.returns-in_default-change_of-clause-serves
 returns-in_default-change_of-clause-serves g c =
     let store = c.args.desk.now.store in
     serves_none g.S.Store store store c.args.day c.args.request.now c.unavailable.result (keeps_here g.S.Store store c.between_calls.ensures) c.between_calls.ensures c.unavailable.ensures
+
+pub returns-in_default-change_of-clause-remembers : goal.returns-in_default-change_of-clause-remembers
+returns-in_default-change_of-clause-remembers g c =
+    let store = c.args.desk.now.store in
+    unavailable g.S.Store g.H.Store store store c.args.recorder.now.history c.args.recorder.now.is_unsettled c.args.day c.args.signature c.args.request.now c.unavailable.result (keeps_here g.S.Store store c.between_calls.ensures) c.unavailable.ensures
 
 pub returns-in_default-asked-clause-remembers : goal.returns-in_default-asked-clause-remembers
 returns-in_default-asked-clause-remembers g c =
@@ -42,13 +49,18 @@ returns-in_default-asked-clause-remembers g c =
     let request = c.args.request.now in
     let served = c.answer_on-in_default-asked.ensures.serves in
     let none : change_of request.what ≡ None = sym c.in-Ok.ensures ∙ c.in_default-asked.is in
-    unrecorded g.S.Store g.H.Store store new history c.args.recorder.now.is_unsettled c.args.signature request c.answer_on-in_default-asked.result
+    unrecorded g.S.Store g.H.Store store new history c.args.recorder.now.is_unsettled c.args.day c.args.signature request c.answer_on-in_default-asked.result
     (λ so. agrees_after c.args.recorder.now.is_unsettled (desk g.S.Store store) _ request c.answer_on-in_default-asked.result (desk g.S.Store new) (lines g.H.Store history) (served.answers so) (inl none))
-    (λ so status. none_enters (change_of request.what) _ none)
+    (λ so staff. inl none)
 
 pub returns-in_default-audience_of-clause-serves : goal.returns-in_default-audience_of-clause-serves
 returns-in_default-audience_of-clause-serves g c =
     serves_none g.S.Store c.args.desk.now.store c.audience_of.new.self c.args.day c.args.request.now c.unavailable-in_default-audience_of.result c.audience_of.ensures.reads.keeps c.between_calls.ensures c.unavailable-in_default-audience_of.ensures
+
+pub returns-in_default-audience_of-clause-remembers : goal.returns-in_default-audience_of-clause-remembers
+returns-in_default-audience_of-clause-remembers g c =
+    let store = c.args.desk.now.store in
+    unavailable g.S.Store g.H.Store store c.audience_of.new.self c.args.recorder.now.history c.args.recorder.now.is_unsettled c.args.day c.args.signature c.args.request.now c.unavailable-in_default-audience_of.result c.audience_of.ensures.reads.keeps c.unavailable-in_default-audience_of.ensures
 
 pub returns-then-ne-clause-serves : goal.returns-then-ne-clause-serves
 returns-then-ne-clause-serves g c =
@@ -75,13 +87,18 @@ returns-then-ne-clause-remembers g c =
     let mid_open = c.answer_on-then-ne.ensures.serves.lasts.was_open so in
     let read : c.in-Ok-audience_of.audience ≡ audience_of d request.badge = subst (λ b. c.in-Ok-audience_of.audience ≡ audience_of d b) (sym c.in-Some.is) (c.in-Ok-audience_of.ensures.reads.answer mid_open) in
     other (read ∙ staff) in
-    unrecorded g.S.Store g.H.Store store new history c.args.recorder.now.is_unsettled c.args.signature request c.answer_on-then-ne.result
+    unrecorded g.S.Store g.H.Store store new history c.args.recorder.now.is_unsettled c.args.day c.args.signature request c.answer_on-then-ne.result
     (λ so. agrees_after c.args.recorder.now.is_unsettled d _ request c.answer_on-then-ne.result (desk g.S.Store new) (lines g.H.Store history) (served.answers so) (inr (stranger so)))
-    (λ so status. never_enters (change_of request.what) _ (λ change asks. stranger_refused d _ request c.answer_on-then-ne.result (desk g.S.Store new) change (served.answers so) asks (stranger so) status))
+    (λ so staff. absurd (stranger so staff))
 
 pub returns-in_default-entry-clause-serves : goal.returns-in_default-entry-clause-serves
 returns-in_default-entry-clause-serves g c =
     serves_none g.S.Store c.args.desk.now.store c.audience_of.new.self c.args.day c.args.request.now c.unavailable-in_default-entry.result c.audience_of.ensures.reads.keeps c.between_calls.ensures c.unavailable-in_default-entry.ensures
+
+pub returns-in_default-entry-clause-remembers : goal.returns-in_default-entry-clause-remembers
+returns-in_default-entry-clause-remembers g c =
+    let store = c.args.desk.now.store in
+    unavailable g.S.Store g.H.Store store c.audience_of.new.self c.args.recorder.now.history c.args.recorder.now.is_unsettled c.args.day c.args.signature c.args.request.now c.unavailable-in_default-entry.result c.audience_of.ensures.reads.keeps c.unavailable-in_default-entry.ensures
 
 pub returns-in-Ok-put_ahead-clause-serves : goal.returns-in-Ok-put_ahead-clause-serves
 returns-in-Ok-put_ahead-clause-serves g c =
@@ -103,33 +120,44 @@ returns-in-Ok-put_ahead-clause-remembers g c =
     let these = lines g.H.Store c.args.recorder.now.history in
     let mid = c.put_ahead.new.recorder.history in
     let new = c.carry_out-answer.new.recorder.history in
+    let after = desk g.S.Store c.carry_out-answer.new.desk.store in
+    let was = c.args.recorder.now.is_unsettled in
+    let is = c.carry_out-answer.new.recorder.is_unsettled in
     let request = c.args.request.now in
     let entry = c.in-Ok-entry.entry in
     let change = c.in-Some-asked.change in
     let signature = c.args.signature in
+    let reply = c.reply_with.result in
+    let days : FitsSigned w32 c.args.day = search rules in
+    let moments : FitsSigned w64 signature.moment = search rules in
     let asked : change_of request.what ≡ Some change = sym c.in-Ok.ensures ∙ c.in-Some-asked.is in
     let asks : change_of request.what ≡ Some entry.change = asked ∙ ap Some (sym (ap (λ (e : Entry). e.change) c.in-Ok-entry.ensures.entry)) in
     let is_staff : c.in-Ok-audience_of.audience ≡ Some Staff = search rules in
+    let found_same : IsOpen g.S.Store c.put_ahead.new.store → desk g.S.Store c.audience_of.new.self ≡ d = λ so. c.audience_of.ensures.reads.keeps.same (c.put_ahead.ensures.store.lasts.was_open so) in
+    let mid_same : IsOpen g.S.Store c.put_ahead.new.store → desk g.S.Store c.put_ahead.new.store ≡ desk g.S.Store c.audience_of.new.self = λ so. c.put_ahead.ensures.store.same so in
+    let mid_open : IsOpen g.S.Store c.carry_out-answer.new.desk.store → IsOpen g.S.Store c.put_ahead.new.store = λ so. c.carry_out-answer.ensures.responds.lasts.was_open so in
     record {
       told = λ so ho agrees.
-          let mid_open = c.carry_out-answer.ensures.responds.lasts.was_open so in
-          let found_open = c.put_ahead.ensures.store.lasts.was_open mid_open in
-          let found_same : desk g.S.Store c.audience_of.new.self ≡ d = c.audience_of.ensures.reads.keeps.same found_open in
-          let mid_same : desk g.S.Store c.put_ahead.new.store ≡ desk g.S.Store c.audience_of.new.self = c.put_ahead.ensures.store.same mid_open in
-          let ahead : Leads (desk g.S.Store c.audience_of.new.self) (lines g.H.Store mid) entry =
-          c.in-Ok-put_ahead.ensures.ahead mid_open (c.carry_out-answer.ensures.was_open ho) (subst (λ e. Agrees c.args.recorder.now.is_unsettled e these) (sym found_same) agrees) in
-          c.carry_out-answer.ensures.told so ho entry asks (subst (λ e. Leads e (lines g.H.Store mid) entry) (sym mid_same) ahead);
-      entered = λ so ho status.
-          let kept = c.carry_out-answer.ensures.kept (not_refused c.carry_out-answer.result c.reply_with.result c.reply_with.ensures status) in
-          let puts : EndsIn these (lines g.H.Store mid) (entry_of signature c.in-Some.badge change) =
-          subst (EndsIn these (lines g.H.Store mid)) c.in-Ok-entry.ensures.entry (c.in-Ok-put_ahead.ensures.puts (c.carry_out-answer.ensures.was_open ho)) in
-          let here = subst (λ h. EndsIn these (lines g.H.Store h) (entry_of signature c.in-Some.badge change)) (sym kept) puts in
-          subst (λ (f : Option Change). IfSome f (λ change. IfSome request.badge (λ badge. EndsIn these (lines g.H.Store new) (entry_of signature badge change)))) (sym asked)
-          (subst (λ (b : Option (List ℕ)). IfSome b (λ badge. EndsIn these (lines g.H.Store new) (entry_of signature badge change))) (sym c.in-Some.is) here);
-      grows = λ ho. grows_then these (lines g.H.Store mid) (lines g.H.Store new) (c.put_ahead.ensures.grows (c.carry_out-answer.ensures.was_open ho)) (c.carry_out-answer.ensures.grows ho);
+          let ahead : IsPending (desk g.S.Store c.audience_of.new.self) (lines g.H.Store mid) entry =
+          c.in-Ok-put_ahead.ensures.ahead (mid_open so) (c.carry_out-answer.ensures.was_open ho) (subst (λ e. Agrees was e these) (sym (found_same (mid_open so))) agrees) in
+          c.carry_out-answer.ensures.told so ho entry asks (subst (λ e. IsPending e (lines g.H.Store mid) entry) (sym (mid_same (mid_open so))) ahead);
+      adds = λ so ho staff.
+          let answered : IsResponse {X = Unavailable} d c.args.day request c.carry_out-answer.result after =
+          subst (λ e. IsResponse {X = Unavailable} e c.args.day request c.carry_out-answer.result after) (mid_same (mid_open so) ∙ found_same (mid_open so))
+          (rw (to_z-of_z w32 c.args.day days) at (c.carry_out-answer.ensures.responds.answers so)) in
+          let ends : EndsAs is entry.moment (lines g.H.Store mid) (lines g.H.Store new) c.carry_out-answer.result =
+          subst (λ m. EndsAs is m (lines g.H.Store mid) (lines g.H.Store new) c.carry_out-answer.result)
+          (to_z-of_z w64 signature.moment moments ∙ sym (ap (λ (e : Entry). e.moment) c.in-Ok-entry.ensures.entry)) (c.carry_out-answer.ensures.ends ho) in
+          let added = adds_then d c.args.day request reply entry was c.put_ahead.new.recorder.is_unsettled is these (lines g.H.Store mid) (lines g.H.Store new) _ c.carry_out-answer.result after
+          asks staff answered c.reply_with.ensures (c.in-Ok-put_ahead.ensures.puts (c.carry_out-answer.ensures.was_open ho)) ends in
+          said_of (change_of request.what) request.badge (λ change badge. Adds d c.args.day request reply (entry_of signature badge change) was is these (lines g.H.Store new)) change c.in-Some.badge asked c.in-Some.is
+          (subst (λ e. Adds d c.args.day request reply e was is these (lines g.H.Store new)) c.in-Ok-entry.ensures.entry added);
+      grows = λ ho. grows_then these (lines g.H.Store mid) (lines g.H.Store new)
+          (puts_grow was c.put_ahead.new.recorder.is_unsettled these (lines g.H.Store mid) entry c.put_ahead.result (c.put_ahead.ensures.puts (c.carry_out-answer.ensures.was_open ho)))
+          (ends_grow is _ (lines g.H.Store mid) (lines g.H.Store new) c.carry_out-answer.result (c.carry_out-answer.ensures.ends ho));
       others = λ none. let e : ◌≡◌ {A = Option Change} (Some change) None = sym asked ∙ none in absurd cc;
       strangers = λ so stranger.
-          let found_open = c.put_ahead.ensures.store.lasts.was_open (c.carry_out-answer.ensures.responds.lasts.was_open so) in
+          let found_open = c.put_ahead.ensures.store.lasts.was_open (mid_open so) in
           let read : c.in-Ok-audience_of.audience ≡ audience_of d request.badge = subst (λ b. c.in-Ok-audience_of.audience ≡ audience_of d b) (sym c.in-Some.is) (c.in-Ok-audience_of.ensures.reads.answer found_open) in
           absurd (stranger (sym read ∙ is_staff));
     }
@@ -138,3 +166,32 @@ pub returns-in-Err-clause-serves : goal.returns-in-Err-clause-serves
 returns-in-Err-clause-serves g c =
     let keeps = keeps_then g.S.Store c.args.desk.now.store c.audience_of.new.self c.put_ahead.new.store c.audience_of.ensures.reads.keeps (λ clean. c.in-Ok-audience_of.ensures.reads.ends_open clean) c.put_ahead.ensures.store in
     serves_none g.S.Store c.args.desk.now.store c.put_ahead.new.store c.args.day c.args.request.now c.unavailable-in-Err.result keeps c.between_calls.ensures c.unavailable-in-Err.ensures
+
+pub returns-in-Err-clause-remembers : goal.returns-in-Err-clause-remembers
+returns-in-Err-clause-remembers g c =
+    let d = desk g.S.Store c.args.desk.now.store in
+    let these = lines g.H.Store c.args.recorder.now.history in
+    let new = lines g.H.Store c.put_ahead.new.recorder.history in
+    let was = c.args.recorder.now.is_unsettled in
+    let is = c.put_ahead.new.recorder.is_unsettled in
+    let request = c.args.request.now in
+    let entry = c.in-Ok-entry.entry in
+    let change = c.in-Some-asked.change in
+    let signature = c.args.signature in
+    let reply = c.unavailable-in-Err.result in
+    let asked : change_of request.what ≡ Some change = sym c.in-Ok.ensures ∙ c.in-Some-asked.is in
+    let is_staff : c.in-Ok-audience_of.audience ≡ Some Staff = search rules in
+    let found_open : IsOpen g.S.Store c.put_ahead.new.store → IsOpen g.S.Store c.audience_of.new.self = λ so. c.put_ahead.ensures.store.lasts.was_open so in
+    record {
+      told = λ so ho agrees. subst (λ e. Agrees is e new) (sym (c.put_ahead.ensures.store.same so))
+          (c.in-Err.ensures.ahead so ho (subst (λ e. Agrees was e these) (sym (c.audience_of.ensures.reads.keeps.same (found_open so))) agrees));
+      adds = λ so ho staff.
+          said_of (change_of request.what) request.badge (λ change badge. Adds d c.args.day request reply (entry_of signature badge change) was is these new) change c.in-Some.badge asked c.in-Some.is
+          (subst (λ e. Adds d c.args.day request reply e was is these new) c.in-Ok-entry.ensures.entry
+          (adds_none d c.args.day request reply entry was is these new _ c.unavailable-in-Err.ensures (c.in-Err.ensures.puts ho)));
+      grows = λ ho. puts_grow was is these new entry c.put_ahead.result (c.put_ahead.ensures.puts ho);
+      others = λ none. let e : ◌≡◌ {A = Option Change} (Some change) None = sym asked ∙ none in absurd cc;
+      strangers = λ so stranger.
+          let read : c.in-Ok-audience_of.audience ≡ audience_of d request.badge = subst (λ b. c.in-Ok-audience_of.audience ≡ audience_of d b) (sym c.in-Some.is) (c.in-Ok-audience_of.ensures.reads.answer (found_open so)) in
+          absurd (stranger (sym read ∙ is_staff));
+    }

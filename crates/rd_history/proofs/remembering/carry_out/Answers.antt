@@ -1,14 +1,14 @@
-use Rattle.std.proofs.Common.{◌≡◌, FitsSigned, Ok, Result, rules, subst, w32}
+use Rattle.std.proofs.Common.{◌≡◌, FitsSigned, Ok, Result, rules, subst, w32, w64}
 use Rattle.std.proofs.lemmas.Int.{to_z-of_z}
 use Rattle.rd_tables.specs.Connections.{IsOpen}
 use Rattle.rd_protocol.specs.declared.response.Response.{Response}
-use Rattle.rd_protocol.specs.declared.response.Response.TheVariants.{Done, Refused}
+use Rattle.rd_protocol.specs.declared.response.Response.TheVariants.{Refused}
 use Rattle.rd_desk.specs.declared.asking.Unavailable.{Unavailable}
 use Rattle.rd_chain.specs.Held.{lines}
 use Rattle.rd_store.specs.Held.{desk}
 use Rattle.rd_desk.specs.Calls.{IsResponse}
-use Rattle.rd_history.proofs.Carried.{answered_done, answered_near, grows_still, refused_back, takes_grow}
-use Rattle.rd_history.proofs.remembering.carry_out.Goals.{in-Ok-Done, in-Ok-Refused, in-Ok, in-Ok-2}
+use Rattle.rd_history.proofs.Carried.{answered_told, refused_back, refused_ends, stays_ends}
+use Rattle.rd_history.proofs.remembering.carry_out.Goals.{in-Ok-Refused, in_default}
 use Rattle.rd_history.proofs.remembering.carry_out.Goals as goal
 
 pub returns-clause-told : goal.returns-clause-told
@@ -23,33 +23,31 @@ returns-clause-told g c =
     let answers : IsOpen g.S.Store c.respond-answer.new.self.store → IsResponse {X = Unavailable} old day request c.respond-answer.result new = λ store_open.
     subst (λ on. IsResponse {X = Unavailable} old on request c.respond-answer.result new) (to_z-of_z w32 day fits) (c.respond-answer.ensures.responds.answers store_open) in
     elim c.match-answer.branch [
-      | in-Ok-Done w ↦ rw w.recorder-is (λ store_open history_open entry asks leads.
-          let is : ◌≡◌ {A = Result Response Unavailable} c.respond-answer.result (Ok Done) = search rules in
-          answered_done Unavailable old day request new (subst (λ (r : Result Response Unavailable). IsResponse old day request r new) is (answers store_open)) these entry leads asks c.is_err-recorder.result)
-      | in-Ok-Refused w ↦ rw (c.is_err-recorder.ensures.value, w.recorder-is, w.settled-is) (λ store_open history_open entry asks leads.
+      | in-Ok-Refused w ↦ rw (w.recorder-is, w.recorder2-is, w.is_err-recorder.ensures.value) (λ store_open history_open entry asks pending.
           let is : ◌≡◌ {A = Result Response Unavailable} c.respond-answer.result (Ok (Refused w.in-Ok-Refused.refusal)) = search rules in
           let refused = subst (λ (r : Result Response Unavailable). IsResponse old day request r new) is (answers store_open) in
-          let after = refused_back g.H.Store history w.take_back-settled.new.history old entry leads w.cause_of.result w.take_back-settled.result w.take_back-settled.ensures.takes history_open (w.take_back-settled.ensures.history history_open) in
+          let after = refused_back g.H.Store history w.take_back.new.history old entry pending _ w.cause_of.result w.take_back.result w.take_back.ensures.takes history_open (w.take_back.ensures.history history_open) in
           rw refused.1 after)
-      | in-Ok w ↦ rw (c.is_err-recorder.ensures.value, w.recorder-is, w.settled-is) (λ store_open history_open entry asks leads. answered_near old day request c.respond-answer.result new (answers store_open) these entry leads asks)
-      | in-Ok-2 w ↦ rw (c.is_err-recorder.ensures.value, w.recorder-is, w.settled-is) (λ store_open history_open entry asks leads. answered_near old day request c.respond-answer.result new (answers store_open) these entry leads asks)
+      | in_default w ↦ rw (w.recorder-is, w.recorder2-is) (λ store_open history_open entry asks pending.
+          answered_told old day request c.respond-answer.result new (answers store_open) these entry pending asks w.is_done.result w.is_done.ensures.0)
     ]
 
-pub returns-clause-grows : goal.returns-clause-grows
-returns-clause-grows g c =
+pub returns-clause-ends : goal.returns-clause-ends
+returns-clause-ends g c =
     let history = c.args.recorder.now.history in
     let these = lines g.H.Store history in
+    let fits : FitsSigned w64 c.args.moment = c.ranges.moment in
     elim c.match-answer.branch [
-      | in-Ok-Done w ↦ rw w.recorder-is (λ history_open. grows_still these)
-      | in-Ok-Refused w ↦ rw w.recorder-is (λ history_open. takes_grow g.H.Store history w.take_back-settled.new.history w.cause_of.result w.take_back-settled.result w.take_back-settled.ensures.takes history_open)
-      | in-Ok w ↦ rw w.recorder-is (λ history_open. grows_still these)
-      | in-Ok-2 w ↦ rw w.recorder-is (λ history_open. grows_still these)
+      | in-Ok-Refused w ↦ rw (w.recorder-is, w.recorder2-is, w.is_err-recorder.ensures.value) (λ history_open.
+          let refusal = w.in-Ok-Refused.refusal in
+          let is : ◌≡◌ {A = Result Response Unavailable} c.respond-answer.result (Ok (Refused refusal)) = search rules in
+          let takes = rw (to_z-of_z w64 c.args.moment fits, w.cause_of.ensures) at w.take_back.ensures.takes in
+          rw is (refused_ends {X = Unavailable} g.H.Store history w.take_back.new.history c.args.moment refusal w.take_back.result takes history_open))
+      | in_default w ↦ rw (w.recorder-is, w.recorder2-is) (λ history_open. stays_ends c.args.moment these c.respond-answer.result w.is_done.result w.is_done.ensures.0 w.is_done.ensures.1)
     ]
 
 pub returns-clause-was_open : goal.returns-clause-was_open
 returns-clause-was_open g c = elim c.match-answer.branch [
-  | in-Ok-Done w ↦ rw w.recorder-is (λ history_open. history_open)
-  | in-Ok-Refused w ↦ rw w.recorder-is (λ history_open. w.take_back-settled.ensures.takes.appends.lasts.was_open history_open)
-  | in-Ok w ↦ rw w.recorder-is (λ history_open. history_open)
-  | in-Ok-2 w ↦ rw w.recorder-is (λ history_open. history_open)
+  | in-Ok-Refused w ↦ rw w.recorder-is (λ history_open. w.take_back.ensures.takes.appends.lasts.was_open history_open)
+  | in_default w ↦ rw w.recorder-is (λ history_open. history_open)
 ]

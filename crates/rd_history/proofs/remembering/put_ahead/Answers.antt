@@ -1,30 +1,42 @@
-use Rattle.std.proofs.Common.{◌≡◌, ◌+◌, ◌≤◌, inl, inr, Err, IsErr, Ok, Result, arith, length, rules, subst, sym}
+use Rattle.std.proofs.Common.{◌≡◌, ◌∙◌, ◌+◌, ◌≤◌, inl, inr, Err, FitsSigned, IsErr, Ok, Result, arith, false, length, refl, rules, subst, sym, true≢false, w64}
 use Rattle.std.proofs.lemmas.Bool.{cases_lt}
+use Rattle.std.proofs.lemmas.Int.{to_z-of_z}
 use Rattle.rd_chain.specs.declared.faults.ChainFault.{ChainFault}
 use Rattle.rd_chain.specs.declared.faults.ChainFault.TheVariants.{Full}
 use Rattle.rd_history.specs.declared.entry.TheConstants.{LAST_NUMBER}
 use Rattle.rd_chain.specs.Held.{lines}
 use Rattle.rd_tables.specs.Connections.{IsOpen}
 use Rattle.rd_store.specs.Held.{desk}
-use Rattle.rd_history.specs.Remembered.{Agrees, Grows}
+use Rattle.rd_history.specs.Remembered.{Agrees, AreSettled}
 use Rattle.rd_history.specs.Settled.{IsTold}
-use Rattle.rd_history.proofs.Carried.{ahead_err, grows_still, grows_then, settles_grow}
+use Rattle.rd_history.proofs.Carried.{ahead_err, none_put, settles_err, settles_ok}
 use Rattle.rd_history.proofs.remembering.put_ahead.Goals.{then-recorder+in_ok-settle, else-recorder}
 use Rattle.rd_history.proofs.remembering.put_ahead.Goals as goal
 
-pub returns-in_err-settle-clause-grows : goal.returns-in_err-settle-clause-grows
-returns-in_err-settle-clause-grows g c = λ o. settles_grow g.H.Store c.args.recorder.now.history c.settle.new.history _ c.settle.ensures.history o
+pub returns-in_err-settle-clause-puts : goal.returns-in_err-settle-clause-puts
+returns-in_err-settle-clause-puts g c = λ o.
+    let these = lines g.H.Store c.args.recorder.now.history in
+    let same = settles_err g.H.Store c.args.recorder.now.history c.settle.new.history _ _ c.in_err-settle.ensures.history o in
+    none_put c.args.recorder.now.is_unsettled c.args.recorder.now.is_unsettled these these (lines g.H.Store c.settle.new.history) c.args.entry c.from_residual.result (search rules) (inl refl) same (λ is. (is, same))
 
-pub returns-in_err-append-clause-grows : goal.returns-in_err-append-clause-grows
-returns-in_err-append-clause-grows g c = λ o.
+pub returns-in_err-append-clause-puts : goal.returns-in_err-append-clause-puts
+returns-in_err-append-clause-puts g c = λ o.
     let these = lines g.H.Store c.args.recorder.now.history in
     let mid = c.if-recorder.recorder.history in
-    let grows : IsOpen g.H.Store mid → Grows these (lines g.H.Store mid) = elim c.if-recorder.branch [
-      | then-recorder+in_ok-settle w ↦ rw w.recorder-is (λ is_open. settles_grow g.H.Store c.args.recorder.now.history w.settle.new.history _ w.settle.ensures.history is_open)
-      | else-recorder w ↦ rw w.recorder-is (λ is_open. grows_still these)
+    let fits : FitsSigned w64 c.args.entry.moment = search rules in
+    let first : IsOpen g.H.Store mid → AreSettled c.args.recorder.now.is_unsettled c.args.entry.moment these (lines g.H.Store mid) = elim c.if-recorder.branch [
+      | then-recorder+in_ok-settle w ↦ rw w.recorder-is (λ is_open.
+          let settles = rw (to_z-of_z w64 c.args.entry.moment fits) at w.in_ok-settle.ensures.history in
+          settles_ok g.H.Store c.args.recorder.now.history w.settle.new.history c.args.entry.moment w.in_ok-settle.field-0 settles c.args.recorder.now.is_unsettled w.if-recorder.true is_open)
+      | else-recorder w ↦ rw w.recorder-is (λ is_open. inl refl)
+    ] in
+    let settled : c.if-recorder.recorder.is_unsettled ≡ false = elim c.if-recorder.branch [
+      | then-recorder+in_ok-settle w ↦ rw w.recorder-is refl
+      | else-recorder w ↦ rw w.recorder-is w.if-recorder.false
     ] in
     let appends = c.in_err-append.ensures.appends in
-    subst (Grows these) (sym (appends.err o)) (grows (appends.lasts.was_open o))
+    none_put c.args.recorder.now.is_unsettled c.if-recorder.recorder.is_unsettled these (lines g.H.Store mid) (lines g.H.Store c.append.new.self) c.args.entry c.from_residual-in_err-append.result (search rules) (first (appends.lasts.was_open o)) (appends.err o)
+    (λ is. absurd (true≢false (sym is ∙ settled)))
 
 pub returns-in_err-append-clause-ahead : goal.returns-in_err-append-clause-ahead
 returns-in_err-append-clause-ahead g c = λ store_open o agrees.
@@ -44,15 +56,15 @@ pub returns-clause-puts : goal.returns-clause-puts
 returns-clause-puts g c = λ o.
     let these = lines g.H.Store c.args.recorder.now.history in
     let mid = c.if-recorder.recorder.history in
-    let grows : IsOpen g.H.Store mid → Grows these (lines g.H.Store mid) = elim c.if-recorder.branch [
-      | then-recorder+in_ok-settle w ↦ rw w.recorder-is (λ is_open. settles_grow g.H.Store c.args.recorder.now.history w.settle.new.history _ w.settle.ensures.history is_open)
-      | else-recorder w ↦ rw w.recorder-is (λ is_open. grows_still these)
+    let fits : FitsSigned w64 c.args.entry.moment = search rules in
+    let first : IsOpen g.H.Store mid → AreSettled c.args.recorder.now.is_unsettled c.args.entry.moment these (lines g.H.Store mid) = elim c.if-recorder.branch [
+      | then-recorder+in_ok-settle w ↦ rw w.recorder-is (λ is_open.
+          let settles = rw (to_z-of_z w64 c.args.entry.moment fits) at w.in_ok-settle.ensures.history in
+          settles_ok g.H.Store c.args.recorder.now.history w.settle.new.history c.args.entry.moment w.in_ok-settle.field-0 settles c.args.recorder.now.is_unsettled w.if-recorder.true is_open)
+      | else-recorder w ↦ rw w.recorder-is (λ is_open. inl refl)
     ] in
     let appends = c.in_ok-append.ensures.appends in
-    (lines g.H.Store mid, grows (appends.lasts.was_open o), appends.ok o)
-
-pub returns-clause-grows : goal.returns-clause-grows
-returns-clause-grows g c = λ o. let puts = returns-clause-puts g c o in grows_then (lines g.H.Store c.args.recorder.now.history) puts.0 (lines g.H.Store c.append.new.self) puts.1 (_, puts.2)
+    record { settled = lines g.H.Store mid; first = first (appends.lasts.was_open o); ok = appends.ok o; err = tt }
 
 pub returns-clause-ahead : goal.returns-clause-ahead
 returns-clause-ahead g c = λ store_open o agrees.

@@ -1,10 +1,12 @@
-use Rattle.std.proofs.Common.{◌≡◌, ◌∙◌, ◌+◌, ◌∷◌, [], ◌++◌, ap, false, inl, inr, length, refl, rules, subst, sym, true, true≢false}
+use Rattle.std.proofs.Common.{◌≡◌, ◌∙◌, ◌+◌, ◌∷◌, [], ◌++◌, ap, false, inl, inr, length, refl, rules, subst, sym, true, true≢false, w64}
+use Rattle.std.proofs.lemmas.Int.{to_z-of_z}
 use Rattle.rd_chain.proofs.Laws.{keeps_still, lines_kept}
 use Rattle.rd_chain.specs.Held.{lines}
 use Rattle.rd_store.specs.Held.{desk}
-use Rattle.rd_history.specs.Histories.{AreLinesOf, MayBeTakenBack}
+use Rattle.rd_history.specs.Histories.{AreLinesOf, MayBeTakenBack, void_of}
 use Rattle.rd_history.specs.Lines.{line_of}
 use Rattle.rd_history.specs.Settled.{EndIn, IsSo}
+use Rattle.rd_history.specs.declared.entry.Cause.TheVariants.{Lost}
 use Rattle.rd_history.specs.declared.entry.Entry.{Entry}
 use Rattle.rd_history.proofs.NearLemmas.{asked_if_taken_back, end_of, stands_if_settled, stands_if_so, on_ok_both, told_back}
 use Rattle.rd_history.proofs.settling.settle.Goals as goal
@@ -46,10 +48,10 @@ returns-in-Ok-false-clause-told g c = λ store_open history_open entries of near
     let old = c.args.history.now in
     let mid = c.last_entry.new.self in
     let keeps = c.last_entry.ensures.keeps in
-    let takes = c.take_back.ensures.takes in
+    let takes = rw (to_z-of_z w64 c.args.moment c.ranges.moment) at c.take_back.ensures.takes in
     let mid_open = takes.appends.lasts.was_open history_open in
     let entry = c.in-Some.entry in
-    let void : Entry = record takes.void { number = length (lines g.H.Store mid) + 1 } in
+    let void : Entry = record (void_of c.args.moment Lost) { number = length (lines g.H.Store mid) + 1 } in
     let ends : c.ends_in_change.result ≡ true = search rules in
     let end : EndIn (lines g.H.Store old) entry = rw c.in-Some.is at (c.in-Ok.ensures.last mid_open) in
     let front = end_of entries (lines g.H.Store old) entry of end in
@@ -58,12 +60,12 @@ returns-in-Ok-false-clause-told g c = λ store_open history_open entries of near
     let never : ¬ IsSo entry.change d = rw c.in-Ok-false.field-0-test at (c.in-Ok-false.ensures.reads.answer store_open) in
     let same = lines_kept g.H.Store old mid keeps mid_open in
     on_ok_both c.take_back.result (λ is within.
-    told_back d entries front.0 entry void (lines g.H.Store old) (lines g.H.Store c.take_back.new.history) near of front.1 asked never takes.change within takes.digests
+    told_back d entries front.0 entry void (lines g.H.Store old) (lines g.H.Store c.take_back.new.history) near of front.1 asked never refl within (tt, tt)
     (is ∙ ap (λ l. l ++ line_of void ∷ []) same) (c.take_back.ensures.history history_open))
     (takes.appends.ok history_open) (takes.within mid_open)
 
 pub returns-in-Ok-false-clause-history : goal.returns-in-Ok-false-clause-history
-returns-in-Ok-false-clause-history g c = record { middle = c.last_entry.new.self; keeps = c.last_entry.ensures.keeps; last = inr c.take_back.ensures.takes }
+returns-in-Ok-false-clause-history g c = record { middle = c.last_entry.new.self; keeps = c.last_entry.ensures.keeps; last = inr (rw (to_z-of_z w64 c.args.moment c.ranges.moment) at c.take_back.ensures.takes) }
 
 pub returns-clause-history : goal.returns-clause-history
 returns-clause-history g c = record { middle = c.last_entry.new.self; keeps = c.last_entry.ensures.keeps; last = inl refl }
