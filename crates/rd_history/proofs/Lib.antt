@@ -9,6 +9,7 @@ pub mod Judging
 pub mod Appended
 pub mod SoLemmas
 pub mod NearLemmas
+pub mod PageLemmas
 pub mod BaseLines
 pub mod Carried
 pub mod Composed

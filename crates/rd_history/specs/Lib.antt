@@ -8,6 +8,7 @@ pub mod Standings
 pub mod Histories
 pub mod Settled
 pub mod Remembered
+pub mod Pages
 pub mod Laws
 -- ---- inside: what only private functions and proofs cite
 pub mod Stages

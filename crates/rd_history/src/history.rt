@@ -3,7 +3,7 @@
 ghost use Rattle.std.specs.Prelude.{◌≡◌, ◌≢◌, ◌↔◌, ◌+◌, ◌∷◌, [], false, Err, IfErr, IfOk, IsTrue, MatchOption, OnOk, length};
 ghost use Rattle.sqlite.specs.Held.{Held, state};
 ghost use Rattle.rd_tables.specs.Connections.{IsClean, IsOpen, LeavesOpen};
-ghost use Rattle.rd_chain.specs.Held.{Appends, HoldsChain, IsAtRest, IsCreated, IsFullFor, IsNotCreated, IsNotOpened, IsOpened, Keeps, lines};
+ghost use Rattle.rd_chain.specs.Held.{Appends, HoldsChain, IsAtRest, IsCreated, IsFullFor, IsNotCreated, IsNotOpened, IsOpened, Keeps, ReadsAfter, lines};
 ghost use Rattle.rd_history.specs.Entries.{HasDigests, IsEntry};
 ghost use Rattle.rd_history.specs.Histories.{AreNumbered, HoldsHistory, IsHistory, MayBeTakenBack, IsAsked, MayCome, base_entries, base_lines, line_at};
 ghost use Rattle.rd_history.specs.Reading.{IsLineOf};
@@ -144,6 +144,17 @@ impl<S: Alter> History<S> {
         ensures { IsOpen S.Store self.now → IsTrue result ↔ MayBeTakenBack (lines S.Store self.now) }
     {
         self.ends_in_change
+    }
+
+    /// The lines after a number, of more than 200 the first 200, as the chain reads them.
+    pub(crate) fn lines_after(
+        &mut self,
+        alloc: Global,
+        number: u32,
+    ) -> Result<Vec<SummedLine>, ChainFault>
+        ensures { ReadsAfter S.Store self.old self.new number result }
+    {
+        self.chain.lines_after(alloc, number)
     }
 
     /// The last entry; `None` where there is none. It changes nothing.

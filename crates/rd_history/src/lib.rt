@@ -7,6 +7,7 @@ mod change;
 mod entry;
 mod history;
 mod laws;
+mod page;
 mod reading;
 mod remembering;
 mod settling;
