@@ -67,3 +67,8 @@ def test_an_attribute_is_of_the_function_below():
     disk = "crates/rd_geometry/src/cbm_disk.rt"
     attributes = [number for number, line in enumerate(lines_of(disk)) if line.startswith("    #[")]
     assert [item_at(disk, number) for number in attributes] == [(True, "index"), (True, "address")]
+
+def test_a_method_is_found_where_its_type_has_it():
+    sources = TOOL["Sources"]("rd_store")
+    named = {"images": "store::Store::accessions", "register": "register::Register::accessions"}
+    assert all(sources.function_of(name.split("::")) == (path, "accessions") for path, name in named.items())
