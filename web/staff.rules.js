@@ -100,7 +100,7 @@ function ruleRow(name, { scope, rule }) {
 // Draws those that stand: of the deed or the disks that are typed, or all.
 function draw(name) {
   const [{ of, word, thing }, typed] = [RULES[name], formOf(name).elements.scope.value];
-  const [scopes, all] = [new Set(scopesIn(name, typed)), standing(name)];
+  const [scopes, all] = [new Set(scopesIn(name, typed)), standing(name).map(({ scope, rule }) => ({ scope, rule }))];
   const shown = typed === "" ? all : all.filter(({ scope }) => scopes.has(scope));
   const where = typed === "" ? "" : ` of ${thing}${scopes.size > 1 ? "s" : ""} ${typed}`;
   const count = element("p", shown.length ? `${counted(shown.length, word)}${where}.` : `There is no ${word}${where}.`);
