@@ -14,8 +14,8 @@ ROWS = """return Array.from(document.querySelectorAll("#checks tbody tr:not(.spa
   (row) => [Number(row.ariaRowIndex), Number(row.cells[0].textContent)]);"""
 # A script: what a print says first, once the page has said that.
 SAYS = "addEventListener('beforeprint', () => (window.said = document.querySelector('main').firstChild.textContent))"
-SOUND = """“Sound” says: the bytes that the desk had that day have the SHA-256 with which the disk was taken in. It says \
-nothing of damaged files: a sound disk may have some."""
+SOUND = """“Sound” says: the bytes that the desk had that day have the SHA-256 with which the disk was taken in. It \
+says nothing of damaged files: a sound disk may have some."""
 NOT = f"not in the journal, back to {in_utc(START)}, where it begins"
 
 def test_deed_is_put_with_name_and_reason(staff):
