@@ -75,10 +75,7 @@ function display({ heading, title = heading, isName, parts, fill, change = null,
   part("heading").textContent = heading;
   part("heading").classList.toggle("name", isName === true);
   document.body.classList.toggle("home", change !== null);
-  if (!change) {
-    part("status").textContent = "";
-    part("asked").textContent = askedWords();
-  }
+  if (!change) [part("status").textContent, part("asked").textContent] = ["", askedWords()];
   part("view").replaceChildren(...parts);
   fill?.();
 }

@@ -86,16 +86,13 @@ export function checkWords(disk) {
   return finding(day ? `Latest check: ${isBad ? "CHANGED" : outcome} on ${day}. ${SOUND}` : "Never checked.", isBad);
 }
 
-// What stands of all disks: the warning stays there as long as a disk is changed.
-const summary = (checks, never = checks.filter((one) => one.day === null)) =>
-  foundOf(checks, counted(checks.length, "disk"), `; ${grouped(never.length)} never checked.`);
-
-// Reads the checks anew, and shows them.
+// Reads the checks anew, and shows them: the warning stays there as long as a disk is changed.
 async function showChecks() {
   const checks = await readHeld("checks");
   const columns = { Disk: (one) => one.accession, "Checked on": (one) => one.day ?? "never" };
   Object.assign(columns, { Outcome: (one) => one.outcome ?? "", "": null });
-  const words = checks.length ? summary(checks) : element("p", "There is no disk.");
+  const never = checks.filter(({ day }) => day === null).length;
+  const words = foundOf(checks, counted(checks.length, "disk"), `; ${grouped(never)} never checked.`);
   showList("checks", words, ["latest checks", columns, checks, checkRow], SOUND);
   formOf("checks").elements.before.defaultValue = dayAfter(today(), -DAYS);
 }

@@ -82,10 +82,9 @@ export function changeRow(change, of) {
 function summary() {
   const unknown = changes.filter(isUnknown).length;
   const [first, last] = [read.oldest, changes[0]?.moment ?? read.oldest].map((moment) => inUtc(moment));
-  const texts = [`${counted(changes.length, "change")} read${first && `, from ${first} to ${last}`}`];
   const older = "older lines, if any, were not read: they may say that a change replaced something";
-  texts.push(lines.isWhole ? `no month back to ${lines.last} has older lines` : older);
-  const more = [`${texts.join("; ")}.`];
+  const far = lines.isWhole ? `no month back to ${lines.last} has older lines` : older;
+  const more = [`${counted(changes.length, "change")} read${first && `, from ${first} to ${last}`}; ${far}.`];
   if (unknown) more.push(`Of ${grouped(unknown)} ${UNKNOWN}, or it has not ended yet.`);
   if (read.unread) more.push(`${counted(read.unread, "line")} cannot be read.`);
   if (isFull()) more.push("The page reads no more of them.");
@@ -148,7 +147,6 @@ function readAnew(tools) {
 
 const UNSAID = "It does not say what was changed by other ways, nor whether a name is that of who wrote it.";
 const HEADS = ["number (1 is the oldest of those here)", "moment", "name", "reason", "of", "what", "outcome"];
-const ASKED = ["method", "path", "status", "body"];
 
 function savedRecord([change, number]) {
   const { moment, name, reason, method, path, status, body } = change;
@@ -165,7 +163,7 @@ async function saveShown() {
   const name = `journal${of}-${counts}${since ? `-back-to-${since}` : ""}-asked`;
   const about = `The journal, read at ${inUtc(readAt)}: ${summary()} Here: ${which}, the newest first. ${UNSAID}`;
   const numbered = shown.map((change, at) => [change, shown.length - at]);
-  return saveTable(name, readAt, about, [...HEADS, ...ASKED], numbered, savedRecord);
+  return saveTable(name, readAt, about, [...HEADS, "method", "path", "status", "body"], numbered, savedRecord);
 }
 
 // Shows the journal, of one disk where its number is given, and else all.

@@ -3,13 +3,14 @@ import { shownName } from "./names.js";
 import { box, button, counted, element, loaded, part } from "./shared.js";
 import { dated, refusedWork, sure } from "./staff.desk.js";
 import { isFor } from "./staff.forecast.js";
-import { sameNow } from "./staff.same.js";
 import { saveTable, saver } from "./staff.saved.js";
 import { COLUMNS, EFFECT_AT, askedWords, effectOf, fileOf, given, isNoDisk } from "./staff.verdicts.js";
 import { readSome, ruleMeaning, verdictsOf } from "./staff.verdicts.js";
 import { AUDIENCES, EFFECTS, SHORT, audienceWords, dayAfter, isOnNoDay } from "./staff.words.js";
 import { listed, momentNow, today } from "./staff.words.js";
 import { readTable } from "./stream.js";
+
+export { sameNow } from "./staff.same.js";
 
 const [ORDER, MOST_NAMED] = [["deny", "list", "read"], 10];
 const WITHOUT = { first: "On that day, without this change,", other: "with it they" };
@@ -149,8 +150,6 @@ export const decidedNow = (commands, tools, moment = momentNow()) => Promise.res
   .then(() => verdictsOf({ accession: commands[0].scope }, today(), tools))
   .then((files) => decidedWords(files, commands, { day: today(), moment }))
   .catch(() => "The page could not ask the desk what readers get of it now.");
-
-export const sameAs = (commands, tools) => sameNow(commands.map(({ scope }) => scope), tools);
 
 // A button that saves who gets what of a disk, as the desk says now, before a question is answered, and what says so:
 // afterwards nobody can have it. While it saves, the answer cannot be yes; where the question is left, it stops.

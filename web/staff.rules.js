@@ -24,19 +24,19 @@ async function put(name, scopes, typedRank, rule, tools) {
   const [words, replaced] = [placesWords(name, places), places.flatMap((place) => place.replaced ?? [])];
   const [word, done] = replaced.length === places.length ? ["Replace", "Replaced"] : ["Put", "Put"];
   const notes = [`It says: ${ruleWords(rule)}.`, ...placeNotes(places)];
-  const { decidedNow, rehearsalDays, rehearsed, sameAs, saveFirst } = await rehearsals();
+  const { decidedNow, rehearsalDays, rehearsed, sameNow, saveFirst } = await rehearsals();
   const [days, isTakedown] = [rehearsalDays(rule, replaced), name === "takedowns"];
   const asked = { words: `${word} ${words}?`, notes, commands, days, isTakedown, go: `${word} it` };
   if (isTakedown && places.length === 1) asked.first = saveFirst(scopes[0], asked.words);
   const agreed = await rehearsed(asked, tools);
   if (agreed.length === 0) return `Not ${done.toLowerCase()}: ${words}.`;
   const cells = (one) => [String(one.scope), String(one.rank)];
-  const after = (how) => showRules(name).then(() => sameAs(agreed, how));
+  const after = (how) => showRules(name).then(() => sameNow(agreed, how));
   const more = { after, heads: ["Accession", "Rank"], cells, verb: done.toLowerCase() };
   if (places.length > 1) return putMany(name, agreed, more, tools);
   await send("PUT", agreed[0].path, sent.body);
   const said = await shownAnew(name, `${done}: ${words}.`);
-  return isTakedown ? [said, await decidedNow(agreed, tools), await sameAs(agreed, tools), VISITS].flat() : said;
+  return isTakedown ? [said, await decidedNow(agreed, tools), await sameNow(agreed, tools), VISITS].flat() : said;
 }
 
 // Puts takedowns one after the other, in a section; `more` has what else its report needs.

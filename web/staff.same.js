@@ -78,7 +78,7 @@ export function sameWords(same) {
   return [first, items.length && `${items.join("; ")}.`, rest].filter(Boolean).join(" ");
 }
 
-// The words of disks of which files were just closed. (What is done stays done where this fails.)
-export const sameNow = (accessions, tools) => journalTo(null, tools)
-  .then((journal) => sameBytes(accessions, journal, tools).then(sameWords))
+// The words of the disks of takedowns that were just put. (What is done stays done where this fails.)
+export const sameNow = (commands, tools) => journalTo(null, tools)
+  .then((journal) => sameBytes(commands.map(({ scope }) => scope), journal, tools).then(sameWords))
   .catch(() => "The page could not find out which other disks have the same bytes.");

@@ -22,10 +22,8 @@ const turnsOf = (rule) => (isOnNoDay(rule) ? [] : [rule.from, rule.until].filter
 const allTurns = () => lines.flatMap(({ rule }) => turnsOf(rule)).sort();
 
 // How far a day is along the bars, in percent.
-function share(day) {
-  const far = (numberOf(day) - range.first) / (range.last - range.first);
-  return `${100 * Math.min(1, Math.max(0, far))}%`;
-}
+const share = (day, far = (numberOf(day) - range.first) / (range.last - range.first)) =>
+  `${100 * Math.min(1, Math.max(0, far))}%`;
 
 // (of the lists this view keeps no more than these rules)
 async function readLines() {
@@ -66,9 +64,8 @@ function draw() {
   });
   slider.addEventListener("change", look);
   const made = lines.length ? listTable("rules", HEADS, lines, lineRow) : element("p", "No rule begins or ends.");
-  const save = saver(button("Save these rules as CSV"), saveLines);
-  const choices = box("div", "choices", askedWords(asked), ...save);
-  stands().replaceChildren(slider, choices, made, box("div", "day"));
+  const bar = box("div", "choices", askedWords(asked), ...saver(button("Save these rules as CSV"), saveLines));
+  stands().replaceChildren(slider, bar, made, box("div", "day"));
   mark();
 }
 

@@ -76,8 +76,7 @@ export const mayWords = (record, audience, asked, why = because(record, audience
 
 // How many files an audience may read, see listed and not see, in a sentence; and the same of each audience.
 export function countWords(audience, countOf) {
-  const [words, counts] = [AUDIENCES[audience], Object.keys(EFFECTS).map(countOf)];
-  const [read, list, deny] = counts.map(grouped);
+  const [words, [read, list, deny]] = [AUDIENCES[audience], Object.keys(EFFECTS).map((one) => grouped(countOf(one)))];
   return `${words[0].toUpperCase()}${words.slice(1)}: ${read} to read, ${list} only in the list, ${deny} closed.`;
 }
 
