@@ -169,9 +169,12 @@ async function openAfter(before, mine, doing) {
 
 // Does some work of a section, one at a time, shows the outcome there, and says whether it was done. The work gets what
 // shows how far it is and a signal that stops it; it gives what to show, words or nodes, or null to keep what is shown.
+// A press while a view still reads what it shows waits for that, unless somebody leaves the view meanwhile.
 export async function work(name, doing) {
-  if (part(name).getAttribute("aria-busy") === "true") return false;
-  running[name] = workAlone(name, doing).finally(() => delete running[name]);
+  if (running[name] !== undefined) return false;
+  const { end } = opened;
+  const go = () => opened.end === end && workAlone(name, doing);
+  running[name] = Promise.resolve(end).then(go).finally(() => delete running[name]);
   return running[name];
 }
 

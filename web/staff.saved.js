@@ -36,16 +36,23 @@ export function saver(button, saved) {
 export const forgetSaved = (name) => part(name).querySelectorAll(".saved").forEach((said) => said.replaceChildren());
 
 // Shows what stands in a section, in words and as a list, when the desk was asked for it, and a button that saves it.
+// The button stays where the list is drawn anew, for somebody may be pressing it.
 export function showList(name, words, [caption, columns, items, rowOf], more = "") {
   const [{ moment }, heads] = [held[listName(name)], Object.keys(columns).filter((head) => columns[head])];
-  const when = `the desk was asked ${whenWords(moment)}`;
+  const [stands, when] = [part(name).querySelector(".stands"), `the desk was asked ${whenWords(moment)}`];
+  if (stands.childElementCount === 0) {
+    const save = saver(button("Save this list as CSV"), () => stands.children[1].save());
+    stands.append(element("p", ""), box("div", "choices", element("span", ""), ...save), element("div", ""));
+  }
+  const [before, bar, list] = stands.children;
+  before.replaceWith(words);
+  bar.firstChild.textContent = `T${when.slice(1)}.`;
+  list.replaceWith(items.length ? listTable(caption, columns, items, rowOf) : element("div", ""));
+  forgetSaved(name);
   const about = `As things stood when ${when}: ${words.textContent} It does not say what stood before or stands since, \
 nor who gets what. ${more}`.trim();
-  const saved = () => saveTable(`${name}-${items.length}-asked`, moment, about, heads.map((head) => head.toLowerCase()),
+  bar.save = () => saveTable(`${name}-${items.length}-asked`, moment, about, heads.map((head) => head.toLowerCase()),
     items, (one) => heads.map((head) => columns[head](one)));
-  const bar = box("div", "choices", `T${when.slice(1)}.`, ...saver(button("Save this list as CSV"), saved));
-  const made = items.length ? listTable(caption, columns, items, rowOf) : "";
-  part(name).querySelector(".stands").replaceChildren(words, bar, made);
 }
 
 // What is printed says when and by whom; where a question is open, only that is printed.

@@ -1,8 +1,11 @@
 """What stands at the desk: deeds, rules, takedowns, keys, checks. Each is put, changed, dropped, and read anew then."""
 
+import threading
+
+from selenium.webdriver.common.action_chains import ActionChains
 from staff_helpers import OLDER, in_utc, journal_lines, lost_at, put_deed, saved_table, takedown
 from support import museums
-from support.browser import TODAY, wait_for
+from support.browser import LIMIT, TODAY, wait_for
 from support.samples import DONOR_OF_9, digest
 
 EVERYBODY = "the public, the reading room and the staff"
@@ -114,6 +117,31 @@ def test_long_list_has_its_rows_in_order_keeps_the_focus_and_is_printed_whole(mu
     assert staff.cdp("Page.printToPDF")["data"]
     assert staff.script("return window.printed") == [[at, number] for at, number in enumerate(due, 2)]
     wait_for("rows that the screen has no need of to go", lambda: len(staff.script(ROWS)) < 96)
+
+def test_press_and_focus_are_not_lost_while_older_months_or_a_change_come(staff):
+    staff.door.journals = {"/journal": journal_lines(1, START, "200", "PUT", "/deeds/9")}
+    due = {begin: threading.Event() for begin in ("/journal-", "/journal", "/deeds/35")}
+    held = lambda path: [event for begin, event in due.items() if path.startswith(begin)]
+    staff.door.before = lambda _, path: all(event.wait(LIMIT) for event in held(path)[:1]) and None
+    mouse, save = lambda: ActionChains(staff.driver, duration=0), "Save this list as CSV"
+    staff.script("location.hash = '#/keys'")
+    mouse().click_and_hold(staff.named("button", save)).perform()
+    due["/journal"].set()
+    staff.wait(lambda _: "Looking for" in staff.text("#keys .result"))
+    mouse().release().perform()
+    assert staff.saved("keys-2-asked-*.csv"), "the list has moved away from under the press"
+    staff.one(f"[aria-label='Drop key {STAFF}']").click()
+    due["/journal-"].set()
+    assert staff.wait(lambda state: state["sure"], "what was pressed while the page still read")["sure"]
+    assert staff.answer(False) and staff.go("deeds")
+    staff.fill("deeds", deed="35", donor="F. Founder", signed="1999-12-31")
+    staff.script("document.querySelector('#deeds form').requestSubmit()")
+    mouse().click_and_hold(staff.named("button", save)).perform()
+    due["/deeds/35"].set()
+    staff.read(lambda state: state["result"] == ["Put: deed 35."])
+    mouse().release().perform()
+    assert staff.saved("deeds-4-asked-*.csv"), "the button is another one"
+    assert staff.focused() == save, "the focus is gone with the list"
 
 def test_each_list_is_saved_and_printed_with_its_moment_and_who_does_it(museum, staff):
     museum.rules |= {"T1002": takedown(1000, 2), "R8": {}}
