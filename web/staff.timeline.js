@@ -150,7 +150,7 @@ let read = "";
 async function look() {
   const doing = async (tools) => {
     field().defaultValue = today();
-    if (asked.day !== today()) await open();
+    if (asked.day !== today()) await readLines().then(draw);
     read = field().value;
     mark();
     await showDay(read, tools);
@@ -160,11 +160,12 @@ async function look() {
   if (isFine && (await work("timeline", doing)) && field().value !== read) look();
 }
 
-export async function open() {
+// Opens the view with today, whichever day was chosen before.
+export function open() {
+  formOf("timeline").reset();
+  field().setCustomValidity("");
   field().defaultValue = today();
-  field().value ||= today();
-  await readLines();
-  draw();
+  return readLines().then(draw);
 }
 
 export function listen() {

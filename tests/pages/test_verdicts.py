@@ -11,6 +11,7 @@ from support.browser import TODAY
 from support.samples import DONOR_OF_9, refused, told
 
 DAYS = ["2026-06-25", "2026-07-05", "2027-06-15", "2027-06-16"]
+EPOCH = datetime.date(1970, 1, 1)
 AUDIENCES = {"public": "the public", "room": "the reading room", "staff": "the staff"}
 EFFECTS = {"read": "read it", "list": "see its name, not read it",
            "deny": "see only that a closed file is there, not its name"}
@@ -260,7 +261,9 @@ def test_timeline_has_the_next_change_first_and_says_what_is_other_on_each_day(m
     staff.read(lambda state: state["result"] == ["Read: 2025-06-15."])
     ended = "the file at slot 1 closed to the public, until 2025-07-01, over"
     assert staff.go("timeline")["rows"][-1][:3] == ["rule 6 of deed 9", ended, "none"]
-    staff.push("Look at")
+    days = [staff.one(f"#timeline {at}").get_property("value") for at in ("[name=day]", "[type=range]")]
+    assert days == [TODAY, str((datetime.date.fromisoformat(TODAY) - EPOCH).days)], "a day of an earlier look"
+    staff.fill("timeline", day="2025-06-15").push("Look at")
     heading, _, _, _, _, since, other, closes, *_ = staff.texts("#timeline .day > :not(ul)")
     assert (heading, since) == (f"Who gets what on 2025-06-15, {PAST}", SINCE)
     assert other == f"What is other on 2025-06-15 than today, {TODAY}, {STOOD}"
