@@ -3,7 +3,7 @@ import { shownName } from "./names.js";
 import { box, button, counted, element, loaded, part } from "./shared.js";
 import { dated, refusedWork, sure } from "./staff.desk.js";
 import { isFor } from "./staff.forecast.js";
-import { saveTable, saver } from "./staff.saved.js";
+import { saveSaid, saver } from "./staff.saved.js";
 import { COLUMNS, EFFECT_AT, askedWords, effectOf, fileOf, given, isNoDisk } from "./staff.verdicts.js";
 import { readSome, ruleMeaning, verdictsOf } from "./staff.verdicts.js";
 import { AUDIENCES, EFFECTS, SHORT, audienceWords, dayAfter, isOnNoDay } from "./staff.words.js";
@@ -169,13 +169,12 @@ export function saveFirst(accession, question) {
   return [box("div", "choices", button("Save what stands now, first", press), said)];
 }
 
-// Saves what a rehearsal shows, line by line: once its question is answered nobody can have it.
-function saveRehearsal(question, shown, moment) {
-  const lines = shown.flatMap((one) => (one.matches("ul") ? [...one.children] : [one]));
+// Saves what a rehearsal shows: once its question is answered nobody can have it.
+function saveRehearsal(question, moment) {
   const about = `What the page said before an answer to: \u201c${question}\u201d ${askedWords({ moment })} \
-It does not say what was answered, nor what was done.`;
-  const numbered = lines.map(({ textContent }, at) => [at + 1, textContent]);
-  return saveTable("rehearsal-asked", moment, about, ["line", "what it says"], numbered, (one) => one);
+${part("sure-who").textContent}. It does not say what was answered, nor what was done; of other disks with the same \
+bytes it has no more than these lines.`;
+  return saveSaid("rehearsal-asked", moment, about, part("sure-more"));
 }
 
 // Shows what commands would change, and asks whether to send them. Gives those to send, none where the answer is no.
@@ -188,7 +187,7 @@ export async function rehearsed({ words, notes, first = [], commands, days, isTa
   if (isTakedown && !closes) said.push("Mind: it closes nothing on any of these days.");
   if (left.length === 0) return [];
   const [texts, turns] = [said.map((one) => dated("p", one)), found.flatMap((day, at) => dayParts(day, found[at - 1]))];
-  const save = saver(button("Save this rehearsal as CSV"), () => saveRehearsal(words, [...texts, ...turns], moment));
+  const save = saver(button("Save this rehearsal as CSV"), () => saveRehearsal(words, moment));
   const more = [...texts, ...first, ...turns, box("div", "choices", ...save)];
   return (await sure({ words, more, go, keep: "Leave it as it is" })) ? left : [];
 }

@@ -25,6 +25,12 @@ export async function saveTable(name, moment, about, heads, items, recordOf) {
   return file;
 }
 
+// Saves what a part of the page says, line by line.
+export function saveSaid(name, moment, about, said) {
+  const lines = [...said.querySelectorAll("h2, h3, p, li")].map(({ textContent }, at) => [at + 1, textContent]);
+  return saveTable(name, moment, about, ["line", "what it says"], lines, (one) => one);
+}
+
 // A button that saves a table, and what says beside it under which name, until it is pressed again or has other work.
 export function saver(button, saved) {
   const said = element("span", "", { role: "status", className: "saved" });

@@ -87,6 +87,8 @@ def test_drop_is_rehearsed_and_done(takedowns):
     assert [row[2:] for row in rows] == [[str(at), text] for at, text in enumerate(wanted[1:], 1)]
     asked = f"What the page said before an answer to: “{wanted[0]}” {ASKED}"
     assert all(row[1].startswith(asked) for row in rows), "a file that does not say of what it is"
+    by = " UTC. By “Ada Archivist”. Reason: “a letter of today”. It does not say what was answered"
+    assert all(by in row[1] for row in rows), "neither who asks nor why"
     takedowns.press(Keys.ESCAPE)
     shown = takedowns.wait(lambda state: not state["busy"] and not state["sure"])
     assert shown["result"] == ["Kept: takedown 1 of disk 1005."]
