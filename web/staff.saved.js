@@ -11,8 +11,9 @@ import { inParts, save } from "./stream.js";
 const byWhom = ({ name } = whoNow()) =>
   (name ? `by ${quoted(name)}, as they typed their name` : "by somebody who typed no name");
 
+const days = () => `days of rules, of checks and of asking: ${clockWords()}`;
 const clocks = () => `this table, in UTF-8, saved ${byWhom()} (${APOSTROPHES}; moments: in UTC, of the journal by the \
-museum's machine, of asking by the computer that saved this; days of rules and of asking: ${clockWords()})`;
+museum's machine, of asking by the computer that saved this; ${days()})`;
 
 // (by the mark at its beginning a spreadsheet sees that it is UTF-8)
 export async function saveTable(name, moment, about, heads, items, recordOf) {
@@ -61,11 +62,15 @@ nor who gets what. ${more}`.trim();
     items, (one) => heads.map((head) => columns[head](one)));
 }
 
-// What is printed says when and by whom; where a question is open, only that is printed.
-const printed = element("p", "");
+// A print says when, by whom and by whose clocks, and its title when. Where a question is open, only that is printed.
+const printed = element("p", "", { className: "callout" });
 window.addEventListener("beforeprint", () => {
-  const from = `Printed from the staff's page${holder() && ` of ${holder()}`}`;
-  printed.textContent = `${from} ${whenWords(momentNow())} ${byWhom()}.`;
+  const [from, when] = [`Printed from the staff's page${holder() && ` of ${holder()}`}`, whenWords(momentNow())];
+  printed.replaceChildren(element("strong", `${from} ${when} ${byWhom()}.`), ` Moments: in UTC; ${days()}.`);
+  document.title += `, ${when}`;
   (document.querySelector("#sure[open]") ?? part("main")).prepend(printed);
 });
-window.addEventListener("afterprint", () => printed.remove());
+window.addEventListener("afterprint", () => {
+  printed.remove();
+  document.title = document.title.replace(/, on [^,]*$/, "");
+});

@@ -15,8 +15,11 @@ START, NOBODY = 1_800_000_000, "Nobody can use it any more."
 # A script: the index that each row of the list has for a screen reader, and its number.
 ROWS = """return Array.from(document.querySelectorAll("#checks tbody tr:not(.space)"),
   (row) => [Number(row.ariaRowIndex), Number(row.cells[0].textContent)]);"""
-# A script: what a print says first, once the page has said that.
-SAYS = "addEventListener('beforeprint', () => (window.said = document.querySelector('main').firstChild.textContent))"
+# A script: the title of a print, and what it says first, once the page has said that.
+SAYS = """addEventListener("beforeprint", () => {
+  window.said = document.querySelector("main").firstChild.textContent;
+  window.heads = document.title;
+});"""
 SOUND = """“Sound” says: the bytes that the desk had that day have the SHA-256 with which the disk was taken in. It \
 says nothing of damaged files: a sound disk may have some."""
 NOT = f"not in the journal, back to {in_utc(START)}, where it begins"
@@ -162,9 +165,13 @@ def test_each_list_is_saved_and_printed_with_its_moment_and_who_does_it(museum, 
         assert asked in staff.text(f"#{view} .stands .choices"), "a print without a moment"
         said = staff.cdp("Page.printToPDF") and staff.script("return window.said")
         assert said.startswith(f"Printed from the staff's page on {TODAY} at 12:"), "a print that nobody can date"
-        assert said.endswith(" UTC by “Ada Archivist”, as they typed their name.")
+        assert " UTC by “Ada Archivist”, as they typed their name. Moments: in UTC; days of rules, of" in said
+        assert "by the desk's clock, whose zone it does not tell: on " in said, "days in nobody's zone"
+        title, at = staff.driver.title, said.partition(" page ")[2].partition(" by ")[0]
+        assert staff.script("return window.heads") == f"{title}, {at}", "two prints of a day have one name"
+        assert title.endswith(" – the staff's page"), "a title of an earlier print"
     assert staff.fill("who", name=" ").cdp("Page.printToPDF")
-    assert staff.script("return window.said").endswith(" UTC by somebody who typed no name.")
+    assert " UTC by somebody who typed no name. Moments" in staff.script("return window.said")
 
 def test_key_is_put_given_away_and_dropped(museum, staff):
     rows = staff.go("keys")["rows"]
