@@ -73,9 +73,8 @@ function draw() {
 function saveLines() {
   const { day, moment } = asked;
   const all = `Rules that begin or end by themselves, as they stood on ${day}: ${lines.length}. ${askedWords(asked)}`;
-  const about = `${all} A rule until 2030-01-01 holds for the last time on 2029-12-31. Rules without days are not \
-here, and may decide before these. It does not say since when a rule stands, nor who gets what: the views Journal and \
-Who sees what do.`;
+  const about = `${all} Rules without days are not here, and may decide before these. It does not say since when a \
+rule stands, nor who gets what: the views Journal and Who sees what do.`;
   const recordOf = ({ name, scope, rule, donor, next }) => {
     const words = [`${RULES[name].letter}${scope}.${rule.rank}`, RULES[name].words(scope, rule.rank)];
     return [day, inUtc(moment), ...words, standingWords(rule), rule.from, rule.until, next, donor];

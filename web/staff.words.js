@@ -94,7 +94,7 @@ export const isOnNoDay = ({ from, until }) => Boolean(from && until && from >= u
 export function daysWords({ from, until }) {
   if (isOnNoDay({ from, until })) return `on no day: from ${from}, but until ${until}`;
   if (!from && !until) return "until further notice";
-  return [from && `from ${from}`, until && `until ${until}`].filter(Boolean).join(", ");
+  return [from && `from ${from}`, until && `until ${until}, not that day`].filter(Boolean).join(", ");
 }
 
 // The days of a rule that stands, with a mark where it decides nothing any more or nothing yet, if the day is known.
@@ -102,7 +102,7 @@ export const isOver = ({ until }) => Boolean(until) && until <= told.day;
 function daysNow(rule) {
   const words = daysWords(rule);
   if (isOnNoDay(rule) || told.day === "") return words;
-  if (isOver(rule)) return `${words}, over`;
+  if (isOver(rule)) return `over: ${words}`;
   return rule.from > told.day ? `not begun: ${words}` : words;
 }
 

@@ -11,7 +11,7 @@ from support.stand_in import refused_by_nginx
 START, PIECE = 1_800_000_000, 4 << 20
 KEY, HARM = digest(b"room 3"), HARMFUL[2]
 RULE = '{"audiences":["room","public"],"select":{"slot":2},"effect":"deny","until":"2030-01-01"}'
-HIDDEN = "the file at slot 2 closed to the public and the reading room, until 2030-01-01"
+HIDDEN = "the file at slot 2 closed to the public and the reading room, until 2030-01-01, not that day"
 ELSEWHERE = HIDDEN.replace(" closed", " (that of disk 99, if there is one) closed")
 MAY_REPLACE = "they may say that a change replaced something."
 UNKNOWN, NOT_THERE = "nobody knows whether the desk did it", "refused: that cannot be done there"

@@ -107,7 +107,7 @@ def test_days_to_come_of_an_embargo(staff):
     assert shown["sure"][2:] == [NOW, NOTHING, "On 2090-03-01, its first day", *closes, *last, NOTHING]
     assert staff.answer(True) and staff.of_row("rule 10 of deed 9", "Change")
     shown = staff.fill("change", until="").push("Put it")
-    assert shown["sure"][2].endswith("from 2090-03-01, until 2100-03-01. What you put replaces it.")
+    assert shown["sure"][2].endswith("from 2090-03-01, until 2100-03-01, not that day. What you put replaces it.")
     first = ["On 2090-03-01, its first day", NOTHING, "On 2100-02-28", NOTHING]
     assert shown["sure"][3:] == [NOW, NOTHING, *first, "On 2100-03-01", *closes]
 

@@ -33,7 +33,7 @@ def test_deed_is_put_with_name_and_reason(staff):
     assert staff.door.sent() == [("PUT", "/deeds/31", "Ada", "%C3%BC" * 166)]
     assert staff.one("#who [name=reason]").get_property("value") == "", "a reason goes along with the next change"
     assert (shown["result"], shown["stands"]) == (["Put: deed 31."], ["4 deeds."])
-    rules = "10: all files closed to the public and the reading room, until 2030-01-01"
+    rules = "10: all files closed to the public and the reading room, until 2030-01-01, not that day"
     rules += f"20: all files readable for {EVERYBODY}, until further noticeRules"
     assert shown["rows"][0] == ["7", "A. Curator", "2019-05-04", "3", rules, "Change"]
     assert shown["rows"][3] == ["31", "E. <b>Müller</b>", "1999-12-31", "0", "No rule: closed to everybody", "Change"]
@@ -60,7 +60,8 @@ def test_rule_is_put_changed_and_dropped(staff):
     assert shown["hint"].startswith("In use: rule 20 of deed 8 stands, all files readable for")
     staff.of_row("rule 20 of deed 8", "Change")
     shown = staff.fill("change", effect="list", until="2099-01-01").push("Put it") and staff.answer(True)
-    changed = ["8", "20", EVERYBODY, "all files", "see their names, not read them", "until 2099-01-01", "ChangeDrop"]
+    days = "until 2099-01-01, not that day"
+    changed = ["8", "20", EVERYBODY, "all files", "see their names, not read them", days, "ChangeDrop"]
     assert (shown["result"], *shown["rows"], shown["focus"]) == (["Replaced: rule 20 of deed 8."], changed, "result")
     shown = staff.of_row("rule 20 of deed 8", "Drop") and staff.answer(True)
     assert shown["result"] == ["Done: there is no rule 20 of deed 8 now."]
@@ -68,8 +69,9 @@ def test_rule_is_put_changed_and_dropped(staff):
 
 def test_rule_that_is_over_or_has_not_begun_is_marked_where_it_stands(museum, staff):
     days = [(None, TODAY), ("2020-01-01", "2026-06-15"), ("2026-06-16", None), ("2020-01-01", "2026-06-16")]
-    due = [f"until {TODAY}, over", f"from 2020-01-01, until {TODAY}, over", "not begun: from 2026-06-16",
-           "from 2020-01-01, until 2026-06-16"]
+    over = f"until {TODAY}, not that day"
+    due = [f"over: {over}", f"over: from 2020-01-01, {over}", "not begun: from 2026-06-16",
+           "from 2020-01-01, until 2026-06-16, not that day"]
     museum.rules["R9"] = {rank: museums.rule(rank, "deny", ["public"], None, *of) for rank, of in enumerate(days, 1)}
     for place, at in (("rules/9", 5), ("disk/1002", 4)):
         assert [row[at] for row in staff.go(place)["rows"] if "deed 9" in row[0] or len(row) > 6][-4:] == due, place

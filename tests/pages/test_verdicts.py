@@ -153,8 +153,8 @@ def test_rules_stand_without_marks_where_the_desk_does_not_tell_its_day(museum, 
     days, place = [("2027-01-01", None), (None, "2026-01-01")], "/staff/today"
     deny = lambda *of: {1: museums.rule(1, "deny", ["public"], {"slot": 2}, *of)}
     museum.rules["R8"], museum.rules["T1002"] = (deny(*of) for of in days)
-    begins, ends = "from 2027-01-01", "until 2026-01-01"
-    for words, reply in ((f"not begun: {begins}", "until 2026-01-01, over"), None), ((begins, ends), b""):
+    begins, ends = "from 2027-01-01", "until 2026-01-01, not that day"
+    for words, reply in ((f"not begun: {begins}", f"over: {ends}"), None), ((begins, ends), b""):
         staff.door.before = lambda _, path: reply if path == place else None
         for view, due in zip(("rules/8", "takedowns/1002"), words):
             shown = staff.go(view)
@@ -218,12 +218,12 @@ def test_timeline_has_the_next_change_first_and_says_what_is_other_on_each_day(m
     museum.rules["T1002"] = {1: museums.rule(1, "list", ["room", "public"], None, *DAYS[2:])}
     rules = [["rule 5 of deed 9", DAYS[0]], ["takedown 1 of disk 1002", DAYS[2]], ["rule 10 of deed 7", "2030-01-01"]]
     assert [[row[0], row[2]] for row in staff.go("timeline")["rows"]] == rules
-    _, *rows = saved_table(staff, f"timeline-3-rules-{TODAY}-asked", "Save these rules as CSV")
+    heads, *rows = saved_table(staff, f"timeline-3-rules-{TODAY}-asked", "Save these rules as CSV")
     assert [[row[2], row[5], row[9]] for row in rows] == [[TODAY, *rule] for rule in rules]
     assert rows[0][4] == "R9.5" and rows[0][6].startswith("the file at slot 0 closed to the public, not begun: from ")
     assert (rows[0][7:9], rows[2][7:9]) == (DAYS[:2], ["", "2030-01-01"])
     assert f"as they stood on {TODAY}: 3. The desk was asked on" in rows[0][1] and "nor who gets what" in rows[0][1]
-    assert "A rule until 2030-01-01 holds for the last time on 2029-12-31." in rows[0][1]
+    assert heads[8] == "until (that day itself is not in it)" and rows[2][6].endswith(" 2030-01-01, not that day")
     donors = [f"“{DONOR_OF_9}”, signed on 0001-01-01", "", "“A. Curator”, signed on 2019-05-04"]
     assert [row[10] for row in rows] == donors
     # slot 0 of the disks of deed 9: that of the last is damaged, so nobody is given it, and it is closed all the same
@@ -259,7 +259,7 @@ def test_timeline_has_the_next_change_first_and_says_what_is_other_on_each_day(m
     museum.rules["R9"][6] = museums.rule(6, "deny", ["public"], {"slot": 1}, None, "2025-07-01")
     staff.set("#timeline [type=range]", int(staff.one("#timeline [type=range]").get_property("min")))
     staff.read(lambda state: state["result"] == ["Read: 2025-06-15."])
-    ended = "the file at slot 1 closed to the public, until 2025-07-01, over"
+    ended = "the file at slot 1 closed to the public, over: until 2025-07-01, not that day"
     assert staff.go("timeline")["rows"][-1][:3] == ["rule 6 of deed 9", ended, "none"]
     days = [staff.one(f"#timeline {at}").get_property("value") for at in ("[name=day]", "[type=range]")]
     assert days == [TODAY, str((datetime.date.fromisoformat(TODAY) - EPOCH).days)], "a day of an earlier look"
