@@ -38,7 +38,7 @@ async function readDisk(accession, tools, show = showDisk) {
   disk.names = namesOf(disk.files);
   disk.later = await laterOf(survey, asked.day, tools);
   show(disk);
-  const { told, journal: { changes, ...journal } } = await originsOf(things, tools, true);
+  const { told, journal: { changes, ...journal } } = await originsOf(things, tools, true, disk.names);
   things.forEach((thing, at) => Object.assign(thing, told[at]));
   const [own, deed] = [survey.accession, survey.deed].map(String);
   const isOwn = (one) => (one.accession ? one.accession === own : one.deed === deed);
@@ -197,7 +197,7 @@ async function takeDown(records, tools) {
   const words = `Take down ${counted(commands.length, "file")} of disk ${accession} for ${whom}?`;
   const beside = (rank) => stand.filter((one) => one.rank !== rank);
   const saysOf = ({ rank, rule }) => placeOf("takedowns", accession, rank, rule, beside(rank)).says;
-  const notes = commands.map((one) => `${one.name}: ${ruleWords(one.rule)}. ${saysOf(one)}`);
+  const notes = (names) => commands.map((one) => `Takedown ${one.rank}: ${ruleWords(one.rule, names)}. ${saysOf(one)}`);
   const asked = { words, notes, commands, days: rehearsalDays(commands[0].rule), isTakedown: true, go: "Take down" };
   asked.first = [...saveFirst(accession, words), sameBox(shown.same)];
   if ((await rehearsed(asked, tools)).length === 0) return "Nothing is taken down.";

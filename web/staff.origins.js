@@ -38,10 +38,10 @@ function originOf(one, places) {
 const whoWords = ({ moment, name }) => `${inUtc(moment)} by ${name ? quoted(name) : "nobody who is named"}`;
 const byWords = (one) => `${whoWords(one)}: ${one.reason ? quoted(one.reason) : "no reason was given"}`;
 
-function originWords({ word }, { put, again, before }, { reach, isWhole }) {
+function originWords({ word }, { put, again, before }, { reach, isWhole }, names) {
   const far = `in the journal${reach && `, back to ${reach}${isWhole ? ", where it begins" : ""}`}`;
   if (put === null) return `not ${far}`;
-  const other = before ? `${changeWords(before)}, ${byWords(before)}` : `nothing ${far}`;
+  const other = before ? `${changeWords(before, names)}, ${byWords(before)}` : `nothing ${far}`;
   const last = again ? `; last put again, unchanged, ${byWords(again)}` : "";
   return `This ${word} was put ${byWords(put)}${last}; in its place before: ${other}`;
 }
@@ -56,10 +56,10 @@ export async function journalTo(isEnough, tools) {
 }
 
 // For each of some things that stand, words for who put it, when and why, and the change; and the journal, as read.
-export async function originsOf(things, tools, isWhole = false) {
+export async function originsOf(things, tools, isWhole = false, names) {
   const isEnough = (changes, places = byPlaces(changes)) => things.every((one) => originOf(one, places).put);
   const journal = await journalTo(isWhole ? null : isEnough, tools);
-  const toldOf = (one, found) => ({ origin: journal.none || originWords(one, found, journal), put: found.put });
+  const toldOf = (one, found) => ({ origin: journal.none || originWords(one, found, journal, names), put: found.put });
   return { told: things.map((one) => toldOf(one, originOf(one, journal.places))), journal };
 }
 

@@ -5,7 +5,7 @@ import { dated, refusedWork, sure } from "./staff.desk.js";
 import { isFor } from "./staff.forecast.js";
 import { saveSaid, saver } from "./staff.saved.js";
 import { COLUMNS, EFFECT_AT, askedWords, effectOf, fileOf, given, isNoDisk } from "./staff.verdicts.js";
-import { readSome, ruleMeaning, verdictsOf } from "./staff.verdicts.js";
+import { nameOf, readSome, ruleMeaning, verdictsOf } from "./staff.verdicts.js";
 import { AUDIENCES, EFFECTS, SHORT, audienceWords, dayAfter, isOnNoDay } from "./staff.words.js";
 import { listed, momentNow, today } from "./staff.words.js";
 import { readTable } from "./stream.js";
@@ -63,12 +63,13 @@ export class Changes {
   }
 }
 
-// What no rehearsal says: the kind of each disk, and which files the desk gives out. (Of one that is gone it does say.)
+// What no rehearsal says: the kind of each disk, which files the desk gives out, and the names on a disk that is alone.
 async function readServed(commands, tools) {
-  const known = { kinds: new Map(), served: new Set() };
   const disks = new Set(commands.filter(({ path }) => path.startsWith("/images/")).map(({ scope }) => scope));
+  const known = { kinds: new Map(), served: new Set(), names: disks.size === 1 ? new Map() : undefined };
   const take = (record) => {
     known.kinds.set(record[COLUMNS.accession], record[COLUMNS.kind]);
+    known.names?.set(Number(record[COLUMNS.slot]), nameOf(record));
     if (record[COLUMNS.size] !== "") known.served.add(`${record[COLUMNS.accession]}/${record[COLUMNS.slot]}`);
   };
   await readSome([...disks], today(), take, tools);
@@ -90,7 +91,7 @@ export async function rehearse(commands, days, tools) {
     }
     found.push({ words, groups: changes.all(), ...(at > 0 ? WITHOUT : {}) });
   }
-  return { found, missing };
+  return { found, missing, names: known.names };
 }
 
 // A file that the desk gives out to nobody opens and closes for nobody.
@@ -179,9 +180,9 @@ bytes it has no more than these lines.`;
 
 // Shows what commands would change, and asks whether to send them. Gives those to send, none where the answer is no.
 export async function rehearsed({ words, notes, first = [], commands, days, isTakedown, go }, tools) {
-  const [moment, { found, missing }] = [momentNow(), await rehearse(commands, days, tools)];
+  const [moment, { found, missing, names }] = [momentNow(), await rehearse(commands, days, tools)];
   const left = commands.filter((command) => !missing.has(command));
-  const [said, none] = [[...notes], [...missing].map((command) => String(command.scope))];
+  const [said, none] = [notes(names), [...missing].map((command) => String(command.scope))];
   if (none.length) said.push(`There is no disk ${listed(none)}: left out.`);
   const closes = found.some(({ groups }) => groups.some((group) => !group.opens));
   if (isTakedown && !closes) said.push("Mind: it closes nothing on any of these days.");

@@ -23,7 +23,7 @@ async function put(name, scopes, typedRank, rule, tools) {
   const commands = places.map(({ scope, rank }) => ({ ...sent, scope, rank, path: RULES[name].path(scope, rank) }));
   const [words, replaced] = [placesWords(name, places), places.flatMap((place) => place.replaced ?? [])];
   const [word, done] = replaced.length === places.length ? ["Replace", "Replaced"] : ["Put", "Put"];
-  const notes = [`It says: ${ruleWords(rule)}.`, ...placeNotes(places)];
+  const notes = (names) => [`It says: ${ruleWords(rule, names)}.`, ...placeNotes(places)];
   const { decidedNow, rehearsalDays, rehearsed, sameNow, saveFirst } = await rehearsals();
   const [days, isTakedown] = [rehearsalDays(rule, replaced), name === "takedowns"];
   const asked = { words: `${word} ${words}?`, notes, commands, days, isTakedown, go: `${word} it` };
@@ -67,7 +67,7 @@ async function drop(name, scope, rule, tools) {
   const { path, words } = RULES[name];
   const said = words(scope, rule.rank);
   const commands = [{ scope, rank: rule.rank, method: "DELETE", path: path(scope, rule.rank) }];
-  const notes = [`It stands: ${standingWords(rule)}.`];
+  const notes = (names) => [`It stands: ${standingWords(rule, names)}.`];
   const { rehearsalDays, rehearsed, saveFirst } = await rehearsals();
   const asked = { words: `Drop ${said}?`, notes, commands, days: rehearsalDays(rule), go: "Drop it" };
   if (name === "takedowns") asked.first = saveFirst(scope, asked.words);

@@ -159,6 +159,8 @@ def test_time_goes_back_past_what_was_replaced_where_the_journal_says_that_it_wa
         disk.door.journals = {"/journal": came * is_late + put, "/journal-2023-09": came * (not is_late) + old}
         cells = [disk.go("disk/1002")["rows"][0][cell].partition("in the journal since ")[2] for cell in (5, 7)]
         assert cells == [(ruled, taken if is_late else back)[one] for one in is_same], other
+        named = "slot" not in other or ": the file at slot 0 (TOUR) readable for" in disk.read()["rows"][3][5]
+        assert named, "a file without its name"
     gone = journal_lines(2, START - 1, "502", "DELETE", of_deed)
     disk.door.journals["/journal"] = line(-5, of_deed, READ) + gone + put
     assert f"{when(0.5)} by “Ada”: Put" in disk.go("disk/1002")["rows"][0][5], "what may have been dropped stood"
@@ -175,7 +177,8 @@ def test_files_ticked_by_their_shown_names_are_taken_down_and_what_stands_after_
     rules = [("Letter", "10", "0"), ("GUIDE", "20", "2")]
     place = "Rank {0} gives its place in the order: number {1} of 2 takedowns of disk 1002."
     places = place.format(10, 1), place.format(20, 2)
-    notes = [f"{name}: the file at slot {slot} {ALWAYS}. {at}" for (name, _, slot), at in zip(rules, places)]
+    notes = [f"Takedown {rank}: the file at slot {slot} ({name}) {ALWAYS}. {at}"
+             for (name, rank, slot), at in zip(rules, places)]
     for slot in (0, 2):
         disk.set(f"#disk [name=slots][value='{slot}']", True)
     asked = disk.push("Take down what is ticked")["sure"][:3]

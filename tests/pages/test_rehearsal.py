@@ -32,7 +32,7 @@ def test_takedowns_are_rehearsed_and_put_each_before_the_others(takedowns):
     for typed in ({"scope": "1002"}, {"how": "slot", "effect": "deny"}, {"what": "2"}):
         assert takedowns.fill("takedowns", **typed).read()["hint"] == "", "a place of a takedown that is for nobody yet"
     guide, rank = "GUIDE (disk 1002, slot 2)", PLACE.format(10, "1 of 1 takedown", 1002)
-    words = ["Put takedown 10 of disk 1002?", f"It says: {HIDDEN.format(2)}", rank, NOW, CLOSES, guide]
+    words = ["Put takedown 10 of disk 1002?", f"It says: {HIDDEN.format('2 (GUIDE)')}", rank, NOW, CLOSES, guide]
     for is_agreed, said in ((False, "Not put: takedown 10 of disk 1002."), (True, "Put: takedown 10 of disk 1002.")):
         shown = takedowns.take_down("1002", "", "2", *BOTH)
         assert (shown["hint"], shown["sure"]) == (rank, words)
@@ -81,7 +81,7 @@ def test_what_is_said_after_a_takedown_is_what_the_desk_says_and_names_what_stil
 
 def test_drop_is_rehearsed_and_done(takedowns):
     shown = takedowns.of_row("takedown 1 of disk 1005", "Drop")
-    wanted = ["Drop takedown 1 of disk 1005?", f"It stands: {HIDDEN.format(0)}", NOW, *TURNS[:2]]
+    wanted = ["Drop takedown 1 of disk 1005?", f"It stands: {HIDDEN.format('0 (TOUR)')}", NOW, *TURNS[:2]]
     assert (shown["sure"], takedowns.focused()) == (wanted, "Leave it as it is")
     _, *rows = saved_table(takedowns, "rehearsal-asked", "Save this rehearsal as CSV")
     assert [row[2:] for row in rows] == [[str(at), text] for at, text in enumerate(wanted[1:], 1)]
