@@ -4,7 +4,7 @@ import { askObject, box, button, cell, element, listOf, loaded, part, row } from
 import { dated, formOf, paragraph, show, work } from "./staff.desk.js";
 import { Changes, dayParts } from "./staff.rehearsal.js";
 import { limitFields } from "./staff.ruleform.js";
-import { saveTable, saver } from "./staff.saved.js";
+import { saveSaid, saveTable, saver } from "./staff.saved.js";
 import { COLUMNS, askedWords, audienceCounts, byWhichRules, effectOf, onDay, readVerdicts } from "./staff.verdicts.js";
 import { AUDIENCES, RULES, dayAfter, inUtc, isDay, isOnNoDay, momentNow, signedWords } from "./staff.words.js";
 import { standingWords, today } from "./staff.words.js";
@@ -136,11 +136,15 @@ async function showDay(day, tools) {
     const at = Object.keys(AUDIENCES).indexOf(audience);
     return alike.reduce((sum, one) => sum + (one.now[at] === effect ? one.count : 0), 0);
   }).concat(askedWords({ moment }), since.words ?? []);
-  const words = `What is other on ${day} than ${past ? "today" : "on the day before it"}, ${other}, ${rules}`;
+  const turns = `What is other on ${day} than ${past ? "today" : "on the day before it"}, ${other}, ${rules}`;
   const none = past && `By these rules nothing is other on that day; ${since.then}`;
-  const more = dayParts({ words, past, none, groups, first: past ? "Now" : "The day before" });
-  const heading = dated("h2", `Who gets what ${onDay(day)}`);
-  stands().querySelector(".day").replaceChildren(heading, ...texts.map((text) => dated("p", text)), ...more);
+  const more = dayParts({ words: turns, past, none, groups, first: past ? "Now" : "The day before" });
+  const [words, said] = [`Who gets what ${onDay(day)}`, stands().querySelector(".day")];
+  const about = `${words}. ${askedWords({ moment })} It names ten files of each change at most: the view Who sees what \
+has all. It does not say who has read or copied a file.`;
+  const name = `timeline-of-${day}${day === current ? "" : `-by-the-rules-of-${current}`}-asked`;
+  more.push(box("div", "choices", ...saver(button("Save this day as CSV"), () => saveSaid(name, moment, about, said))));
+  said.replaceChildren(dated("h2", words), ...texts.map((text) => dated("p", text)), ...more);
 }
 
 // The day that was read last. One that is chosen meanwhile comes next; one that nobody chose is today.

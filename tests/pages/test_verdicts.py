@@ -240,12 +240,17 @@ def test_timeline_has_the_next_change_first_and_says_what_is_other_on_each_day(m
     reads = [f"Opens for the public and the reading room: 2 files. {back}", lists[1]]
     for day, counts, turns in zip(DAYS, [(3, 1, 10), (5, 2, 7), (3, 4, 7), (5, 2, 7)], [closes, opens, lists, reads]):
         staff.push("Change after")
-        heading, public, _, _, asked, *more = staff.texts("#timeline .day > *")
+        heading, public, _, _, asked, *more = staff.texts("#timeline .day > :not(div)")
         words = "The public: {} to read, {} only in the list, {} closed.".format(*counts)
         due = f"Who gets what on {day}, {STOOD}, which may change until then"
         assert (heading, public, asked[:-10]) == (due, words, f"The desk was asked on {TODAY} at 12:")
         before = datetime.date.fromisoformat(day) - datetime.timedelta(1)
         assert more == [f"What is other on {day} than on the day before it, {before}, {STOOD}", *turns]
+    name = f"timeline-of-{DAYS[3]}-by-the-rules-of-{TODAY}-asked"
+    _, *rows = saved_table(staff, name, "Save this day as CSV")
+    said = staff.texts("#timeline .day :is(h2, h3, p, li)")
+    assert [row[2:] for row in rows] == [[str(at), words] for at, words in enumerate(said, 1)]
+    assert {row[1].partition(" It names ten")[0] for row in rows} == {f"{heading}. {asked}"}, "a line of no day"
     staff.push("Change after")
     last = staff.push("Change after")["result"]
     assert last == ["No rule that stands begins or ends later than 2030-01-01."], "a button that does nothing"
