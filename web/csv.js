@@ -61,7 +61,7 @@ function written(value) {
 const MEANINGS = {
   kind: "cpm8: CP/M, 8 inches; d64: Commodore 1541; d64e: Commodore 1541 with error bytes",
   rank: "a place in the order of rules, lowest first", slot: "the file's place on its disk, counted from 0",
-  user: "the user of CP/M, 0 to 15, whose file it is", rules: "by rank; the first that matches a file decides",
+  user: "the user of CP/M, 0 to 15, whose file it is", rules: "by rank, after takedowns; the first to match decides",
   "tried at": "by the clock of the computer that sent it", disks: "how many", until: "that day itself is not in it",
 };
 export const explainedHead = (head) => (Object.hasOwn(MEANINGS, head) ? `${head} (${MEANINGS[head]})` : head);

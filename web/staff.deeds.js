@@ -29,7 +29,7 @@ function changeDeed({ deed, donor, signed }) {
   showChange(`Change deed ${deed}`, form, () => change("deeds", () => put(String(deed), bodyOf(form.elements))));
 }
 
-const NO_RULE = "No rule: closed to everybody";
+const NO_RULE = "No rule: nobody may read its files";
 
 // The rules of a deed in short, and the way to all that can be done with them.
 function rulesCell({ deed, rules }) {

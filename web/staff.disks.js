@@ -152,9 +152,9 @@ function deedParts({ deed, rules, ...more }, under) {
   const heading = dated("h3", `${counted(under.length, "disk")} under deed ${deed}, of ${signedWords(more)}`);
   const rulesFor = ({ accession }) => [...rulesOf("takedowns", Number(accession.value)), ...rules];
   const forecasts = under.map((dump) => forecast(dump.files, rulesFor(dump), today()));
-  const words = `What they get from today, ${today()}, as this page reckons it from the dumps and these rules:`;
+  const words = `What they get on ${today()}, as this page reckons from the dumps, these rules and their takedowns:`;
   return [
-    ...[heading, box("ul", "", ...(lines.length ? lines : [element("li", "No rule: they are closed to everybody.")]))],
+    ...[heading, box("ul", "", ...(lines.length ? lines : [element("li", "No rule: nobody may read their files.")]))],
     ...[dated("p", words), box("ul", "", ...forecastWords(forecasts).map((text) => element("li", text)))],
   ];
 }

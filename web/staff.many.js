@@ -5,12 +5,13 @@ import { ANY_NAME, change, dated, diskCell, isUnsure, keepReason, older, paragra
 import { saveTable, saver } from "./staff.saved.js";
 import { VISITS, askToday, inUtc, momentNow, whenWords } from "./staff.words.js";
 
-const [DONE, isTakedown] = ["done", ({ word }) => word === "takedown"];
+const [DONE, DOUBT] = ["done", " The desk may have done it all the same."];
+const isTakedown = ({ word }) => word === "takedown";
 
 // What is to be said of a change that failed.
 function outcomeWords(fault) {
-  if (!(fault instanceof Refused)) return "This page cannot read the desk's answer.";
-  const [name, more] = [refusalName(fault), isUnsure(fault) ? " The desk may have done it all the same." : ""];
+  if (!(fault instanceof Refused)) return `This page cannot read the desk's answer.${DOUBT}`;
+  const [name, more] = [refusalName(fault), isUnsure(fault) ? DOUBT : ""];
   return `${explainRefusal(fault)}${more}${name && ` (${name})`}`;
 }
 
@@ -21,6 +22,7 @@ export const isDone = (item) => item.outcome === DONE;
 // An item with a problem is left out: it is never sent.
 const isOver = (item) => isDone(item) || Boolean(item.problem);
 const outcomeOf = ({ problem, outcome }) => (outcome === DONE ? DONE : problem || outcome);
+const isDoubtful = (item) => outcomeOf(item)?.includes(DOUBT);
 
 // Sends what is left of some items by `one`, and gives a report. `run` has the section, the items, a word for them,
 // what sends one, and the columns of the report with an item's texts in them; `after` comes when it ends, in any case,
@@ -28,6 +30,7 @@ const outcomeOf = ({ problem, outcome }) => (outcome === DONE ? DONE : problem |
 export async function sendMany(run, { progress, signal }) {
   const left = run.items.filter((item) => !isOver(item));
   run.begun = momentNow();
+  run.last = `Begun, or gone on with, ${whenWords(run.begun)}.`;
   for (const [at, item] of left.entries()) {
     if (signal.aborted) break;
     progress("Sending", at, left.length);
@@ -45,10 +48,11 @@ export async function sendMany(run, { progress, signal }) {
 
 // How many are done, and, behind that or behind what the run says of them, how many are not.
 function summary({ items, word, verb, said }) {
-  const [done, open] = [items.filter(isDone).length, items.filter((item) => !outcomeOf(item)).length];
-  const out = items.filter(isOver).length - done;
-  const more = `${open ? `, ${open} not sent yet` : ""}${out ? `, ${out} left out` : ""}`;
-  const rest = `${items.length - done - open - out} failed${more}.`;
+  const [done, over] = [items.filter(isDone).length, items.filter(isOver).length];
+  const [doubt, open] = [isDoubtful, (item) => !outcomeOf(item)].map((is) => items.filter(is).length);
+  const counts = Object.entries({ "in doubt": doubt, "not sent yet": open, "left out": over - done });
+  const more = counts.map(([words, count]) => (count ? `, ${count} ${words}` : "")).join("");
+  const rest = `${items.length - over - open - doubt} failed${more}.`;
   if (said) return said(items, done < items.length ? ` ${rest}` : "");
   return element("p", `${counted(done, word)} ${verb}, ${rest}`, { className: "callout" });
 }
@@ -62,17 +66,16 @@ function report(run, isOlder) {
   const table = others.length ? longTable("Not done", columns, others, rowOf) : null;
   const more = run.more && !isWhole && !isOlder ? element("p", run.more()) : null;
   const [decided, visits] = [run.decided && dated("p", run.decided), isTakedown(run) ? paragraph(VISITS) : null];
-  const last = `Begun, or gone on with, ${whenWords(run.begun)}.`;
   const goOn = isWhole ? null : button("Go on with the rest", () => change(run.section, (how) => sendMany(run, how)));
-  const buttons = box("p", "choices", goOn, ...saver(button("Save the report"), () => saveReport(run)), last);
+  const buttons = box("p", "choices", goOn, ...saver(button("Save the report"), () => saveReport(run)), run.last);
   return box("div", "report", summary(run), table, more, decided, visits, buttons, isOlder ? older(run.section) : null);
 }
 
-function saveReport({ section, of = section, begun, items, heads, cells, decided, ...run }) {
+function saveReport({ section, of = section, begun, last, items, heads, cells, decided, ...run }) {
   const columns = [...heads.map((head) => head.toLowerCase()), "outcome", "by", "reason", "tried at"];
   const put = isTakedown(run) ? "Takedowns that were to be put" : "Disks that were to be put";
   const recordOf = (item) => [...cells(item), outcomeOf(item) || "not sent", ...(item.who ?? ["", "", ""])];
-  const about = `${run.what ?? put}, and what became of each. It does not say what stands since.`;
+  const about = `${run.what ?? put}, and what became of each. It does not say what stands since. ${last}`;
   const all = [about, ANY_NAME, isTakedown(run) ? VISITS : run.says, decided].filter(Boolean).join(" ");
   return saveTable(`${of}-report-of`, begun, all, columns, items, recordOf);
 }

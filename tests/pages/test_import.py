@@ -71,7 +71,7 @@ def test_dumps_of_a_sheet_are_found_compared_and_put(museum, staff, choose):
     assert (asked[0][:28], asked[1]) == ("In use already: 1 accession.", LEFT_OUT.format(5))
     del museum.deeds[99]
     staff.door.before = lost_at(3)
-    assert staff.answer(True)["result"][0] == "2 disks put, 1 failed, 1 not sent yet, 5 left out."
+    assert staff.answer(True)["result"][0] == "2 disks put, 0 failed, 1 in doubt, 1 not sent yet, 5 left out."
     shown = staff.push("Go on with the rest")
     assert shown["result"][0] == "3 disks put, 1 failed, 5 left out."
     done = {name: (disk, deed, "done") for name, (disk, deed, says) in FOUND.items() if says == ""}
@@ -108,7 +108,7 @@ def test_dumps_are_described_and_numbered_by_hand(staff, choose):
     assert asked == [*("Put 2 disks?", LEFT_OUT.format(1)),
         f"2 disks under deed 9, of “{samples.DONOR_OF_9}”, signed on 0001-01-01",
         "20: all files readable for the public, the reading room and the staff, until further notice",
-        f"What they get from today, {TODAY}, as this page reckons it from the dumps and these rules:",
+        f"What they get on {TODAY}, as this page reckons from the dumps, these rules and their takedowns:",
         *(f"The {who}: 1 to read, 1 only in the list, 0 closed." for who in ("public", "reading room", "staff"))]
     assert (staff.answer(False)["result"], staff.door.sent()) == (["Nothing is sent."], [])
     staff.door.before = lambda _, path: b"" if path == "/staff/today" else None

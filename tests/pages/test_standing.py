@@ -11,7 +11,7 @@ from support.samples import DONOR_OF_9, digest
 EVERYBODY = "the public, the reading room and the staff"
 RULE_20 = ["20", EVERYBODY, "all files", "read them", "until further notice", "ChangeDrop"]
 STAFF, OTHER, RESTORE = digest(b"abc"), digest(b"another"), " Restore a backup of what is changed."
-START, NOBODY = 1_800_000_000, "Nobody can use it any more."
+START, NOBODY = 1_800_000_000, "Then nobody can use it any more."
 # A script: the index that each row of the list has for a screen reader, and its number.
 ROWS = """return Array.from(document.querySelectorAll("#checks tbody tr:not(.space)"),
   (row) => [Number(row.ariaRowIndex), Number(row.cells[0].textContent)]);"""
@@ -36,7 +36,8 @@ def test_deed_is_put_with_name_and_reason(staff):
     rules = "10: all files closed to the public and the reading room, until 2030-01-01, not that day"
     rules += f"20: all files readable for {EVERYBODY}, until further noticeRules"
     assert shown["rows"][0] == ["7", "A. Curator", "2019-05-04", "3", rules, "Change"]
-    assert shown["rows"][3] == ["31", "E. <b>Müller</b>", "1999-12-31", "0", "No rule: closed to everybody", "Change"]
+    none = "No rule: nobody may read its files"
+    assert shown["rows"][3] == ["31", "E. <b>Müller</b>", "1999-12-31", "0", none, "Change"]
     staff.door.before = lost_at(1)
     put_deed(staff)
     assert staff.one("#who [name=reason]").get_property("value") == "a letter of today"
@@ -213,7 +214,7 @@ def test_check_says_which_disk_has_changed_in_a_warning_that_stays(museum, staff
     assert before["stands"] == ["6 disks: 0 sound; 6 never checked."]
     assert one["result"] == ["Disk 1002 is sound: it still has the SHA-256 that came with it."]
     assert [row[1:] for row in one["rows"][:2]] == [["never", "", "Check"], [TODAY, "sound", "Check"]]
-    assert shown["result"][0] == f"{words} 1 failed, 1 not sent yet.{RESTORE}"
+    assert shown["result"][0] == f"{words} 0 failed, 1 in doubt, 1 not sent yet.{RESTORE}"
     _, *rows = saved_table(staff, "checks-report-of", "Save the report")
     assert f"Begun, or gone on with, on {TODAY} at 12:" in shown["result"][-1], "a report that nobody can date"
     assert rows[0][1].startswith("Checks of disks that were to be made, and what became of each. It does not")
