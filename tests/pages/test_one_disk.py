@@ -239,6 +239,8 @@ def test_other_disks_with_the_same_bytes_are_named_and_who_may_read_how_much_of_
     museum.rules["R7"].pop(10)
     disk.set("#disk [name=slots][value='0']", True)
     before = disk.push("Take down what is ticked")["sure"]
+    _, *rows = saved_table(disk, "rehearsal-asked", "Save this rehearsal as CSV")
+    assert before[1:] == [row[3] for row in rows], "a saved rehearsal lacks the other disks"
     ticked = disk.answer(True)["result"]
     typed = disk.go("takedowns") and disk.take_down("1002", "", "2", "public") and disk.answer(True)["result"]
     many = disk.take_down("1002, 1003", "", "2", "public") and disk.answer(True)["result"]
