@@ -73,7 +73,7 @@ export class Lines {
     // The clock of the museum's machine may be ahead of this one.
     this.month ||= oldest().slice(0, 7) || dayAfter(momentNow().slice(0, 10), 1).slice(0, 7);
     for (let isFound = false; this.months > 0 && !isFound; ) {
-      tools.progress("Looking for older months of the journal", MONTHS - this.months, MONTHS);
+      tools.progress("Looking for older journals", MONTHS - this.months, MONTHS);
       isFound = await this.readFile(take, tools);
       [this.last, this.month] = [this.month, monthBefore(this.month)];
       this.months -= 1;
