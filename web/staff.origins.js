@@ -10,8 +10,7 @@ import { keeper } from "./stream.js";
 
 // What stands: a word for it, the place of the changes that put it, and whether the body of one says what stands.
 const thing = (word, place, isSaid) => ({ word, place, isSaid });
-export const standingRule = (path, rule) =>
-  thing("rule", path, (body) => ruleWords(ruleOfBody(body)) === ruleWords(rule));
+export const standingRule = (path, rule) => thing("rule", path, (body) => isSame(ruleOfBody(body), rule));
 export const standingKey = (key) => thing("key", `/badges/${key.digest}`, ({ audience }) => audience === key.audience);
 export const standingDisk = ({ accession, kind, deed }) =>
   thing("disk", `/accessions/${accession}/${kind}/${deed}`, () => true);
@@ -64,14 +63,8 @@ export async function originsOf(things, tools, isWhole = false, names) {
 }
 
 export const SINCE = `In the journal since: so far back it has nothing by which these readers could do anything else \
-with the file, as the page reckons from the changes that it read and the days of the rules. A rule that was put counts \
-as new where no line says what stood there before.`;
-
-// Whether a change is of the takedowns of a disk or of the rules of its deed.
-function isOfDisk(disk, [, , accession, , deed] = disk.place.split("/")) {
-  const its = new RegExp(`^/(images/${accession}|deeds/${deed})/rules/[0-9]+$`);
-  return ({ place }) => its.test(place);
-}
+with the file, as the page reckons from the changes that it read and the days of the rules. Where no line says what \
+stood in the place of a rule before, nothing did if the first line on its disk or deed puts that, else anything may.`;
 
 // The order in which the desk tries rules, by their places, takedowns first; and words for a place.
 const partsOf = (place) => [place.startsWith("/deeds/"), ...place.match(/[0-9]+/g).map(Number)];
@@ -79,13 +72,13 @@ const orderOf = (place, [isOfDeed, , rank] = partsOf(place)) => rank + (isOfDeed
 const placeWords = (place, [isOfDeed, ...of] = partsOf(place)) => RULES[isOfDeed ? "rules" : "takedowns"].words(...of);
 
 // The rule that a body puts: null for none, undefined where nobody knows. What may have stood at the place of a change
-// before it (a disk's first takedown had none before it, as all lines of the disk are read), and after it.
+// before it (nothing where all lines of its disk or its deed are read), and after it.
 const ruleFrom = (body) => body && tried(() => [ruleOfBody(bodyOf({ body }))].find((one) => ruleWords(one)), undefined);
 const isSame = (one, other) => (one && other ? ruleWords(one) === ruleWords(other) : one === other);
-const isFirst = ({ place, method }) => method === "PUT" && !place.startsWith("/deeds/");
-const before = (change) => change.stood.map((body) => ruleFrom(body === undefined && isFirst(change) ? null : body));
-const after = (change) =>
-  [ruleFrom(change.method === "PUT" ? change.body : null), ...(isUnknown(change) ? before(change) : [])];
+const isFirst = ({ place, method }, isNew) => method === "PUT" && (isNew || !place.startsWith("/deeds/"));
+const before = (change, isNew) => change.stood.map((body) => ruleFrom(body ?? (isFirst(change, isNew) ? null : body)));
+const after = (change, isNew) =>
+  [ruleFrom(change.method === "PUT" ? change.body : null), ...(isUnknown(change) ? before(change, isNew) : [])];
 
 // What decides on a file on a day, by what may have stood at the places of rules, in their order: each rule that may.
 function decidersOf(stood, file, day) {
@@ -99,9 +92,14 @@ function decidersOf(stood, file, day) {
 }
 
 // What decided on a file, back from a day to when its disk came: at first then, and before each day on which a rule
-// began or ended, and each change. Where the desk has not what the latest change says, either may have stood since.
+// began or ended, and each change of its takedowns and of the rules of its deed, which is new where its first line puts
+// it. Where the desk has not what the latest change says, either may have stood since.
 function* stepsBack([disk, ...rules], file, changes, today) {
-  const since = changes.filter((one) => one.at > disk.put.at && counts(one) && isOfDisk(disk)(one));
+  const [, , accession, , deed] = disk.place.split("/");
+  const its = new RegExp(`^/(images/${accession}|deeds/${deed})/rules/[0-9]+$`);
+  const ofDeed = new RegExp(`^/deeds/${deed}(/|$)`);
+  const since = changes.filter((one) => one.at > disk.put.at && counts(one) && its.test(one.place));
+  const isNew = changes.findLast((one) => counts(one) && ofDeed.test(one.place))?.place === `/deeds/${deed}`;
   const now = new Map([...since.map(({ place }) => [place, null]), ...rules.map(({ place, rule }) => [place, rule])]);
   const inOrder = [...now].sort(([one], [other]) => orderOf(one) - orderOf(other));
   const stood = new Map(inOrder.map(([place, rule]) => [place, [rule]]));
@@ -114,11 +112,11 @@ function* stepsBack([disk, ...rules], file, changes, today) {
     for (const day of days) yield { day, found: decidersOf(stood, file, dayAfter(day, -1)) };
     if (change === disk.put) return;
     if (from < last) last = from;
-    const [rule, then] = [now.get(change.place), after(change)];
+    const [rule, then] = [now.get(change.place), after(change, isNew)];
     now.delete(change.place);
     if (rule !== undefined && !then.some((one) => isSame(one, rule))) stood.get(change.place).push(...then);
     yield { change, found: decidersOf(stood, file, last) };
-    stood.set(change.place, before(change));
+    stood.set(change.place, before(change, isNew));
     yield { change, found: decidersOf(stood, file, last) };
   }
 }

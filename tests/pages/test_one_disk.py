@@ -170,6 +170,11 @@ def test_time_goes_back_past_what_was_replaced_where_the_journal_says_that_it_wa
     assert disk.go("disk/1002")["rows"][0][5].endswith(taken)
     asked = [path for _, path, _ in disk.door.visits if "journal" in path]
     assert asked == ["/journal", "/journal-2023-09"], "another disk with the same bytes may be in older lines"
+    songs = line(0, "/deeds/9/rules/15", READ.replace(every, '"prefix":"SONG"').replace("read", "list"))
+    came = [line(-11, "/deeds/9"), line(-10, of_deed, READ), line(-9, TAKEN_IN), songs]
+    for these, since in ((came, taken), (came[1:], f"{when(0.5)} by {nobody}: Put rule 15 of deed 9")):
+        disk.door.journals = {"/journal": b"".join(these)}
+        assert since in disk.go("disk/1002")["rows"][0][5], "of a deed known from its beginning a new rule replaces none"
 
 def test_files_ticked_by_their_shown_names_are_taken_down_and_what_stands_after_a_failure_is_said(museum, disk):
     museums.put_files(museum, 1002, "d64", 9, [("%CCETTER", "SEQ", b"A"), ("-", "DEL", None), ("GUIDE", "SEQ", b"A")])
