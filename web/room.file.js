@@ -114,13 +114,12 @@ function showBytes(views, chosen) {
 // What is known of a file, in pairs.
 function factsOf({ kind, accession, file, bytes, digest, files }) {
   const place = files.findIndex((one) => one.slot === file.slot) + 1;
-  const disk = box("span", "", link(nameOfDisk(accession), accession), numberOf(accession));
   const inUser = file.user ? `, of user ${file.user}` : "";
   const blocks = kind === "cpm8" ? counted(bytes.length / 128, "record") : counted(blocksOf(bytes.length), "block");
   const known = basicListing(bytes, false) ? "a BASIC program" : pictureIn(bytes)?.words;
   const words = (kind !== "cpm8" && known) || typeWords(kind, file).split(",")[0];
   const pairs = {
-    Disk: disk,
+    Disk: box("span", "", link(nameOfDisk(accession), accession), numberOf(accession)),
     Place: `file ${place} of ${files.length} on its list, at slot ${file.slot} of the directory${inUser}`,
     "Printed name": nameOfFile(kind, file) === file.name ? null : element("span", file.name, { className: "name" }),
     Type: [file.type, words, `of ${kindWords(kind)}`].filter(Boolean).join(", "),

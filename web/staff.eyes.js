@@ -86,12 +86,11 @@ async function draw(wait) {
   stands.setAttribute("aria-busy", "false");
   if (of !== seen) return;
   const columns = ["Disk", "Kind", "Slot", "Name", "Type", "They may", "Rule"];
-  const rowOf = (file) => fileRow(file, asked.audience, of);
   const heading = dated("h2", `What ${AUDIENCES[asked.audience]} gets ${of.words}`);
   const shown = `Shown: ${which} ${askedWords(of)}`;
   const words = [countWords(asked.audience, (effect) => counts[effect]), shown, of.past ?? []].flat();
-  const made = files.length ? [longTable("verdicts", columns, files, rowOf)] : [];
-  stands.replaceChildren(heading, ...words.map((text) => dated("p", text)), ...made);
+  const made = longTable("verdicts", columns, files, (file) => fileRow(file, asked.audience, of));
+  stands.replaceChildren(heading, ...words.map((text) => dated("p", text)), files.length ? made : "");
   forgetSaved("eyes");
   part("eyes").querySelector(".found").hidden = false;
 }
@@ -138,8 +137,7 @@ export function listen() {
   options(audience, AUDIENCES);
   form.addEventListener("submit", () => work("eyes", look));
   // the table follows the typing, once nothing more was typed for 150 ms
-  const redraw = () => seen.files && draw(150);
-  [audience, closed, words].forEach((field) => field.addEventListener("input", redraw));
+  [audience, closed, words].forEach((field) => field.addEventListener("input", () => seen.files && draw(150)));
   words.addEventListener("keydown", (event) => event.key === "Enter" && event.preventDefault());
   button.parentNode.append(...saver(button, saveShown));
 }

@@ -50,12 +50,11 @@ function ofWords(change) {
 // The changes to show, and words for which these are.
 function found({ accession: { value: number }, deed, words, day, checks }) {
   const text = words.value.trim();
-  const isSaid = ({ search }) => search.includes(text.toLowerCase());
   const its = disk.deed ? `and of its deed ${disk.deed}, which decides about it too` : "of whose deed nothing is known";
   const holds = [
     [number, `of disk ${number} ${its}`, (change) => change.accession === number || isOfDeed(change, disk)],
     [deed.value, `of deed ${deed.value}`, (change) => change.deed === deed.value],
-    [text, `with \u201c${text}\u201d in the name or the reason`, isSaid],
+    [text, `with \u201c${text}\u201d in the name or the reason`, ({ search }) => search.includes(text.toLowerCase())],
     [day.value, `of ${day.value} in UTC`, ({ moment }) => inUtc(moment).startsWith(day.value)],
     [!checks.checked, "without checks of disks", (change) => change.isCheck !== true],
     [disk.names, `with the names of files as disk ${number} had them when the page asked for it`, () => true],
@@ -130,8 +129,7 @@ async function readOlder(tools) {
   const fault = await reading.then(() => null, (came) => came);
   changes = read.inOrder();
   await draw();
-  const count = counted(changes.length - before, before ? "older change" : "change");
-  return fault ? explained(fault) : `Read: ${count}.`;
+  return fault ? explained(fault) : `Read: ${counted(changes.length - before, before ? "older change" : "change")}.`;
 }
 
 // Where that was the last, the button for it takes no focus any more.

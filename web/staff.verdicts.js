@@ -26,8 +26,7 @@ export async function verdictsOf({ accession, files }, day, { signal }) {
 const MOST_LATER = 20;
 export async function laterOf(disk, now, tools) {
   const rules = [...rulesOf("takedowns", disk.accession), ...rulesOf("rules", disk.deed)];
-  const turns = rules.flatMap(({ from, until }) => [from, until]).filter((day) => day > now);
-  const days = [...new Set(turns)].sort();
+  const days = [...new Set(rules.flatMap(({ from, until }) => [from, until]).filter((day) => day > now))].sort();
   const later = Object.assign([], { isAll: days.length <= MOST_LATER });
   for (const day of days.slice(0, MOST_LATER)) later.push({ day, files: await verdictsOf(disk, day, tools) });
   return later;
