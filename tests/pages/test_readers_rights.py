@@ -7,7 +7,7 @@ import time
 import pytest
 from staff_helpers import LEFT
 from support import museums
-from support.browser import wait_for
+from support.browser import LIMIT, wait_for
 from support.samples import NOBODY, PROGRAM_DISK, PUBLIC, ROOM, STAFF, digest
 from support.stand_in import refused_by_nginx
 
@@ -72,7 +72,10 @@ def test_each_file_leads_to_its_page_and_one_that_is_closed_says_why_there_and_i
     closed = ["1 more file is closed to the public, name and all: takedown 1 of disk 1003 (T1003.1)."]
     reader.wait(lambda state: reader.texts(".closed > a[href='#/1003']") == closed, f"{closed} of what was found")
     museum.rules["T1003"] = {2: museums.rule(2, "deny", ["public"], {"slot": 1})}
-    assert reader.go("1003") and reader.wait(lambda state: "T1003.2" in str(reader.texts(".callout")), "a new rule")
+    is_due, looks = threading.Event(), ["Looking for closed files .."]
+    reader.door.before = lambda _, path: is_due.wait(LIMIT) and None if "/files/" in path else None
+    assert reader.go("1003") and reader.texts(".callout") == looks, "a print of now has all, as if nothing were closed"
+    assert is_due.set() or reader.wait(lambda state: "T1003.2" in str(reader.texts(".callout")), "a new rule")
 
 def test_list_says_when_it_was_asked_and_is_asked_anew_when_it_is_old_or_shows_what_is_closed(museum, reader):
     at, found = lambda: reader.text("#asked"), lambda name: reader.find(name)["matches"]
@@ -115,7 +118,9 @@ def test_desk_that_has_nothing_or_does_not_answer_is_said(museum, reader):
         shown = reader.load()
         assert (shown["refusal"], shown["heading"]) == ([words], "The list of disks did not come"), status
     reader.door.before = lambda method, path: refused_by_nginx(429, "No") if path.endswith("1004/files/1") else None
-    assert reader.push("Try again")["disks"] == OPEN and reader.go("1004/0")
+    assert reader.push("Try again")["disks"] == OPEN and reader.go("1004")
+    untold = "Whether other files are closed the desk did not tell. Turn to the museum's staff about this disk."
+    assert reader.wait(lambda state: reader.texts(".callout")[1:] == [untold], untold) and reader.go("1004/0")
     wait_for("the refusal", lambda: [path for _, path, _ in reader.door.visits if path.endswith("1004/files/1")])
     reader.door.before = lambda method, path: None
     assert reader.read()["refusal"][2:] == [] and reader.go("1004") and reader.go("1004/0")
