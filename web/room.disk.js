@@ -62,7 +62,8 @@ export async function showDisk(number, signal) {
   const list = table("Files", columns, files.map((file) => fileRow(kind, accession, file, hasUsers)));
   Object.assign(list, { id: "files", className: "files" });
   const none = element("p", "There is no file on it that you may see.", { className: "callout" });
-  const [rules, staff] = [files.length ? `What decides here: ${rulesOf(files)}. ` : "", askAbout(accession)];
+  const rules = files.length ? `What decides about the files that you see: ${rulesOf(files)}. ` : "";
+  const staff = askAbout(accession);
   const why = box("p", "quiet", rules, deedWords(deed), staff);
   const closed = element("p", "Looking for closed files ..", { className: "callout" });
   const say = (words) => (words ? closed.replaceChildren(`${words} `, staff) : closed.remove());

@@ -58,7 +58,7 @@ def test_each_file_leads_to_its_page_and_one_that_is_closed_says_why_there_and_i
     alone = [CLOSED % ("the public", "that it is there, not what is in it"), "text, 896 bytes", TAKEDOWN % (1001, 1001)]
     assert reader.go("1001/0")["refusal"] == alone and reader.go("1001")
     rules = "takedown 1 of disk 1001 (T1001.1) on 1 file, rule 20 of deed 9 (R9.20) on 1 file."
-    assert f"What decides here: {rules}" in reader.text("#view")
+    assert f"What decides about the files that you see: {rules}" in reader.text("#view")
     museum.rules["R9"][10] = museums.rule(10, "list", ["public"])
     assert reader.go("1002/0")["refusal"][3:] == [f"2 other files of this disk: {'-' * 16}, GUIDE"]
     why = "Listed only rule 10 of deed 9 lets you see no more"
