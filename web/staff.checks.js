@@ -93,7 +93,7 @@ async function showChecks() {
   Object.assign(columns, { Outcome: (one) => one.outcome ?? "", "": null });
   const never = checks.filter(({ day }) => day === null).length;
   const words = foundOf(checks, counted(checks.length, "disk"), `; ${grouped(never)} never checked.`);
-  showList("checks", words, ["latest checks", columns, checks, checkRow], SOUND);
+  showList("checks", words, ["latest checks", columns, checks, checkRow], { more: SOUND });
   formOf("checks").elements.before.defaultValue = dayAfter(today(), -DAYS);
 }
 

@@ -6,7 +6,7 @@ import { dated, formOf, show, work } from "./staff.desk.js";
 import { Lines, MONTHS, MOST, PIECE } from "./staff.lines.js";
 import { limitFields } from "./staff.ruleform.js";
 import { forgetSaved, saveTable, saver } from "./staff.saved.js";
-import { isNoDisk, namesOf, verdictsOf } from "./staff.verdicts.js";
+import { isNoDisk, readNames } from "./staff.verdicts.js";
 import { inUtc, momentNow, whenWords } from "./staff.words.js";
 import { withTitle } from "./titles.js";
 
@@ -30,8 +30,7 @@ async function knowDisk(accession) {
   disk = { ...NO_DISK, accession };
   if (accession === "") return;
   const survey = await askObject(`/images/${accession}/survey`);
-  // (names are the same on each day)
-  const names = namesOf(await verdictsOf(survey, momentNow().slice(0, 10), {}));
+  const names = await readNames(survey);
   if (disk.accession === accession) disk = { accession, deed: String(survey.deed), names };
 }
 

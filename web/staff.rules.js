@@ -5,10 +5,11 @@ import { showChange, shownAnew, showsAnew, standing } from "./staff.desk.js";
 import { MOST_DISKS, accessionsIn, placeOf } from "./staff.ranks.js";
 import { fillRule, makeRuleForm, ruleIn } from "./staff.ruleform.js";
 import { showList } from "./staff.saved.js";
-import { RULES, VISITS, ruleTexts, ruleWords, standingWords } from "./staff.words.js";
+import { readNames } from "./staff.verdicts.js";
+import { RULES, VISITS, filesWords, ruleTexts, ruleWords, standingWords } from "./staff.words.js";
 import { titleOf } from "./titles.js";
 
-// Of how many disks the page says what their takedowns replace; what is typed; what only a change needs, loaded then.
+// Of how many disks the page says more, as what their takedowns replace; what is typed; what only a change needs.
 const MOST_NOTES = 10;
 const scopesIn = (name, typed) => (name === "rules" ? [Number(typed)] : (accessionsIn(typed) ?? []));
 const rehearsals = () => loaded(import("./staff.rehearsal.js"));
@@ -107,7 +108,23 @@ function draw(name) {
   const textOf = (column) => [column, (one) => ruleTexts(one.rule)[column]];
   const columns = { [of]: ({ scope: number }) => number, Rank: ({ rule }) => rule.rank };
   Object.assign(columns, Object.fromEntries(["For whom", "Which files", "They may", "Days"].map(textOf)), { "": null });
-  showList(name, count, [`${word}s that stand`, columns, shown, (one) => ruleRow(name, one)]);
+  const savedOf = async () => {
+    const namesOf = await readSlots(name, shown);
+    return { ...columns, "Which files": ({ scope, rule }) => filesWords(rule, namesOf(scope)) };
+  };
+  showList(name, count, [`${word}s that stand`, columns, shown, (one) => ruleRow(name, one)], { savedOf });
+}
+
+// What gives the names of files by slot for a table that is saved: those of a few disks, which the desk is asked for.
+async function readSlots(name, rules) {
+  const isOfDisk = name === "takedowns";
+  const disks = rules.filter(({ rule }) => isOfDisk && rule.select.slot !== undefined).map(({ scope }) => scope);
+  const names = new Map();
+  for (const accession of [...new Set(disks)].slice(0, MOST_NOTES)) {
+    names.set(accession, await readNames({ accession }).catch(() => null));
+  }
+  const where = (scope) => (isOfDisk ? `; its name is on the page of disk ${scope}` : "");
+  return (scope) => names.get(scope) ?? { get: () => `counted from 0${where(scope)}` };
 }
 
 // Reads what stands anew, and shows it.

@@ -152,7 +152,7 @@ def test_press_and_focus_are_not_lost_while_older_months_or_a_change_come(staff)
 def test_each_list_is_saved_and_printed_with_its_moment_and_who_does_it(museum, staff):
     museum.rules |= {"T1002": takedown(1000, 2), "R8": {}}
     shut, ever = "see only that closed files are there, not their names", "until further notice"
-    deny = ["1002", "1000", "the public and the reading room", "the file at slot 2", shut, ever]
+    deny = ["1002", "1000", "the public and the reading room", "the file at slot 2 (GUIDE)", shut, ever]
     wanted = {"deeds": (3, ["9", DONOR_OF_9, "0001-01-01", "3", f"20: all files readable for {EVERYBODY}, {ever}"]),
               "rules": (3, ["9", *RULE_20[:-1]]), "takedowns": (1, deny),
               "keys": (2, [STAFF, "the staff", "there is no journal"]), "checks": (6, ["1006", "never", ""])}
@@ -162,7 +162,7 @@ def test_each_list_is_saved_and_printed_with_its_moment_and_who_does_it(museum, 
         words = staff.go(view)["stands"][0]
         heads, *rows = saved_table(staff, f"{view}-{count}-asked", "Save this list as CSV")
         assert [row[2:] for row in rows if row[2] == cells[0]] == [cells] and len(rows) == count
-        assert len(heads) == len(cells) + 2, "a column without a head"
+        assert len(heads) == len(cells) + 2 and "; slots count from 0" in heads[1], "a column without a head"
         assert f"when t{asked}" in rows[0][1] and f" UTC: {words} It does not say what stood before" in rows[0][1]
         assert (SOUND in rows[0][1]) == (view == "checks"), "a word that nobody explains"
         assert asked in staff.text(f"#{view} .stands .choices"), "a print without a moment"
@@ -173,6 +173,9 @@ def test_each_list_is_saved_and_printed_with_its_moment_and_who_does_it(museum, 
         title, at = staff.driver.title, said.partition(" page ")[2].partition(" by ")[0]
         assert staff.script("return window.heads") == f"{title}, {at}", "two prints of a day have one name"
         assert title.endswith(" – the staff's page"), "a title of an earlier print"
+    staff.door.before = lambda _, path: b"" if "/verdicts/" in path else None
+    _, row = [staff.go("takedowns"), saved_table(staff, "takedowns-1-asked", "Save this list as CSV")][1]
+    assert row[5] == "the file at slot 2 (counted from 0; its name is on the page of disk 1002)", "counted from 1"
     assert staff.fill("who", name=" ").cdp("Page.printToPDF")
     assert " UTC by somebody who typed no name. Moments" in staff.script("return window.said")
 
