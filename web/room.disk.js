@@ -10,8 +10,7 @@ import { noteOf } from "./titles.js";
 function fileRow(kind, accession, file, hasUsers) {
   const [name, { word, colour, why }] = [nameOfFile(kind, file), permission(kind, file)];
   const way = (words, more) => link(words, `${accession}/${file.slot}`, more);
-  const badge = way(word, { ariaLabel: `${word}: ${name}`, tabIndex: -1, className: `badge ${colour}` });
-  const may = box("span", "", badge);
+  const may = box("span", "", way(word, { ariaLabel: `${word}: ${name}`, tabIndex: -1, className: `badge ${colour}` }));
   if (why) may.append(" ", element("small", why));
   const type = box("span", "", file.type, " ", element("small", typeWords(kind, file)));
   const bytes = cell("Bytes", file.size === null ? "" : file.size.toLocaleString("en"), "number");

@@ -20,10 +20,9 @@ NARROW.addEventListener("change", () => part("bytes") && showAnew());
 // The ways to show bytes: an id and a word of each one's button, what to say of it, and its text or its picture.
 function viewsOf(kind, type, bytes) {
   const views = kind === "cpm8" ? cpmViews(bytes, type) : cbmViews(bytes);
-  const text = () => hexText(bytes, NARROW.matches ? 8 : 16);
   const isProgram = views.length === 0 && kind !== "cpm8" && type === "PRG";
   const says = `${isProgram ? noListing(bytes) : "Shown as bytes"}: the place, hexadecimal digits, and ASCII.`;
-  return [...views, { id: "as-hex", word: "Bytes", says, text }];
+  return [...views, { id: "as-hex", word: "Bytes", says, text: () => hexText(bytes, NARROW.matches ? 8 : 16) }];
 }
 
 // Where a program of the 1541 is loaded, and where BASIC begins in its machines.
@@ -62,8 +61,7 @@ function cbmViews(bytes) {
     if (screen && !listing) views.push({ id: "as-screen", word: "Screen", says: onScreen, make: () => screen });
     views.push({ id: "as-text", word: "Text", says, text, letters });
   }
-  const says = image && `Shown as ${image.words}.`;
-  const view = image && { id: "as-picture", word: "Picture", says, make: image.make };
+  const view = image && { id: "as-picture", word: "Picture", says: `Shown as ${image.words}.`, make: image.make };
   return image ? (image.isSure ? [view, ...views] : [...views, view]) : views;
 }
 

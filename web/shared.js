@@ -149,10 +149,7 @@ export async function ask(path, more = {}) {
 }
 
 // The object in a reply. A connection that ends too early is a lost one.
-export async function askObject(path, more) {
-  const reply = await ask(path, more);
-  return JSON.parse(await loaded(reply.text()));
-}
+export const askObject = async (path, more) => JSON.parse(await loaded((await ask(path, more)).text()));
 
 const wordsFor = (fault) => {
   const name = textOf(fault.said.error);

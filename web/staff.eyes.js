@@ -61,8 +61,7 @@ async function lookThrough({ audience, words, showsClosed }, all) {
   const [disk, ...others] = new Set(files.map((file) => file[COLUMNS.accession]));
   const of = disk && others.length === 0 ? ` of disk ${disk}` : "";
   const only = of && `, only${of}, which has ${all.filter((file) => file[COLUMNS.accession] === disk).length}`;
-  const which = `${grouped(files.length)} of ${counted(all.length, "file")}${by}${only}${more}.`;
-  return { files, counts, of, which };
+  return { files, counts, of, which: `${grouped(files.length)} of ${counted(all.length, "file")}${by}${only}${more}.` };
 }
 
 function fileRow(file, audience, asked) {

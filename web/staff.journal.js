@@ -59,8 +59,7 @@ function found({ accession: { value: number }, deed, words, day, checks }) {
     [disk.names, `with the names of files as disk ${number} had them when the page asked for it`, () => true],
   ].filter(([value]) => value);
   const shown = changes.filter((change) => holds.every(([, , isFound]) => isFound(change)));
-  const which = [`${counted(shown.length, "change")} of these`, ...holds.map((one) => one[1])].join(", ");
-  return { shown, which };
+  return { shown, which: [`${counted(shown.length, "change")} of these`, ...holds.map((one) => one[1])].join(", ") };
 }
 
 // The names of the files of a disk, by their slots; where they were not read, whose file is meant.

@@ -30,6 +30,5 @@ export const isTitled = (accession, words) =>
 
 // Something that stands for a disk, with its title below where it has one.
 export function withTitle(shown, accession) {
-  const title = titleOf(accession) && element("span", titleOf(accession), { className: "title" });
-  return box("div", "", shown, title);
+  return box("div", "", shown, titleOf(accession) && element("span", titleOf(accession), { className: "title" }));
 }
