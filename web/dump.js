@@ -34,9 +34,8 @@ function chain(bytes, start) {
 function cbmFile(bytes, entry, slot) {
   const [type, isClosed] = [TYPES[entry[2] & 15] ?? "OTHER", entry[2] >= 128];
   const chains = ((isClosed && STARTS[type]) || []).map((at) => chain(bytes, blockAt(entry[at], entry[at + 1])));
-  const name = printed(trimmed(entry.subarray(5, 21), 0xa0), [0x25]);
   const [ends, units] = [chains.map(({ end }) => end), chains.flatMap(({ blocks }) => blocks)];
-  return { slot, user: null, name, type, isClosed, ends, units };
+  return { slot, user: null, name: printed(trimmed(entry.subarray(5, 21), 0xa0), [0x25]), type, isClosed, ends, units };
 }
 
 function cbmDisk(bytes) {

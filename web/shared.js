@@ -195,8 +195,6 @@ export async function digestOf(bytes) {
   return Array.from(new Uint8Array(digest), (byte) => byte.toString(16).padStart(2, "0")).join("");
 }
 
-// The form for the key, and the link to what stands below it
-
 export const asHeaderField = (text) => text.replace(/^[ \t]+|[ \t]+$/g, "");
 
 export function listenForKey(use) {

@@ -24,10 +24,9 @@ async function read(day, tools) {
   // most texts are those of the line before; a text to look in is kept already
   let last = [];
   const kept = (text, at) => (text === last[at] ? last[at] : at === SEARCHED ? text : once(text));
-  const take = (record) => files.push((last = [...record, searched(record)].map(kept)));
   asked.said = new Map((await readRules(tools.signal)).map(({ label, rule }) => [label, ruleWords(rule)]));
   const past = day < today() ? await pastOf(day, tools) : {};
-  await readVerdicts(day, take, tools);
+  await readVerdicts(day, (record) => files.push((last = [...record, searched(record)].map(kept))), tools);
   seen = { ...asked, files, others: past.others, past: past.words };
 }
 

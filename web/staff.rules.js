@@ -108,15 +108,12 @@ function draw(name) {
   const textOf = (column) => [column, (one) => ruleTexts(one.rule)[column]];
   const columns = { [of]: ({ scope: number }) => number, Rank: ({ rule }) => rule.rank };
   Object.assign(columns, Object.fromEntries(["For whom", "Which files", "They may", "Days"].map(textOf)), { "": null });
-  const savedOf = async () => {
-    const namesOf = await readSlots(name, shown);
-    return { ...columns, "Which files": ({ scope, rule }) => filesWords(rule, namesOf(scope)) };
-  };
+  const savedOf = async () => ({ ...columns, "Which files": await readFilesWords(name, shown) });
   showList(name, count, [`${word}s that stand`, columns, shown, (one) => ruleRow(name, one)], { savedOf });
 }
 
-// What gives the names of files by slot for a table that is saved: those of a few disks, which the desk is asked for.
-async function readSlots(name, rules) {
+// What says for a table that is saved which files a rule is for: of a few disks, those by slot with the desk's names.
+async function readFilesWords(name, rules) {
   const isOfDisk = name === "takedowns";
   const disks = rules.filter(({ rule }) => isOfDisk && rule.select.slot !== undefined).map(({ scope }) => scope);
   const names = new Map();
@@ -124,7 +121,7 @@ async function readSlots(name, rules) {
     names.set(accession, await readNames({ accession }).catch(() => null));
   }
   const where = (scope) => (isOfDisk ? `; its name is on the page of disk ${scope}` : "");
-  return (scope) => names.get(scope) ?? { get: () => `counted from 0${where(scope)}` };
+  return ({ scope, rule }) => filesWords(rule, names.get(scope) ?? { get: () => `counted from 0${where(scope)}` });
 }
 
 // Reads what stands anew, and shows it.

@@ -47,7 +47,6 @@ export async function readSome(disks, day, take, tools) {
 // The names of some files of a disk as they were shown, by their slots.
 export const nameOf = (record) => shownName(record[COLUMNS.kind], record[COLUMNS.name]);
 export const namesOf = (files) => new Map(files.map((record) => [Number(record[COLUMNS.slot]), nameOf(record)]));
-// (they are the same on each day)
 export const readNames = async (disk) => namesOf(await verdictsOf(disk, momentNow().slice(0, 10), {}));
 
 // A file as rules select it.
