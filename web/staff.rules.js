@@ -1,16 +1,17 @@
 // Rules of deeds, and takedowns: the forms that put and change them, and the tables of those that stand.
 import { cell, counted, element, loaded, part, row } from "./shared.js";
-import { buttonsCell, change, dated, diskCell, formOf, listName, readHeld, rulesOf, send } from "./staff.desk.js";
+import { buttonsCell, change, dated, diskCell, formOf, held, listName, readHeld, rulesOf, send } from "./staff.desk.js";
 import { showChange, shownAnew, showsAnew, standing } from "./staff.desk.js";
 import { MOST_DISKS, accessionsIn, placeOf } from "./staff.ranks.js";
 import { fillRule, makeRuleForm, ruleIn } from "./staff.ruleform.js";
 import { showList } from "./staff.saved.js";
 import { readNames } from "./staff.verdicts.js";
-import { RULES, VISITS, filesWords, ruleTexts, ruleWords, standingWords } from "./staff.words.js";
+import { RULES, VISITS, filesWords, ruleTexts, ruleWords, signedWords, standingWords } from "./staff.words.js";
 import { titleOf } from "./titles.js";
 
 // Of how many disks the page says more, as what their takedowns replace; what is typed; what only a change needs.
 const MOST_NOTES = 10;
+const FIRST = "Takedowns of a disk come before the rules of its deed: by rank, the first that matches decides.";
 const scopesIn = (name, typed) => (name === "rules" ? [Number(typed)] : (accessionsIn(typed) ?? []));
 const rehearsals = () => loaded(import("./staff.rehearsal.js"));
 
@@ -108,12 +109,14 @@ function draw(name) {
   const textOf = (column) => [column, (one) => ruleTexts(one.rule)[column]];
   const columns = { [of]: ({ scope: number }) => number, Rank: ({ rule }) => rule.rank };
   Object.assign(columns, Object.fromEntries(["For whom", "Which files", "They may", "Days"].map(textOf)), { "": null });
-  const savedOf = async () => ({ ...columns, "Which files": await readFilesWords(name, shown) });
-  showList(name, count, [`${word}s that stand`, columns, shown, (one) => ruleRow(name, one)], { savedOf });
+  const savedOf = async () => ({ ...columns, ...(await savedColumns(name, shown)) });
+  const ofOne = typed && scopes.size === 1 ? `-of-${thing}-${[...scopes]}` : "";
+  const list = [`${word}s that stand`, columns, shown, (one) => ruleRow(name, one)];
+  showList(name, count, list, { of: ofOne, more: FIRST, savedOf });
 }
 
-// What says for a table that is saved which files a rule is for: of a few disks, those by slot with the desk's names.
-async function readFilesWords(name, rules) {
+// What a saved table has otherwise: of a few disks, files by slot with the names that the desk has; donors of deeds.
+async function savedColumns(name, rules) {
   const isOfDisk = name === "takedowns";
   const disks = rules.filter(({ rule }) => isOfDisk && rule.select.slot !== undefined).map(({ scope }) => scope);
   const names = new Map();
@@ -121,7 +124,10 @@ async function readFilesWords(name, rules) {
     names.set(accession, await readNames({ accession }).catch(() => null));
   }
   const where = (scope) => (isOfDisk ? `; its name is on the page of disk ${scope}` : "");
-  return ({ scope, rule }) => filesWords(rule, names.get(scope) ?? { get: () => `counted from 0${where(scope)}` });
+  const namesOf = (scope) => names.get(scope) ?? { get: () => `counted from 0${where(scope)}` };
+  const donors = new Map(held.deeds.map((one) => [one.deed, signedWords(one)]));
+  const files = ({ scope, rule }) => filesWords(rule, namesOf(scope));
+  return { "Which files": files, "Donor of the deed": isOfDisk ? null : ({ scope }) => donors.get(scope) };
 }
 
 // Reads what stands anew, and shows it.

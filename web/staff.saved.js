@@ -44,7 +44,7 @@ export const forgetSaved = (name) => part(name).querySelectorAll(".saved").forEa
 
 // Shows what stands in a section, in words and as a list, when the desk was asked for it, and a button that saves it.
 // The button stays where the list is drawn anew, for somebody may be pressing it. `savedOf` gives the columns to save.
-export function showList(name, words, [caption, columns, items, rowOf], { more = "", savedOf = () => columns } = {}) {
+export function showList(name, words, [caption, columns, items, rowOf], { of = "", more = "", savedOf } = {}) {
   const [{ moment }, stands] = [held[listName(name)], part(name).querySelector(".stands")];
   const when = `the desk was asked ${whenWords(moment)}`;
   if (stands.childElementCount === 0) {
@@ -59,10 +59,10 @@ export function showList(name, words, [caption, columns, items, rowOf], { more =
   const about = `As things stood when ${when}: ${words.textContent} It does not say what stood before or stands since, \
 nor who gets what. ${more}`.trim();
   bar.save = async () => {
-    const saved = Object.entries(await savedOf()).filter(([, textOf]) => textOf);
+    const saved = Object.entries((await savedOf?.()) ?? columns).filter(([, textOf]) => textOf);
     const heads = saved.map(([head]) => head.toLowerCase());
     const recordOf = (one) => saved.map(([, textOf]) => textOf(one));
-    return saveTable(`${name}-${items.length}-asked`, moment, about, heads, items, recordOf);
+    return saveTable(`${name}${of}-${items.length}-asked`, moment, about, heads, items, recordOf);
   };
 }
 

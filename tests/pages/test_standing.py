@@ -154,7 +154,7 @@ def test_each_list_is_saved_and_printed_with_its_moment_and_who_does_it(museum, 
     shut, ever = "see only that closed files are there, not their names", "until further notice"
     deny = ["1002", "1000", "the public and the reading room", "the file at slot 2 (GUIDE)", shut, ever]
     wanted = {"deeds": (3, ["9", DONOR_OF_9, "0001-01-01", "3", f"20: all files readable for {EVERYBODY}, {ever}"]),
-              "rules": (3, ["9", *RULE_20[:-1]]), "takedowns": (1, deny),
+              "rules": (3, ["9", *RULE_20[:-1], f"“{DONOR_OF_9}”, signed on 0001-01-01"]), "takedowns": (1, deny),
               "keys": (2, [STAFF, "the staff", "there is no journal"]), "checks": (6, ["1006", "never", ""])}
     staff.script(SAYS)
     for view, (count, cells) in wanted.items():
@@ -165,6 +165,7 @@ def test_each_list_is_saved_and_printed_with_its_moment_and_who_does_it(museum, 
         assert len(heads) == len(cells) + 2 and "; slots count from 0" in heads[1], "a column without a head"
         assert f"when t{asked}" in rows[0][1] and f" UTC: {words} It does not say what stood before" in rows[0][1]
         assert (SOUND in rows[0][1]) == (view == "checks"), "a word that nobody explains"
+        assert ("Takedowns of a disk come before" in rows[0][1]) == (view in ("rules", "takedowns")), "what decides"
         assert asked in staff.text(f"#{view} .stands .choices"), "a print without a moment"
         said = staff.cdp("Page.printToPDF") and staff.script("return window.said")
         assert said.startswith(f"Printed from the staff's page on {TODAY} at 12:"), "a print that nobody can date"
