@@ -4,7 +4,7 @@ import { holder } from "./about.js";
 import { APOSTROPHES, csvText, explainedHead } from "./csv.js";
 import { listTable } from "./lists.js";
 import { box, button, element, part } from "./shared.js";
-import { held, listName, whoNow } from "./staff.desk.js";
+import { ANY_NAME, held, listName, whoNow } from "./staff.desk.js";
 import { clockWords, momentNow, quoted, whenWords } from "./staff.words.js";
 import { inParts, save } from "./stream.js";
 
@@ -13,7 +13,7 @@ const byWhom = ({ name } = whoNow()) =>
 
 const days = () => `days of rules, of checks and of asking: ${clockWords()}`;
 const clocks = () => `this table, in UTF-8, saved ${byWhom()} (${APOSTROPHES}; moments: in UTC, of the journal by the \
-museum's machine, of asking by the computer that saved this; ${days()}; slots count from 0)`;
+museum's machine, of asking by the computer that saved this; slots count from 0; ${days()}). ${ANY_NAME}`;
 
 // (by the mark at its beginning a spreadsheet sees that it is UTF-8)
 export async function saveTable(name, moment, about, heads, items, recordOf) {
@@ -69,8 +69,9 @@ nor who gets what. ${more}`.trim();
 // A print says when, by whom and by whose clocks, and its title when. Where a question is open, only that is printed.
 const printed = element("p", "", { className: "callout" });
 window.addEventListener("beforeprint", () => {
-  const [from, when] = [`Printed from the staff's page${holder() && ` of ${holder()}`}`, whenWords(momentNow())];
-  printed.replaceChildren(element("strong", `${from} ${when} ${byWhom()}.`), ` Moments: in UTC; ${days()}.`);
+  const when = whenWords(momentNow());
+  const from = `Printed from the staff's page${holder() && ` of ${holder()}`} ${when} ${byWhom()}.`;
+  printed.replaceChildren(element("strong", from), ` Moments: in UTC; ${days()}. ${ANY_NAME}`);
   document.title += `, ${when}`;
   (document.querySelector("#sure[open]") ?? part("main")).prepend(printed);
 });

@@ -171,6 +171,8 @@ def test_each_list_is_saved_and_printed_with_its_moment_and_who_does_it(museum, 
         assert said.startswith(f"Printed from the staff's page on {TODAY} at 12:"), "a print that nobody can date"
         assert " UTC by “Ada Archivist”, as they typed their name. Moments: in UTC; days of rules, of" in said
         assert "by the desk's clock, whose zone it does not tell: on " in said, "days in nobody's zone"
+        any_name = "Whoever has a key of the staff can write any name."
+        assert said.endswith(any_name) and heads[1].endswith(any_name), "as if the name of who put it were sure"
         title, at = staff.driver.title, said.partition(" page ")[2].partition(" by ")[0]
         assert staff.script("return window.heads") == f"{title}, {at}", "two prints of a day have one name"
         assert title.endswith(" – the staff's page"), "a title of an earlier print"
