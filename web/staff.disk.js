@@ -134,7 +134,8 @@ function drawFiles() {
   const { files, names, asked } = shown;
   if (!names) return frames.files.replaceChildren(element("p", "Who gets what of it is not read yet."));
   const columns = ["Take down", "Slot", "Name", "Type", "Bytes", ...Object.values(AUDIENCES)];
-  const counts = audienceCounts((who, effect) => files.filter((record) => effectOf(record, who) === effect).length);
+  const countOf = (who, effect) => files.filter((record) => effectOf(record, who) === effect).length;
+  const counts = audienceCounts(countOf, `disk ${shown.survey.accession}`);
   frames.files.replaceChildren(
     dated("h2", `Who gets what on ${asked.day}`),
     box("ul", "", ...counts.map((text) => element("li", text))),

@@ -1,6 +1,6 @@
 // What every caller gets of every file on a day, as the desk says; and how that is said and saved.
 import { shownName } from "./names.js";
-import { Refused, element, explained, grouped, meaning } from "./shared.js";
+import { Refused, counted, element, explained, grouped, meaning } from "./shared.js";
 import { rulesOf } from "./staff.desk.js";
 import { AUDIENCES, EFFECTS, inUtc, momentNow, today, whenWords } from "./staff.words.js";
 import { readTable } from "./stream.js";
@@ -74,14 +74,15 @@ function because(record, audience, { rules, others }) {
 export const mayWords = (record, audience, asked, why = because(record, audience, asked)) =>
   `${MAY[effectOf(record, audience)]}${why && ` (${why})`}`;
 
-// How many files an audience may read, see listed and not see, in a sentence; and the same of each audience.
-export function countWords(audience, countOf) {
-  const [words, [read, list, deny]] = [AUDIENCES[audience], Object.keys(EFFECTS).map((one) => grouped(countOf(one)))];
-  return `${words[0].toUpperCase()}${words.slice(1)}: ${read} to read, ${list} only in the list, ${deny} closed.`;
+// How many files of some an audience may read, see listed and not see, in a sentence; and the same of each audience.
+export function countWords(audience, countOf, of = "the museum's disks") {
+  const counts = Object.keys(EFFECTS).map(countOf);
+  const [all, [read, list, deny]] = [counted(counts.reduce((sum, one) => sum + one), "file"), counts.map(grouped)];
+  return `Of all ${all} of ${of}, ${AUDIENCES[audience]}: ${read} to read, ${list} only in the list, ${deny} closed.`;
 }
 
-export const audienceCounts = (countOf) =>
-  Object.keys(AUDIENCES).map((audience) => countWords(audience, (effect) => countOf(audience, effect)));
+export const audienceCounts = (countOf, of) =>
+  Object.keys(AUDIENCES).map((audience) => countWords(audience, (effect) => countOf(audience, effect), of));
 
 export const ruleMeaning = (label) => (label === "D0" ? "no rule matches" : meaning(label));
 

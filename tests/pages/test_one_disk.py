@@ -14,7 +14,7 @@ READ = '{"audiences":["room","public","staff"],"select":{"all":true},"effect":"r
 BY_DEED, UNKNOWN = "rule 20 of deed 9", "since when: not in the journal"
 SAYS, PUT = "rule in words", "when, by whom, and why that rule itself was put"
 SINCE = "since when they may do just this with the file, by whichever rule (not since when that rule stands)"
-READS = f"read it {BY_DEED} "
+READS, ALL_3 = f"read it {BY_DEED} ", "Of all 3 files of disk 1002, the public: "
 LISTS = f"see its name, not read it (the desk gives out no file of type DEL) {BY_DEED} {UNKNOWN}"
 SHUT = "see only that a closed file is there, not its name"
 CLOSED = f"{SHUT} takedown {{}} of disk 1002 {UNKNOWN}"
@@ -47,7 +47,7 @@ def test_disk_says_what_it_is_and_who_gets_what_by_which_rule(museum, disk):
     assert disk.texts("#disk dd")[1:5:2] == [NOT, f"9, of “{DONOR_OF_9}”, signed on 0001-01-01"]
     assert disk.texts("#disk dd")[4:6] == ["3 files: 2 can be given out, 0 damaged", "it ends well"]
     assert "; not in use but marked as used: 0 blocks; with a wrong count: 0 tracks" in disk.texts("#disk dd")[6]
-    assert disk.texts("#disk .stands ul li")[0] == "The public: 1 to read, 1 only in the list, 1 closed."
+    assert disk.texts("#disk .stands ul li")[0] == f"{ALL_3}1 to read, 1 only in the list, 1 closed."
     closed, reads = CLOSED.format(1000), READS + UNKNOWN
     assert [row[2:3] + row[5:] for row in rows[:3]] == [
         ["TOUR", *[reads] * 3], ["-" * 16, *[LISTS] * 3], ["GUIDE", closed, closed, reads]]
@@ -212,7 +212,7 @@ def test_files_ticked_by_their_shown_names_are_taken_down_and_what_stands_after_
     assert [row[2:8] for row in rows] == due and "of each. It does not say what stands since. Begun, or" in rows[0][1]
     assert "desk-visits.log on the museum's machine says for 14" in rows[0][1], "who fetched them before is not said"
     clock = f"by the desk's clock, whose zone it does not tell: on {TODAY} at 12:"
-    assert f"asking: {clock}" in heads[1] and heads[1].endswith(f" UTC it was {TODAY} there)"), "in nobody's zone"
+    assert f"asking: {clock}" in heads[1] and f" UTC it was {TODAY} there). " in heads[1], "in nobody's zone"
     words = "slot (the file's place on its disk, counted from 0)", "rank (a place in the order of rules, lowest first)"
     assert (heads[3], heads[5]) == words and f"if you need it. {asked}" in rows[0][1]
     assert "(an apostrophe at the beginning of a cell, before =, +, - or @, is not part of its text; mom" in heads[1]
