@@ -234,9 +234,10 @@ def test_timeline_has_the_next_change_first_and_says_what_is_other_on_each_day(m
     two, one = "WELCOME.TXT (disk 1001, slot 0)TOUR (disk 1002, slot 0)", "LOGBOOK (disk 1003, slot 0)"
     closes = [f"Closes for the public: 2 files. {may}{nothing}", two,
               f"Closes for the public: 1 file. The day before they may {see}; then they may {nothing}", one]
-    opens = [f"Opens for the public: 2 files. The day before they may {nothing[:-1]}; then they may read them.", two,
-             f"Opens for the public: 1 file. The day before they may {nothing[:-1]}; then they may {see}.", one]
-    lists = [f"Closes for the public and the reading room: 2 files. {may}{see}.",
+    before = f"The day before they may {nothing[:-1]}; then they may "
+    opens = [f"Opens for the public: 2 files. {before}read them.", two,
+             f"Only in the list for the public: 1 file. {before}{see}.", one]
+    lists = [f"Only in the list for the public and the reading room: 2 files. {may}{see}.",
              "TOUR (disk 1002, slot 0)GUIDE (disk 1002, slot 2)"]
     back = f"The day before they may {see}; then they may read them."
     reads = [f"Opens for the public and the reading room: 2 files. {back}", lists[1]]
