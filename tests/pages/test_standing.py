@@ -22,6 +22,7 @@ SAYS = """addEventListener("beforeprint", () => {
 });"""
 SOUND = """“Sound” says: the bytes that the desk had that day have the SHA-256 with which the disk was taken in. It \
 says nothing of damaged files: a sound disk may have some."""
+GUESSED = "A short or common one can be guessed from its SHA-256."
 NOT = f"not in the journal, back to {in_utc(START)}, where it begins"
 
 def test_deed_is_put_with_name_and_reason(staff):
@@ -186,7 +187,7 @@ def test_key_is_put_given_away_and_dropped(museum, staff):
     rows = staff.go("keys")["rows"]
     assert [row[3] for row in rows] == ["Give it to the staffDrop", "Give it to the reading roomDrop"]
     shown = staff.fill("keys", key="another", audience="room").submit("keys")
-    assert (shown["result"], shown["stands"]) == ([f"Done: key of the reading room, SHA-256 {OTHER}."], ["3 keys."])
+    assert (shown["result"], shown["stands"]) == ([f"Done: key of the reading room, SHA-256 {OTHER}."], [f"3 keys. {GUESSED}"])
     assert staff.of_row(f"key {OTHER}", "Drop")["sure"] == [f"Drop key with SHA-256 {OTHER}?", NOBODY]
     assert staff.answer(True)["rows"] == rows
     museum.badges[OTHER] = "staff"
