@@ -107,8 +107,9 @@ async function rehearseOne({ method, path, body }, day, { changes, known, signal
 
 // Of a day that is over nothing opens or closes: `past` says which day, and by which rules.
 function groupWords({ opens, count, audiences, now, then }, past, first = "Now", other = "then they") {
-  const turn = past ? `More ${opens ? "open" : "closed"}` : (opens ? "Opens" : "Closes");
-  const sentence = `${then === "list" ? "Only in the list" : turn} for ${audienceWords(audiences)}: ${counted(count, "file")}.`;
+  const turns = past ? ["More open", "More closed"] : ["Opens", "Closes"];
+  const turn = then === "list" ? "Only in the list" : turns[opens ? 0 : 1];
+  const sentence = `${turn} for ${audienceWords(audiences)}: ${counted(count, "file")}.`;
   return `${sentence} ${first} they may ${EFFECTS[now]}; ${past || other} may ${EFFECTS[then]}.`;
 }
 
