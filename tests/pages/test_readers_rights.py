@@ -19,6 +19,8 @@ CLOSED = "This file is closed to %s. You may see %s."
 TAKEDOWN = "Closed by takedown 1 of disk %d (T%d.1). A takedown is how the staff closes files. Name it when you ask."
 WELCOME = ["WELCOME.TXT", "TXT text", "896"]
 UNREAD = "Damaged the drive could not read a block of it"
+# A script: what a print says of where it is from.
+FROM = "return document.getElementById('asked').dataset.from"
 DAMAGED = "read-error (the drive could not read a block of it)"
 
 @pytest.fixture
@@ -37,7 +39,9 @@ def test_caller_sees_the_disks_of_their_audience(reader, key, asks, disks):
     assert (shown["caller"], shown["disks"]) == (asks, disks)
     assert f"files: {'10 to read, 4' if is_staff else '4 to read, 2'} only listed." in shown["status"]
     assert reader.go("1004")["rows"][:1] == ([[*WELCOME, "Read it"]] if is_staff else [])
-    asked = f"The page asked the desk on 15 June 2026 at [0-9:]+ .*, with{'' if key else 'out'} a key[.]"
+    eyes = f"with{' a key, as the reading room or the staff' if key else 'out a key, as the public'} sees it[.]"
+    asked = f"The page asked the desk on 15 June 2026 at [0-9:]+ .*, {eyes}"
+    assert reader.cdp("Page.printToPDF") and reader.script(FROM) == f"The reading room, {reader.door.address}#/1004"
     assert re.fullmatch(asked, reader.text("#asked")), "what stands now has no hour"
     whom, ask = "you" if key else "the public", "rule 10 of deed 7 (R7.10). Turn to the museum's staff about this disk."
     closed = ["There is no file on it that you may see.", f"2 more files are closed to {whom}, name and all: {ask}"]
