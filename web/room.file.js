@@ -109,7 +109,6 @@ function showBytes(views, chosen) {
   }
 }
 
-// What is known of a file, in pairs.
 function factsOf({ kind, accession, file, bytes, digest, files }) {
   const place = files.findIndex((one) => one.slot === file.slot) + 1;
   const inUser = file.user ? `, of user ${file.user}` : "";
@@ -163,9 +162,8 @@ export async function showFile(number, slot, signal) {
   const aside = box("aside", "card", known, same, ways, quotes.says, question);
   aside.ariaLabel = "About the file";
   const image = element("div", null, { id: "picture", className: `monitor ${kind === "cpm8" ? "cpm8" : "d64"}` });
-  const says = element("p", null, { id: "shown-as", className: "quiet" });
   const stage = element("pre", null, { id: "bytes", tabIndex: 0, role: "region", ariaLabel: "What is in the file" });
-  const main = box("div", "", choices(views), says, image, stage);
+  const main = box("div", "", choices(views), element("p", null, { id: "shown-as", className: "quiet" }), image, stage);
   const fill = () => {
     save.href = URL.createObjectURL(new Blob([bytes], { type: "application/octet-stream" }));
     showBytes(views, views[0]);

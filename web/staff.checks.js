@@ -36,7 +36,6 @@ export function surveyed(survey, more = {}) {
   return box("dl", "", ...lines.flatMap(([term, text]) => [element("dt", term), element("dd", text)]));
 }
 
-// Checks a disk, and says in a section what was found.
 export async function checked(accession, section) {
   const { outcome } = await changed("POST", `/images/${accession}/check`);
   const isBad = outcome === "changed";

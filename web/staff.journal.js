@@ -39,7 +39,6 @@ const isFull = () => changes.length >= MOST;
 // Whether a change is of the deed of a disk, whose rules decide about this one too.
 const isOfDeed = (change, { deed }) => deed !== "" && change.deed === deed && !change.accession;
 
-// What a change is of.
 function ofWords(change) {
   if (change.accession) return `disk ${change.accession}`;
   const of = isOfDeed(change, disk) ? `, the deed of disk ${disk.accession}` : "";
@@ -121,7 +120,6 @@ export function explained(fault) {
   return element("p", words[fault.status], { className: "refused" });
 }
 
-// Reads what is older than what was read, and shows all.
 async function readOlder(tools) {
   const [before, reading] = [read.byId.size, lines.readOlder((line) => read.take(line), () => read.oldest, tools)];
   const fault = await reading.then(() => null, (came) => came);
@@ -150,7 +148,6 @@ function savedRecord([change, number]) {
   return [number, inUtc(moment), name, reason, ...words, method, path, status, body];
 }
 
-// Saves what is shown as a table for a spreadsheet.
 async function saveShown() {
   await draw();
   const { shown, which } = found(formOf("journal").elements);

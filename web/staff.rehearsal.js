@@ -57,7 +57,6 @@ export class Changes {
     this.file = null;
   }
 
-  // What opens comes first, then what closes.
   all() {
     return [...this.groups.values()].sort((one, other) => other.opens - one.opens || other.count - one.count);
   }

@@ -130,7 +130,6 @@ async function savedColumns(name, rules) {
   return { "Which files": files, "Donor of the deed": isOfDisk ? null : ({ scope }) => donors.get(scope) };
 }
 
-// Reads what stands anew, and shows it.
 async function showRules(name) {
   await readHeld(listName(name));
   draw(name);

@@ -14,7 +14,6 @@ export const EFFECT_AT = { public: 9, room: 11, staff: 13 };
 export const readVerdicts = (day, take, { progress, signal }) =>
   readTable(`/staff/verdicts/${day}`, { take, signal, progress: (count) => progress(`Reading ${day}`, count) });
 
-// The verdicts of one disk on a day.
 export async function verdictsOf({ accession, files }, day, { signal }) {
   const found = [];
   await readTable(`/staff/verdicts/${day}/${accession}`, { take: (record) => found.push(record), signal });
@@ -66,9 +65,8 @@ const MAY = {
 function because(record, audience, { rules, others }) {
   const faults = record[COLUMNS.faults].split(" ").map(explained).join("; ");
   const why = faults ? `damaged: ${faults}` : `the desk gives out no file of type ${record[COLUMNS.type]}`;
-  const isListed = effectOf(record, audience) !== record[EFFECT_AT[audience]];
   const past = others ? [rules, ...others(record, record[EFFECT_AT[audience] + 1])] : [];
-  return [isListed && why, ...past].filter(Boolean).join("; ");
+  return [effectOf(record, audience) !== record[EFFECT_AT[audience]] && why, ...past].filter(Boolean).join("; ");
 }
 
 export const mayWords = (record, audience, asked, why = because(record, audience, asked)) =>
@@ -86,7 +84,6 @@ export const audienceCounts = (countOf, of) =>
 
 export const ruleMeaning = (label) => (label === "D0" ? "no rule matches" : meaning(label));
 
-// The rule that decides, in words.
 export const ruleShown = (record, audience) =>
   element("span", ruleMeaning(record[EFFECT_AT[audience] + 1]), { className: "title" });
 
