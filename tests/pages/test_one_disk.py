@@ -209,7 +209,7 @@ def test_files_ticked_by_their_shown_names_are_taken_down_and_what_stands_after_
     assert "Save the report" not in str(disk.go("disk/1003")["result"]) and disk.go("keys") and disk.go("disk/1002")
     due = [["1002", slot, name, rank, f"the file at slot {slot} {ALWAYS}", "done"] for name, rank, slot in rules]
     heads, *rows = saved_table(disk, "disk-1002-report-of", "Save the report")
-    assert [row[2:8] for row in rows] == due and "of each. It does not say what stands since. Begun, or" in rows[0][1]
+    assert [row[2:8] for row in rows] == due and "stands since. This work was begun" in rows[0][1]
     assert "desk-visits.log on the museum's machine says for 14" in rows[0][1], "who fetched them before is not said"
     clock = f"by the desk's clock, whose zone it does not tell: on {TODAY} at 12:"
     assert f"asking: {clock}" in heads[1] and f" UTC it was {TODAY} there). " in heads[1], "in nobody's zone"

@@ -187,7 +187,8 @@ def test_key_is_put_given_away_and_dropped(museum, staff):
     rows = staff.go("keys")["rows"]
     assert [row[3] for row in rows] == ["Give it to the staffDrop", "Give it to the reading roomDrop"]
     shown = staff.fill("keys", key="another", audience="room").submit("keys")
-    assert (shown["result"], shown["stands"]) == ([f"Done: key of the reading room, SHA-256 {OTHER}."], [f"3 keys. {GUESSED}"])
+    done = f"Done: key of the reading room, SHA-256 {OTHER}."
+    assert (shown["result"], shown["stands"]) == ([done], [f"3 keys. {GUESSED}"])
     assert staff.of_row(f"key {OTHER}", "Drop")["sure"] == [f"Drop key with SHA-256 {OTHER}?", NOBODY]
     assert staff.answer(True)["rows"] == rows
     museum.badges[OTHER] = "staff"
@@ -223,7 +224,7 @@ def test_check_says_which_disk_has_changed_in_a_warning_that_stays(museum, staff
     assert [row[1:] for row in one["rows"][:2]] == [["never", "", "Check"], [TODAY, "sound", "Check"]]
     assert shown["result"][0] == f"{words} 0 failed, 1 in doubt, 1 not sent yet.{RESTORE}"
     _, *rows = saved_table(staff, "checks-report-of", "Save the report")
-    assert f"This work was begun, or gone on with, on {TODAY} at 12:" in shown["result"][-1], "a report that nobody can date"
+    assert f"This work was begun, or gone on with, on {TODAY} at" in shown["result"][-1], "a report without a day"
     assert rows[0][1].startswith("Checks of disks that were to be made, and what became of each. It does not")
     assert SOUND in rows[0][1] and [row[3] for row in rows].count("sound") == 3, "a word that nobody explains"
     assert staff.push("Go on with the rest")["result"][0] == f"6 disks checked: 5 sound, 1 CHANGED: 1003.{RESTORE}"
