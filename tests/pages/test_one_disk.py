@@ -191,8 +191,8 @@ def test_files_ticked_by_their_shown_names_are_taken_down_and_what_stands_after_
     assert disk.push("Take down what is ticked")["sure"][0] == due.format("") and disk.answer(False)
     assert disk.set("#ticked [value=room]", True) or disk.push("Take down what is ticked")
     museum.rules["T1002"] = takedown(7, 2)
-    _, *saved = saved_table(disk, f"disk-1002-before-an-answer-{TODAY}-asked", "Save what stands now, first")
-    assert [str(saved).count(one) for one in ("'read it'", "Taken in: ")] == [4, 1], "what stood at the opening"
+    heads, *saved = saved_table(disk, f"disk-1002-before-an-answer-{TODAY}-asked", "Save what stands now, first")
+    assert [str(saved).count("'read it'"), heads[-1].count("taken in: ")] == [4, 1], "what stood at the opening"
     assert f"It is what stood before an answer to: “{due.format(' and the reading room')}”" in saved[0][1]
     del museum.rules["T1002"][7]
     disk.door.before = lost_at(2)
