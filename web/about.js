@@ -31,8 +31,7 @@ export function askStaff(what, of) {
 // Rows that are no name and value, values that are too long, and links to anything but pages are left out.
 function take([name, value, ...more]) {
   const isWanted = NAMES.includes(name) && value && value.length <= LONGEST && more.length === 0;
-  const isLink = ["imprint", "privacy"].includes(name);
-  const kept = isLink ? isWanted && pageOf(value) : value;
+  const kept = ["imprint", "privacy"].includes(name) ? isWanted && pageOf(value) : value;
   if (isWanted && kept && (name !== "mail" || MAIL.test(value))) about[name] = kept;
 }
 

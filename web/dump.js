@@ -33,11 +33,9 @@ function chain(bytes, start) {
 
 function cbmFile(bytes, entry, slot) {
   const [type, isClosed] = [TYPES[entry[2] & 15] ?? "OTHER", entry[2] >= 128];
-  const starts = isClosed ? (STARTS[type] ?? []) : [];
-  const chains = starts.map((at) => chain(bytes, blockAt(entry[at], entry[at + 1])));
-  const name = printed(trimmed(entry.subarray(5, 21), 0xa0), [0x25]);
+  const chains = ((isClosed && STARTS[type]) || []).map((at) => chain(bytes, blockAt(entry[at], entry[at + 1])));
   const [ends, units] = [chains.map(({ end }) => end), chains.flatMap(({ blocks }) => blocks)];
-  return { slot, user: null, name, type, isClosed, ends, units };
+  return { slot, user: null, name: printed(trimmed(entry.subarray(5, 21), 0xa0), [0x25]), type, isClosed, ends, units };
 }
 
 function cbmDisk(bytes) {
@@ -87,12 +85,11 @@ function cpmDisk(bytes) {
   for (const file of files) {
     const { entries, units } = file;
     const extents = entries.map(extentOf);
-    const reached = entries.flatMap((entry) => Array.from(entry.subarray(16, 16 + Math.ceil(entry[15] / 8))));
     file.faults = faultsOf({
       "bad-count": entries.some((entry) => entry[15] > 128), duplicate: new Set(extents).size < extents.length,
       gap: extents.some((one) => one && !extents.includes(one - 1)),
       short: entries.some((entry, at) => entry[15] < 128 && extents[at] < extents.at(-1)),
-      hole: reached.includes(0),
+      hole: entries.some((entry) => entry.subarray(16, 16 + Math.ceil(entry[15] / 8)).includes(0)),
       "off-disk": units.some((unit) => unit > 242),
       crossed: units.some((unit) => unit === 1 || taken.get(unit).length > 1),
     });

@@ -1,5 +1,4 @@
-// Long lists: tables whose rows are drawn, in blocks, as far as they are seen. Those far from the screen are a gap: one
-// empty row as high as they are.
+// Long lists: tables of which the rows near the screen are drawn, in blocks; one empty row is as high as the others.
 import { shownName } from "./names.js";
 import { box, cell, element, grouped, table } from "./shared.js";
 

@@ -37,8 +37,7 @@ function bitmapOf(bytes, { bitmap = 0, screen, colours, ground }) {
 
 // Signs of eight bytes, 32 side by side, white on blue.
 function signsOf(bytes) {
-  const count = bytes.length / 8;
-  const made = picture(32 * 12 + 4, Math.ceil(count / 32) * 12 + 4);
+  const made = picture(32 * 12 + 4, Math.ceil(bytes.length / (8 * 32)) * 12 + 4);
   for (let at = 0; at < bytes.length; at += 1) {
     const [sign, row] = [at >> 3, at & 7];
     const [left, top] = [4 + (sign % 32) * 12, 4 + Math.floor(sign / 32) * 12 + row];

@@ -5,8 +5,9 @@ import { ask, box, counted, element, keyInUse, meaning, textOf } from "./shared.
 import { pause } from "./stream.js";
 import { noteOf } from "./titles.js";
 
-// At how many slots of a disk the page asks at most.
+// At how many slots of a disk the page asks at most; and what is said where the desk does not answer.
 const MOST = 40;
+export const UNTOLD = "Whether other files are closed the desk did not tell.";
 
 // Which rules decide about some files, each in words with its label, and about how many where there are several.
 export function rulesOf(files) {

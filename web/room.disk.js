@@ -1,5 +1,5 @@
 // One disk: its title, what may be read of it, and its directory as its own machine shows it.
-import { closedNow, closedWords, deedWords, rulesOf } from "./room.closed.js";
+import { UNTOLD, closedNow, closedWords, deedWords, rulesOf } from "./room.closed.js";
 import { allDisks, familyOf, known, lastShown, listingOf, mayRead, nameOfDisk, nameOfFile } from "./room.lists.js";
 import { typeWords } from "./room.lists.js";
 import { askAbout, citation, inSight, link, neighbours, numberOf, permission, quoting } from "./room.parts.js";
@@ -10,8 +10,7 @@ import { noteOf } from "./titles.js";
 function fileRow(kind, accession, file, hasUsers) {
   const [name, { word, colour, why }] = [nameOfFile(kind, file), permission(kind, file)];
   const way = (words, more) => link(words, `${accession}/${file.slot}`, more);
-  const badge = way(word, { ariaLabel: `${word}: ${name}`, tabIndex: -1, className: `badge ${colour}` });
-  const may = box("span", "", badge);
+  const may = box("span", "", way(word, { ariaLabel: `${word}: ${name}`, tabIndex: -1, className: `badge ${colour}` }));
   if (why) may.append(" ", element("small", why));
   const type = box("span", "", file.type, " ", element("small", typeWords(kind, file)));
   const bytes = cell("Bytes", file.size === null ? "" : file.size.toLocaleString("en"), "number");
@@ -57,20 +56,21 @@ export async function showDisk(number, signal) {
   const accession = Number(number);
   const [{ kind, deed, files }, title] = [await listingOf(accession), nameOfDisk(accession)];
   const sight = inSight(files.length, files.filter(mayRead).length);
-  const facts = `Disk ${accession} \u00b7 ${kindWords(kind)} \u00b7 ${sight}`;
   const hasUsers = files.some((file) => file.user);
   const columns = ["Name", "Type", "Bytes", ...(hasUsers ? ["User"] : []), "You may"];
   const list = table("Files", columns, files.map((file) => fileRow(kind, accession, file, hasUsers)));
   Object.assign(list, { id: "files", className: "files" });
   const none = element("p", "There is no file on it that you may see.", { className: "callout" });
-  const [rules, staff] = [files.length ? `What decides here: ${rulesOf(files)}. ` : "", askAbout(accession)];
+  const rules = files.length ? `What decides about the files that you see: ${rulesOf(files)}. ` : "";
+  const staff = askAbout(accession);
   const why = box("p", "quiet", rules, deedWords(deed), staff);
-  const say = (closed) => closed && why.before(box("p", "callout", `${closed} `, staff));
-  closedNow(accession, files, signal).then(closedWords).then(say, () => {});
+  const closed = element("p", "Looking for closed files ..", { className: "callout" });
+  const say = (words) => (words ? closed.replaceChildren(`${words} `, staff) : closed.remove());
+  closedNow(accession, files, signal).then(closedWords).catch(() => UNTOLD).then(say);
   const quotes = quoting(() => citation(accession, kind));
-  const text = box("div", "", ...zipWay({ accession, kind, files, quotes }), files.length ? list : none, why);
+  const text = box("div", "", ...zipWay({ accession, kind, files, quotes }), files.length ? list : none, closed, why);
   const aside = files.length ? machine({ kind, accession, files }) : "";
-  const head = [element("p", facts, { className: "quiet" })];
+  const head = [element("p", `Disk ${accession} \u00b7 ${kindWords(kind)} \u00b7 ${sight}`, { className: "quiet" })];
   if (noteOf(accession)) head.push(element("p", noteOf(accession), { className: "note" }));
   const parts = [...head, box("div", "split", text, aside), await otherDisks(accession)].filter(Boolean);
   return { heading: title, title: `${title}${numberOf(accession)}`, parts };

@@ -20,10 +20,9 @@ NARROW.addEventListener("change", () => part("bytes") && showAnew());
 // The ways to show bytes: an id and a word of each one's button, what to say of it, and its text or its picture.
 function viewsOf(kind, type, bytes) {
   const views = kind === "cpm8" ? cpmViews(bytes, type) : cbmViews(bytes);
-  const text = () => hexText(bytes, NARROW.matches ? 8 : 16);
   const isProgram = views.length === 0 && kind !== "cpm8" && type === "PRG";
   const says = `${isProgram ? noListing(bytes) : "Shown as bytes"}: the place, hexadecimal digits, and ASCII.`;
-  return [...views, { id: "as-hex", word: "Bytes", says, text }];
+  return [...views, { id: "as-hex", word: "Bytes", says, text: () => hexText(bytes, NARROW.matches ? 8 : 16) }];
 }
 
 // Where a program of the 1541 is loaded, and where BASIC begins in its machines.
@@ -62,8 +61,7 @@ function cbmViews(bytes) {
     if (screen && !listing) views.push({ id: "as-screen", word: "Screen", says: onScreen, make: () => screen });
     views.push({ id: "as-text", word: "Text", says, text, letters });
   }
-  const says = image && `Shown as ${image.words}.`;
-  const view = image && { id: "as-picture", word: "Picture", says, make: image.make };
+  const view = image && { id: "as-picture", word: "Picture", says: `Shown as ${image.words}.`, make: image.make };
   return image ? (image.isSure ? [view, ...views] : [...views, view]) : views;
 }
 
@@ -111,16 +109,14 @@ function showBytes(views, chosen) {
   }
 }
 
-// What is known of a file, in pairs.
 function factsOf({ kind, accession, file, bytes, digest, files }) {
   const place = files.findIndex((one) => one.slot === file.slot) + 1;
-  const disk = box("span", "", link(nameOfDisk(accession), accession), numberOf(accession));
   const inUser = file.user ? `, of user ${file.user}` : "";
   const blocks = kind === "cpm8" ? counted(bytes.length / 128, "record") : counted(blocksOf(bytes.length), "block");
   const known = basicListing(bytes, false) ? "a BASIC program" : pictureIn(bytes)?.words;
   const words = (kind !== "cpm8" && known) || typeWords(kind, file).split(",")[0];
   const pairs = {
-    Disk: disk,
+    Disk: box("span", "", link(nameOfDisk(accession), accession), numberOf(accession)),
     Place: `file ${place} of ${files.length} on its list, at slot ${file.slot} of the directory${inUser}`,
     "Printed name": nameOfFile(kind, file) === file.name ? null : element("span", file.name, { className: "name" }),
     Type: [file.type, words, `of ${kindWords(kind)}`].filter(Boolean).join(", "),
@@ -166,9 +162,8 @@ export async function showFile(number, slot, signal) {
   const aside = box("aside", "card", known, same, ways, quotes.says, question);
   aside.ariaLabel = "About the file";
   const image = element("div", null, { id: "picture", className: `monitor ${kind === "cpm8" ? "cpm8" : "d64"}` });
-  const says = element("p", null, { id: "shown-as", className: "quiet" });
   const stage = element("pre", null, { id: "bytes", tabIndex: 0, role: "region", ariaLabel: "What is in the file" });
-  const main = box("div", "", choices(views), says, image, stage);
+  const main = box("div", "", choices(views), element("p", null, { id: "shown-as", className: "quiet" }), image, stage);
   const fill = () => {
     save.href = URL.createObjectURL(new Blob([bytes], { type: "application/octet-stream" }));
     showBytes(views, views[0]);

@@ -147,4 +147,6 @@ allDisks().catch(() => {});
 listenForKey(useKey);
 part("key-box").hidden = false;
 window.addEventListener("hashchange", () => show(true));
+// a print says where it is from
+window.addEventListener("beforeprint", () => (part("asked").dataset.from = `${house()}, ${location.href}`));
 show(false);

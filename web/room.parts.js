@@ -54,8 +54,9 @@ export const numberOf = (accession) => (titleOf(accession) ? `, disk ${accession
 // A moment by the clock of this computer, with its zone; and, as evidence, when the page asked the desk, and as whom.
 export const momentWords = (at = Date.now()) =>
   new Date(at).toLocaleString("en-GB", { dateStyle: "long", timeStyle: "long" });
+const eyes = () => (keyInUse() ? "with a key, as the reading room or the staff" : "without a key, as the public");
 export const askedWords = (at) =>
-  `The page asked the desk on ${momentWords(at)} by the reader's clock, with${keyInUse() ? "" : "out"} a key.`;
+  `The page asked the desk on ${momentWords(at)} by the reader's clock, ${eyes()} sees it.`;
 
 // What is to be said of an address at which only this computer finds the page: the staff's own way, or a trial.
 const IS_OWN = ["127.0.0.1", "localhost", "[::1]"].includes(location.hostname);

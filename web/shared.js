@@ -149,10 +149,7 @@ export async function ask(path, more = {}) {
 }
 
 // The object in a reply. A connection that ends too early is a lost one.
-export async function askObject(path, more) {
-  const reply = await ask(path, more);
-  return JSON.parse(await loaded(reply.text()));
-}
+export const askObject = async (path, more) => JSON.parse(await loaded((await ask(path, more)).text()));
 
 const wordsFor = (fault) => {
   const name = textOf(fault.said.error);
@@ -197,8 +194,6 @@ export async function digestOf(bytes) {
   const digest = await crypto.subtle.digest("SHA-256", bytes);
   return Array.from(new Uint8Array(digest), (byte) => byte.toString(16).padStart(2, "0")).join("");
 }
-
-// The form for the key, and the link to what stands below it
 
 export const asHeaderField = (text) => text.replace(/^[ \t]+|[ \t]+$/g, "");
 

@@ -132,7 +132,6 @@ function changeOf({ moment, at, status, method, path, staff, note, body }) {
   const [name, reason] = [typed(textOf(staff)), typed(textOf(note))];
   const { accession, deed, check, digest } = wayOf(change)?.groups ?? {};
   const place = change.path.split("?")[0].toLowerCase().replace(/^(\/accessions\/.*)\/[0-9a-f]{64}$/, "$1");
-  const search = `${name}\n${reason}`.toLowerCase();
   const more = { accession, deed, digest: digest?.toLowerCase(), isCheck: check !== undefined };
-  return { ...change, place, name, reason, search, ...more };
+  return { ...change, place, name, reason, search: `${name}\n${reason}`.toLowerCase(), ...more };
 }

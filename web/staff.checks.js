@@ -36,7 +36,6 @@ export function surveyed(survey, more = {}) {
   return box("dl", "", ...lines.flatMap(([term, text]) => [element("dt", term), element("dd", text)]));
 }
 
-// Checks a disk, and says in a section what was found.
 export async function checked(accession, section) {
   const { outcome } = await changed("POST", `/images/${accession}/check`);
   const isBad = outcome === "changed";
@@ -93,7 +92,7 @@ async function showChecks() {
   Object.assign(columns, { Outcome: (one) => one.outcome ?? "", "": null });
   const never = checks.filter(({ day }) => day === null).length;
   const words = foundOf(checks, counted(checks.length, "disk"), `; ${grouped(never)} never checked.`);
-  showList("checks", words, ["latest checks", columns, checks, checkRow], SOUND);
+  showList("checks", words, ["latest checks", columns, checks, checkRow], { more: SOUND });
   formOf("checks").elements.before.defaultValue = dayAfter(today(), -DAYS);
 }
 

@@ -46,7 +46,6 @@ function deedRow(one) {
   return row([number, donor, signed, disks, rulesCell(one), buttons]);
 }
 
-// Reads the deeds anew, and shows them.
 export async function showDeeds() {
   await readHeld("deeds");
   const count = element("p", held.deeds.length ? `${counted(held.deeds.length, "deed")}.` : "There is no deed.");

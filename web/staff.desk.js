@@ -70,8 +70,7 @@ export async function changed(method, path, body) {
 }
 
 export async function send(method, path, body) {
-  const said = await changed(method, path, body);
-  if (said.done !== true) throw new TypeError("it is not done");
+  if ((await changed(method, path, body)).done !== true) throw new TypeError("it is not done");
 }
 
 export const show = (name, ...parts) => part(name).querySelector(".result").replaceChildren(...parts);

@@ -134,7 +134,8 @@ function drawFiles() {
   const { files, names, asked } = shown;
   if (!names) return frames.files.replaceChildren(element("p", "Who gets what of it is not read yet."));
   const columns = ["Take down", "Slot", "Name", "Type", "Bytes", ...Object.values(AUDIENCES)];
-  const counts = audienceCounts((who, effect) => files.filter((record) => effectOf(record, who) === effect).length);
+  const countOf = (who, effect) => files.filter((record) => effectOf(record, who) === effect).length;
+  const counts = audienceCounts(countOf, `disk ${shown.survey.accession}`);
   frames.files.replaceChildren(
     dated("h2", `Who gets what on ${asked.day}`),
     box("ul", "", ...counts.map((text) => element("li", text))),
@@ -150,27 +151,26 @@ const HEADS = [
   ...[...SAVED_HEADS, `when, by whom, and why that rule itself was put (${ANY_NAME})`],
   `since when they may do just this with the file, by whichever rule (not since when that rule stands). ${SINCE}`,
   `until when they may do just this, and what then, by the rules that stood when the desk was asked. ${HOLDS}`,
-  "about the disk (in one row only)",
 ];
 
-// Saves who gets what of a disk, what the rule says that decides, and who put it; gives the name of the file.
+// Saves who gets what of a disk, what the rule says that decides, and who put it; gives the name of the file. What is
+// said of the disk is the head of a column without cells.
 function saveDisk(disk, more = "") {
   const [{ survey, things, files, names, asked }, { accession, deed }] = [disk, disk.survey];
   const digest = disk.same?.digests.get(String(accession)) ?? "not known";
   const looked = disk.isWhole ? ` The page looked for lines of the journal in each month back to ${disk.last}.` : "";
-  const came = `Taken in: ${things[0].origin}; its SHA-256, as the journal has it: ${digest}.`;
+  const came = `Disk ${accession}, taken in: ${things[0].origin}; its SHA-256, as the journal has it: ${digest}.`;
   const whole = `${came}${looked} ${sameWords(disk.same)} ${NAMES}`;
   const said = new Map(things.map(({ label, rule }) => [label, rule && ruleWords(rule, names)]));
   const rowOf = ([file, who, at]) => {
     const { origin } = things.find(({ label }) => label === file[EFFECT_AT[who] + 1]) ?? {};
-    const more = [sinceOf(disk, file, who), untilOf(disk, file, who, at), at === 0 && who === "public" ? whole : ""];
-    return [...savedVerdict(file, who, { ...asked, said }), origin, ...more];
+    const times = [sinceOf(disk, file, who), untilOf(disk, file, who, at)];
+    return [...savedVerdict(file, who, { ...asked, said }), origin, ...times, ""];
   };
-  const whose = `disk ${accession}, under deed ${deed} of ${signedWords(survey)}`;
-  const about = `Who gets what of ${whose}. This table has all files of the disk: ${files.length}. \
-${askedWords(asked)}${more} It does not say who has read or copied a file.${files.length ? "" : ` ${whole}`}`;
+  const about = `Who gets what of disk ${accession}, under deed ${deed} of ${signedWords(survey)}. This table has all \
+files of the disk: ${files.length}. ${askedWords(asked)}${more} It does not say who has read or copied a file.`;
   const name = `disk-${accession}${more && "-before-an-answer"}-${asked.day}-asked`;
-  return saveTable(name, asked.moment, about, HEADS, everyVerdict(disk), rowOf);
+  return saveTable(name, asked.moment, about, [...HEADS, whole], everyVerdict(disk), rowOf);
 }
 
 // Asks the desk for a disk, and saves what it says now, unless that is stopped.

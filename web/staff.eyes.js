@@ -24,10 +24,9 @@ async function read(day, tools) {
   // most texts are those of the line before; a text to look in is kept already
   let last = [];
   const kept = (text, at) => (text === last[at] ? last[at] : at === SEARCHED ? text : once(text));
-  const take = (record) => files.push((last = [...record, searched(record)].map(kept)));
   asked.said = new Map((await readRules(tools.signal)).map(({ label, rule }) => [label, ruleWords(rule)]));
   const past = day < today() ? await pastOf(day, tools) : {};
-  await readVerdicts(day, take, tools);
+  await readVerdicts(day, (record) => files.push((last = [...record, searched(record)].map(kept))), tools);
   seen = { ...asked, files, others: past.others, past: past.words };
 }
 
@@ -61,8 +60,7 @@ async function lookThrough({ audience, words, showsClosed }, all) {
   const [disk, ...others] = new Set(files.map((file) => file[COLUMNS.accession]));
   const of = disk && others.length === 0 ? ` of disk ${disk}` : "";
   const only = of && `, only${of}, which has ${all.filter((file) => file[COLUMNS.accession] === disk).length}`;
-  const which = `${grouped(files.length)} of ${counted(all.length, "file")}${by}${only}${more}.`;
-  return { files, counts, of, which };
+  return { files, counts, of, which: `${grouped(files.length)} of ${counted(all.length, "file")}${by}${only}${more}.` };
 }
 
 function fileRow(file, audience, asked) {
@@ -86,12 +84,11 @@ async function draw(wait) {
   stands.setAttribute("aria-busy", "false");
   if (of !== seen) return;
   const columns = ["Disk", "Kind", "Slot", "Name", "Type", "They may", "Rule"];
-  const rowOf = (file) => fileRow(file, asked.audience, of);
   const heading = dated("h2", `What ${AUDIENCES[asked.audience]} gets ${of.words}`);
   const shown = `Shown: ${which} ${askedWords(of)}`;
   const words = [countWords(asked.audience, (effect) => counts[effect]), shown, of.past ?? []].flat();
-  const made = files.length ? [longTable("verdicts", columns, files, rowOf)] : [];
-  stands.replaceChildren(heading, ...words.map((text) => dated("p", text)), ...made);
+  const made = longTable("verdicts", columns, files, (file) => fileRow(file, asked.audience, of));
+  stands.replaceChildren(heading, ...words.map((text) => dated("p", text)), files.length ? made : "");
   forgetSaved("eyes");
   part("eyes").querySelector(".found").hidden = false;
 }
@@ -138,8 +135,7 @@ export function listen() {
   options(audience, AUDIENCES);
   form.addEventListener("submit", () => work("eyes", look));
   // the table follows the typing, once nothing more was typed for 150 ms
-  const redraw = () => seen.files && draw(150);
-  [audience, closed, words].forEach((field) => field.addEventListener("input", redraw));
+  [audience, closed, words].forEach((field) => field.addEventListener("input", () => seen.files && draw(150)));
   words.addEventListener("keydown", (event) => event.key === "Enter" && event.preventDefault());
   button.parentNode.append(...saver(button, saveShown));
 }

@@ -20,5 +20,5 @@ export function forecast(files, rules, day) {
   return Object.fromEntries(Object.keys(AUDIENCES).map((audience) => [audience, effectsFor(audience)]));
 }
 
-export const forecastWords = (forecasts) =>
-  audienceCounts((of, effect) => forecasts.flatMap((one) => one[of]).filter((one) => one === effect).length);
+export const forecastWords = (forecasts) => audienceCounts(
+  (of, effect) => forecasts.flatMap((one) => one[of]).filter((one) => one === effect).length, "these disks");

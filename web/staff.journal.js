@@ -6,7 +6,7 @@ import { dated, formOf, show, work } from "./staff.desk.js";
 import { Lines, MONTHS, MOST, PIECE } from "./staff.lines.js";
 import { limitFields } from "./staff.ruleform.js";
 import { forgetSaved, saveTable, saver } from "./staff.saved.js";
-import { isNoDisk, namesOf, verdictsOf } from "./staff.verdicts.js";
+import { isNoDisk, readNames } from "./staff.verdicts.js";
 import { inUtc, momentNow, whenWords } from "./staff.words.js";
 import { withTitle } from "./titles.js";
 
@@ -30,8 +30,7 @@ async function knowDisk(accession) {
   disk = { ...NO_DISK, accession };
   if (accession === "") return;
   const survey = await askObject(`/images/${accession}/survey`);
-  // (names are the same on each day)
-  const names = namesOf(await verdictsOf(survey, momentNow().slice(0, 10), {}));
+  const names = await readNames(survey);
   if (disk.accession === accession) disk = { accession, deed: String(survey.deed), names };
 }
 
@@ -40,7 +39,6 @@ const isFull = () => changes.length >= MOST;
 // Whether a change is of the deed of a disk, whose rules decide about this one too.
 const isOfDeed = (change, { deed }) => deed !== "" && change.deed === deed && !change.accession;
 
-// What a change is of.
 function ofWords(change) {
   if (change.accession) return `disk ${change.accession}`;
   const of = isOfDeed(change, disk) ? `, the deed of disk ${disk.accession}` : "";
@@ -50,19 +48,17 @@ function ofWords(change) {
 // The changes to show, and words for which these are.
 function found({ accession: { value: number }, deed, words, day, checks }) {
   const text = words.value.trim();
-  const isSaid = ({ search }) => search.includes(text.toLowerCase());
   const its = disk.deed ? `and of its deed ${disk.deed}, which decides about it too` : "of whose deed nothing is known";
   const holds = [
     [number, `of disk ${number} ${its}`, (change) => change.accession === number || isOfDeed(change, disk)],
     [deed.value, `of deed ${deed.value}`, (change) => change.deed === deed.value],
-    [text, `with \u201c${text}\u201d in the name or the reason`, isSaid],
+    [text, `with \u201c${text}\u201d in the name or the reason`, ({ search }) => search.includes(text.toLowerCase())],
     [day.value, `of ${day.value} in UTC`, ({ moment }) => inUtc(moment).startsWith(day.value)],
     [!checks.checked, "without checks of disks", (change) => change.isCheck !== true],
     [disk.names, `with the names of files as disk ${number} had them when the page asked for it`, () => true],
   ].filter(([value]) => value);
   const shown = changes.filter((change) => holds.every(([, , isFound]) => isFound(change)));
-  const which = [`${counted(shown.length, "change")} of these`, ...holds.map((one) => one[1])].join(", ");
-  return { shown, which };
+  return { shown, which: [`${counted(shown.length, "change")} of these`, ...holds.map((one) => one[1])].join(", ") };
 }
 
 // The names of the files of a disk, by their slots; where they were not read, whose file is meant.
@@ -124,14 +120,12 @@ export function explained(fault) {
   return element("p", words[fault.status], { className: "refused" });
 }
 
-// Reads what is older than what was read, and shows all.
 async function readOlder(tools) {
   const [before, reading] = [read.byId.size, lines.readOlder((line) => read.take(line), () => read.oldest, tools)];
   const fault = await reading.then(() => null, (came) => came);
   changes = read.inOrder();
   await draw();
-  const count = counted(changes.length - before, before ? "older change" : "change");
-  return fault ? explained(fault) : `Read: ${count}.`;
+  return fault ? explained(fault) : `Read: ${counted(changes.length - before, before ? "older change" : "change")}.`;
 }
 
 // Where that was the last, the button for it takes no focus any more.
@@ -154,7 +148,6 @@ function savedRecord([change, number]) {
   return [number, inUtc(moment), name, reason, ...words, method, path, status, body];
 }
 
-// Saves what is shown as a table for a spreadsheet.
 async function saveShown() {
   await draw();
   const { shown, which } = found(formOf("journal").elements);

@@ -37,7 +37,6 @@ async function loadView(view) {
   view.open = show;
 }
 
-// Shows the view of the address, with what stands now.
 function showView(focuses) {
   if (!taken) return;
   const { name, number } = place();

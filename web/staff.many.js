@@ -30,7 +30,7 @@ const isDoubtful = (item) => outcomeOf(item)?.includes(DOUBT);
 export async function sendMany(run, { progress, signal }) {
   const left = run.items.filter((item) => !isOver(item));
   run.begun = momentNow();
-  run.last = `Begun, or gone on with, ${whenWords(run.begun)}.`;
+  run.last = `This work was begun, or gone on with, ${whenWords(run.begun)}.`;
   for (const [at, item] of left.entries()) {
     if (signal.aborted) break;
     progress("Sending", at, left.length);

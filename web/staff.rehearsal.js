@@ -57,7 +57,6 @@ export class Changes {
     this.file = null;
   }
 
-  // What opens comes first, then what closes.
   all() {
     return [...this.groups.values()].sort((one, other) => other.opens - one.opens || other.count - one.count);
   }
@@ -107,7 +106,8 @@ async function rehearseOne({ method, path, body }, day, { changes, known, signal
 
 // Of a day that is over nothing opens or closes: `past` says which day, and by which rules.
 function groupWords({ opens, count, audiences, now, then }, past, first = "Now", other = "then they") {
-  const turn = past ? `More ${opens ? "open" : "closed"}` : `${opens ? "Opens" : "Closes"}`;
+  const turns = past ? ["More open", "More closed"] : ["Opens", "Closes"];
+  const turn = then === "list" ? "Only in the list" : turns[opens ? 0 : 1];
   const sentence = `${turn} for ${audienceWords(audiences)}: ${counted(count, "file")}.`;
   return `${sentence} ${first} they may ${EFFECTS[now]}; ${past || other} may ${EFFECTS[then]}.`;
 }

@@ -25,8 +25,7 @@ export function limitFields(form) {
 export function makeRuleForm(name, form) {
   form.append(part("rule-fields").content.cloneNode(true));
   form.querySelector("fieldset").append(...Object.keys(AUDIENCES).map(audienceBox));
-  const ways = Object.entries(SELECTORS).map(([way, { choice }]) => [way, choice]);
-  options(form.elements.how, Object.fromEntries(ways));
+  options(form.elements.how, Object.fromEntries(Object.entries(SELECTORS).map(([way, { choice }]) => [way, choice])));
   options(form.elements.effect, EFFECTS, RULES[name].effects);
   form.elements.how.addEventListener("change", () => chooseWay(form.elements));
   form.addEventListener("change", () => needAudience(form));

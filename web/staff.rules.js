@@ -1,15 +1,17 @@
 // Rules of deeds, and takedowns: the forms that put and change them, and the tables of those that stand.
 import { cell, counted, element, loaded, part, row } from "./shared.js";
-import { buttonsCell, change, dated, diskCell, formOf, listName, readHeld, rulesOf, send } from "./staff.desk.js";
+import { buttonsCell, change, dated, diskCell, formOf, held, listName, readHeld, rulesOf, send } from "./staff.desk.js";
 import { showChange, shownAnew, showsAnew, standing } from "./staff.desk.js";
 import { MOST_DISKS, accessionsIn, placeOf } from "./staff.ranks.js";
 import { fillRule, makeRuleForm, ruleIn } from "./staff.ruleform.js";
 import { showList } from "./staff.saved.js";
-import { RULES, VISITS, ruleTexts, ruleWords, standingWords } from "./staff.words.js";
+import { readNames } from "./staff.verdicts.js";
+import { RULES, VISITS, filesWords, ruleTexts, ruleWords, signedWords, standingWords } from "./staff.words.js";
 import { titleOf } from "./titles.js";
 
-// Of how many disks the page says what their takedowns replace; what is typed; what only a change needs, loaded then.
+// Of how many disks the page says more, as what their takedowns replace; what is typed; what only a change needs.
 const MOST_NOTES = 10;
+const FIRST = "Takedowns of a disk come before the rules of its deed: by rank, the first that matches decides.";
 const scopesIn = (name, typed) => (name === "rules" ? [Number(typed)] : (accessionsIn(typed) ?? []));
 const rehearsals = () => loaded(import("./staff.rehearsal.js"));
 
@@ -107,10 +109,27 @@ function draw(name) {
   const textOf = (column) => [column, (one) => ruleTexts(one.rule)[column]];
   const columns = { [of]: ({ scope: number }) => number, Rank: ({ rule }) => rule.rank };
   Object.assign(columns, Object.fromEntries(["For whom", "Which files", "They may", "Days"].map(textOf)), { "": null });
-  showList(name, count, [`${word}s that stand`, columns, shown, (one) => ruleRow(name, one)]);
+  const savedOf = async () => ({ ...columns, ...(await savedColumns(name, shown)) });
+  const ofOne = typed && scopes.size === 1 ? `-of-${thing}-${[...scopes]}` : "";
+  const list = [`${word}s that stand`, columns, shown, (one) => ruleRow(name, one)];
+  showList(name, count, list, { of: ofOne, more: FIRST, savedOf });
 }
 
-// Reads what stands anew, and shows it.
+// What a saved table has otherwise: of a few disks, files by slot with the names that the desk has; donors of deeds.
+async function savedColumns(name, rules) {
+  const isOfDisk = name === "takedowns";
+  const disks = rules.filter(({ rule }) => isOfDisk && rule.select.slot !== undefined).map(({ scope }) => scope);
+  const names = new Map();
+  for (const accession of [...new Set(disks)].slice(0, MOST_NOTES)) {
+    names.set(accession, await readNames({ accession }).catch(() => null));
+  }
+  const where = (scope) => (isOfDisk ? `; its name is on the page of disk ${scope}` : "");
+  const namesOf = (scope) => names.get(scope) ?? { get: () => `counted from 0${where(scope)}` };
+  const donors = new Map(held.deeds.map((one) => [one.deed, signedWords(one)]));
+  const files = ({ scope, rule }) => filesWords(rule, namesOf(scope));
+  return { "Which files": files, "Donor of the deed": isOfDisk ? null : ({ scope }) => donors.get(scope) };
+}
+
 async function showRules(name) {
   await readHeld(listName(name));
   draw(name);

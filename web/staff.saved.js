@@ -4,7 +4,7 @@ import { holder } from "./about.js";
 import { APOSTROPHES, csvText, explainedHead } from "./csv.js";
 import { listTable } from "./lists.js";
 import { box, button, element, part } from "./shared.js";
-import { held, listName, whoNow } from "./staff.desk.js";
+import { ANY_NAME, held, listName, whoNow } from "./staff.desk.js";
 import { clockWords, momentNow, quoted, whenWords } from "./staff.words.js";
 import { inParts, save } from "./stream.js";
 
@@ -13,7 +13,7 @@ const byWhom = ({ name } = whoNow()) =>
 
 const days = () => `days of rules, of checks and of asking: ${clockWords()}`;
 const clocks = () => `this table, in UTF-8, saved ${byWhom()} (${APOSTROPHES}; moments: in UTC, of the journal by the \
-museum's machine, of asking by the computer that saved this; ${days()})`;
+museum's machine, of asking by the computer that saved this; slots count from 0; ${days()}). ${ANY_NAME}`;
 
 // (by the mark at its beginning a spreadsheet sees that it is UTF-8)
 export async function saveTable(name, moment, about, heads, items, recordOf) {
@@ -43,10 +43,10 @@ export function saver(button, saved) {
 export const forgetSaved = (name) => part(name).querySelectorAll(".saved").forEach((said) => said.replaceChildren());
 
 // Shows what stands in a section, in words and as a list, when the desk was asked for it, and a button that saves it.
-// The button stays where the list is drawn anew, for somebody may be pressing it.
-export function showList(name, words, [caption, columns, items, rowOf], more = "") {
-  const [{ moment }, heads] = [held[listName(name)], Object.keys(columns).filter((head) => columns[head])];
-  const [stands, when] = [part(name).querySelector(".stands"), `the desk was asked ${whenWords(moment)}`];
+// The button stays where the list is drawn anew, for somebody may be pressing it. `savedOf` gives the columns to save.
+export function showList(name, words, [caption, columns, items, rowOf], { of = "", more = "", savedOf } = {}) {
+  const [{ moment }, stands] = [held[listName(name)], part(name).querySelector(".stands")];
+  const when = `the desk was asked ${whenWords(moment)}`;
   if (stands.childElementCount === 0) {
     const save = saver(button("Save this list as CSV"), () => stands.children[1].save());
     stands.append(element("p", ""), box("div", "choices", element("span", ""), ...save), element("div", ""));
@@ -58,15 +58,20 @@ export function showList(name, words, [caption, columns, items, rowOf], more = "
   forgetSaved(name);
   const about = `As things stood when ${when}: ${words.textContent} It does not say what stood before or stands since, \
 nor who gets what. ${more}`.trim();
-  bar.save = () => saveTable(`${name}-${items.length}-asked`, moment, about, heads.map((head) => head.toLowerCase()),
-    items, (one) => heads.map((head) => columns[head](one)));
+  bar.save = async () => {
+    const saved = Object.entries((await savedOf?.()) ?? columns).filter(([, textOf]) => textOf);
+    const heads = saved.map(([head]) => head.toLowerCase());
+    const recordOf = (one) => saved.map(([, textOf]) => textOf(one));
+    return saveTable(`${name}${of}-${items.length}-asked`, moment, about, heads, items, recordOf);
+  };
 }
 
 // A print says when, by whom and by whose clocks, and its title when. Where a question is open, only that is printed.
 const printed = element("p", "", { className: "callout" });
 window.addEventListener("beforeprint", () => {
-  const [from, when] = [`Printed from the staff's page${holder() && ` of ${holder()}`}`, whenWords(momentNow())];
-  printed.replaceChildren(element("strong", `${from} ${when} ${byWhom()}.`), ` Moments: in UTC; ${days()}.`);
+  const when = whenWords(momentNow());
+  const from = `Printed from the staff's page${holder() && ` of ${holder()}`} ${when} ${byWhom()}.`;
+  printed.replaceChildren(element("strong", from), ` Moments: in UTC; ${days()}. ${ANY_NAME}`);
   document.title += `, ${when}`;
   (document.querySelector("#sure[open]") ?? part("main")).prepend(printed);
 });

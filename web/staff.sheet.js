@@ -37,8 +37,7 @@ function rowOf([accession, kind, deed, sha256, file]) {
 // Gives each row its dump by the name of the file, of several that with its SHA-256; gives the dumps that no row names.
 export function matchRows(rows, dumps) {
   const left = giveByKey(rows, dumps, ({ name, sha256 }) => [name, sha256], ({ file, digest }) => [file.name, digest]);
-  const others = rows.filter((row) => row.dump === null);
-  return giveByKey(others, left, ({ name }) => [name], ({ file }) => [file.name]);
+  return giveByKey(rows.filter((row) => !row.dump), left, ({ name }) => [name], ({ file }) => [file.name]);
 }
 
 // Gives each row the first dump with its key that no row before it has got. Gives the dumps that are left.

@@ -84,7 +84,6 @@ rule stands, nor who gets what: the views Journal and Who sees what do.`;
   return saveTable(`timeline-${lines.length}-rules-${day}-asked`, moment, about, heads, lines, recordOf);
 }
 
-// Shows where the day is among the bars.
 function mark() {
   const { value } = field();
   stands().style.setProperty("--day", share(value));

@@ -1,8 +1,8 @@
 // What every caller gets of every file on a day, as the desk says; and how that is said and saved.
 import { shownName } from "./names.js";
-import { Refused, element, explained, grouped, meaning } from "./shared.js";
+import { Refused, counted, element, explained, grouped, meaning } from "./shared.js";
 import { rulesOf } from "./staff.desk.js";
-import { AUDIENCES, EFFECTS, inUtc, today, whenWords } from "./staff.words.js";
+import { AUDIENCES, EFFECTS, inUtc, momentNow, today, whenWords } from "./staff.words.js";
 import { readTable } from "./stream.js";
 import { titleOf } from "./titles.js";
 
@@ -14,7 +14,6 @@ export const EFFECT_AT = { public: 9, room: 11, staff: 13 };
 export const readVerdicts = (day, take, { progress, signal }) =>
   readTable(`/staff/verdicts/${day}`, { take, signal, progress: (count) => progress(`Reading ${day}`, count) });
 
-// The verdicts of one disk on a day.
 export async function verdictsOf({ accession, files }, day, { signal }) {
   const found = [];
   await readTable(`/staff/verdicts/${day}/${accession}`, { take: (record) => found.push(record), signal });
@@ -26,8 +25,7 @@ export async function verdictsOf({ accession, files }, day, { signal }) {
 const MOST_LATER = 20;
 export async function laterOf(disk, now, tools) {
   const rules = [...rulesOf("takedowns", disk.accession), ...rulesOf("rules", disk.deed)];
-  const turns = rules.flatMap(({ from, until }) => [from, until]).filter((day) => day > now);
-  const days = [...new Set(turns)].sort();
+  const days = [...new Set(rules.flatMap(({ from, until }) => [from, until]).filter((day) => day > now))].sort();
   const later = Object.assign([], { isAll: days.length <= MOST_LATER });
   for (const day of days.slice(0, MOST_LATER)) later.push({ day, files: await verdictsOf(disk, day, tools) });
   return later;
@@ -48,6 +46,7 @@ export async function readSome(disks, day, take, tools) {
 // The names of some files of a disk as they were shown, by their slots.
 export const nameOf = (record) => shownName(record[COLUMNS.kind], record[COLUMNS.name]);
 export const namesOf = (files) => new Map(files.map((record) => [Number(record[COLUMNS.slot]), nameOf(record)]));
+export const readNames = async (disk) => namesOf(await verdictsOf(disk, momentNow().slice(0, 10), {}));
 
 // A file as rules select it.
 export function fileOf(record) {
@@ -66,26 +65,25 @@ const MAY = {
 function because(record, audience, { rules, others }) {
   const faults = record[COLUMNS.faults].split(" ").map(explained).join("; ");
   const why = faults ? `damaged: ${faults}` : `the desk gives out no file of type ${record[COLUMNS.type]}`;
-  const isListed = effectOf(record, audience) !== record[EFFECT_AT[audience]];
   const past = others ? [rules, ...others(record, record[EFFECT_AT[audience] + 1])] : [];
-  return [isListed && why, ...past].filter(Boolean).join("; ");
+  return [effectOf(record, audience) !== record[EFFECT_AT[audience]] && why, ...past].filter(Boolean).join("; ");
 }
 
 export const mayWords = (record, audience, asked, why = because(record, audience, asked)) =>
   `${MAY[effectOf(record, audience)]}${why && ` (${why})`}`;
 
-// How many files an audience may read, see listed and not see, in a sentence; and the same of each audience.
-export function countWords(audience, countOf) {
-  const [words, [read, list, deny]] = [AUDIENCES[audience], Object.keys(EFFECTS).map((one) => grouped(countOf(one)))];
-  return `${words[0].toUpperCase()}${words.slice(1)}: ${read} to read, ${list} only in the list, ${deny} closed.`;
+// How many files of some an audience may read, see listed and not see, in a sentence; and the same of each audience.
+export function countWords(audience, countOf, of = "the museum's disks") {
+  const counts = Object.keys(EFFECTS).map(countOf);
+  const [all, [read, list, deny]] = [counted(counts.reduce((sum, one) => sum + one), "file"), counts.map(grouped)];
+  return `Of all ${all} of ${of}, ${AUDIENCES[audience]}: ${read} to read, ${list} only in the list, ${deny} closed.`;
 }
 
-export const audienceCounts = (countOf) =>
-  Object.keys(AUDIENCES).map((audience) => countWords(audience, (effect) => countOf(audience, effect)));
+export const audienceCounts = (countOf, of) =>
+  Object.keys(AUDIENCES).map((audience) => countWords(audience, (effect) => countOf(audience, effect), of));
 
 export const ruleMeaning = (label) => (label === "D0" ? "no rule matches" : meaning(label));
 
-// The rule that decides, in words.
 export const ruleShown = (record, audience) =>
   element("span", ruleMeaning(record[EFFECT_AT[audience] + 1]), { className: "title" });
 

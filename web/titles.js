@@ -6,8 +6,7 @@ const [COLUMNS, titles] = ["accession,title,note", new Map()];
 
 // Reads tables, of which a later one goes before an earlier one. A table that is not there, or is none, has no titles.
 export async function readTitles(paths) {
-  const texts = await Promise.all(paths.map(textOfOwn));
-  for (const text of texts) {
+  for (const text of await Promise.all(paths.map(textOfOwn))) {
     const [heads, ...records] = recordsOf(text) ?? [];
     if (heads?.join() !== COLUMNS) continue;
     for (const [accession, title = "", note = ""] of records) {
@@ -18,8 +17,7 @@ export async function readTitles(paths) {
 
 // The text of a file that the museum may have put beside the pages.
 export async function textOfOwn(path) {
-  const options = { cache: "no-store", credentials: "omit", redirect: "error" };
-  const reply = await fetch(path, options).catch(() => null);
+  const reply = await fetch(path, { cache: "no-store", credentials: "omit", redirect: "error" }).catch(() => null);
   return reply?.ok ? reply.text().catch(() => "") : "";
 }
 
@@ -32,6 +30,5 @@ export const isTitled = (accession, words) =>
 
 // Something that stands for a disk, with its title below where it has one.
 export function withTitle(shown, accession) {
-  const title = titleOf(accession) && element("span", titleOf(accession), { className: "title" });
-  return box("div", "", shown, title);
+  return box("div", "", shown, titleOf(accession) && element("span", titleOf(accession), { className: "title" }));
 }

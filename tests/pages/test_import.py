@@ -109,7 +109,8 @@ def test_dumps_are_described_and_numbered_by_hand(staff, choose):
         f"2 disks under deed 9, of “{samples.DONOR_OF_9}”, signed on 0001-01-01",
         "20: all files readable for the public, the reading room and the staff, until further notice",
         f"What they get on {TODAY}, as this page reckons from the dumps, these rules and their takedowns:",
-        *(f"The {who}: 1 to read, 1 only in the list, 0 closed." for who in ("public", "reading room", "staff"))]
+        *(f"Of all 2 files of these disks, the {who}: 1 to read, 1 only in the list, 0 closed."
+          for who in ("public", "reading room", "staff"))]
     assert (staff.answer(False)["result"], staff.door.sent()) == (["Nothing is sent."], [])
     staff.door.before = lambda _, path: b"" if path == "/staff/today" else None
     said, rows = "The desk did not tell which day it is there. Try again.", staff.go("disks")["list"]

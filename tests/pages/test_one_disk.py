@@ -14,7 +14,7 @@ READ = '{"audiences":["room","public","staff"],"select":{"all":true},"effect":"r
 BY_DEED, UNKNOWN = "rule 20 of deed 9", "since when: not in the journal"
 SAYS, PUT = "rule in words", "when, by whom, and why that rule itself was put"
 SINCE = "since when they may do just this with the file, by whichever rule (not since when that rule stands)"
-READS = f"read it {BY_DEED} "
+READS, ALL_3 = f"read it {BY_DEED} ", "Of all 3 files of disk 1002, the public: "
 LISTS = f"see its name, not read it (the desk gives out no file of type DEL) {BY_DEED} {UNKNOWN}"
 SHUT = "see only that a closed file is there, not its name"
 CLOSED = f"{SHUT} takedown {{}} of disk 1002 {UNKNOWN}"
@@ -47,7 +47,7 @@ def test_disk_says_what_it_is_and_who_gets_what_by_which_rule(museum, disk):
     assert disk.texts("#disk dd")[1:5:2] == [NOT, f"9, of “{DONOR_OF_9}”, signed on 0001-01-01"]
     assert disk.texts("#disk dd")[4:6] == ["3 files: 2 can be given out, 0 damaged", "it ends well"]
     assert "; not in use but marked as used: 0 blocks; with a wrong count: 0 tracks" in disk.texts("#disk dd")[6]
-    assert disk.texts("#disk .stands ul li")[0] == "The public: 1 to read, 1 only in the list, 1 closed."
+    assert disk.texts("#disk .stands ul li")[0] == f"{ALL_3}1 to read, 1 only in the list, 1 closed."
     closed, reads = CLOSED.format(1000), READS + UNKNOWN
     assert [row[2:3] + row[5:] for row in rows[:3]] == [
         ["TOUR", *[reads] * 3], ["-" * 16, *[LISTS] * 3], ["GUIDE", closed, closed, reads]]
@@ -63,14 +63,14 @@ def test_disk_says_what_it_is_and_who_gets_what_by_which_rule(museum, disk):
     assert [[dict(zip(names, one))[key] for key in keys] for one in rows[6:9:2]] == [
         [TODAY, "the public", SHUT, "T1002.1000", said, NOT, *file],
         [TODAY, "the staff", "read it", "R9.20", f"{BY_DEED}: all files readable for {ALL}", BY + NOTHING, *file]]
-    whole, holds = rows[0][-1], "A rule holds only on its days, if it has any, and never before it was put."
-    assert {row[-1] for row in rows[1:]} == {""} and max(len(row[1]) for row in rows) < 300, "the same in every row"
+    whole, holds = heads[-1], "A rule holds only on its days, if it has any, and never before it was put."
+    assert {row[-1] for row in rows} == {""} and max(len(row[1]) for row in rows) < 300, "the same in every row"
     assert "This table has all files of the disk: 3." in rows[0][1], "whether the disk or the table has them"
     assert "A name behind a slot is that of the disk as it was when the desk was asked." in whole
     assert "The page looked for lines of the journal in each month back to 2013-12. " in whole, "how far it looked"
     assert "as the page reckons from the changes that it read and the days" in heads[-3], "as if it had read all"
     assert holds in heads[-2] and holds in disk.text("#disk .stands"), "as if a takedown of a day to come closed now"
-    assert whole.startswith(f"Taken in: {NOT}; its SHA-256, as the journal has it: not known. The page")
+    assert whole.startswith(f"Disk 1002, taken in: {NOT}; its SHA-256, as the journal has it: not known. The page")
     far = f"is not known: the journal, back to {when(0)}, does not have the SHA-256. {TABLE}"
     assert f"Which other disks have the bytes of disk 1002 {far}" in whole, "as if there were none"
     assert {row[-2] for row in rows} == {"until further notice"}
@@ -78,14 +78,14 @@ def test_disk_says_what_it_is_and_who_gets_what_by_which_rule(museum, disk):
     museum.rules["T1002"] = {5: museums.rule(5, "list", ["staff"], {"slot": 2}, "2026-07-01"),
                              9: museums.rule(9, "deny", ["public", "room"], {"slot": 2}, None, "2027-01-01")}
     assert disk.go("disk/1002") and not is_said_saved(disk), "a file speaks for what is shown since"
-    _, *rows = saved_table(disk, f"disk-1002-{TODAY}-asked", "Save who gets what as CSV")
+    heads, *rows = saved_table(disk, f"disk-1002-{TODAY}-asked", "Save who gets what as CSV")
     ends = [f"until {day}, then they may {may}"
             for day, may in [("2027-01-01", "read it")] * 2 + [("2026-07-01", "see its name, not read it")]]
     assert [row[-2] for row in rows[3:]] == ["until further notice"] * 3 + ends, "a day on which it ends is not said"
     cells = [disk.read()["rows"][row][7] for row in (1, 2)]
     assert [cell.endswith(f"; {ends[2]}") for cell in cells] == [False, True], "not on the page"
-    came = f"Taken in: This disk was put {when(-8.5)} by nobody who is named: no reason was given; in its place before"
-    assert rows[0][-1].startswith(came) and f"; its SHA-256, as the journal has it: {'0' * 64}. The page" in rows[0][-1]
+    came = f"Disk 1002, taken in: This disk was put {when(-8.5)} by nobody who is named: no reason was given; in"
+    assert heads[-1].startswith(came) and f"; its SHA-256, as the journal has it: {'0' * 64}. The page" in heads[-1]
     assert f"under deed 9 of “{DONOR_OF_9}”, signed" in rows[0][1], "a donor's name reads as words of the page"
 
 def test_rule_says_what_was_there_before_it_or_how_far_the_journal_is_read_or_that_it_is_not(disk):
@@ -196,8 +196,8 @@ def test_files_ticked_by_their_shown_names_are_taken_down_and_what_stands_after_
     assert disk.push("Take down what is ticked")["sure"][0] == due.format("") and disk.answer(False)
     assert disk.set("#ticked [value=room]", True) or disk.push("Take down what is ticked")
     museum.rules["T1002"] = takedown(7, 2)
-    _, *saved = saved_table(disk, f"disk-1002-before-an-answer-{TODAY}-asked", "Save what stands now, first")
-    assert [str(saved).count(one) for one in ("'read it'", "Taken in: ")] == [4, 1], "what stood at the opening"
+    heads, *saved = saved_table(disk, f"disk-1002-before-an-answer-{TODAY}-asked", "Save what stands now, first")
+    assert [str(saved).count("'read it'"), heads[-1].count("taken in: ")] == [4, 1], "what stood at the opening"
     assert f"It is what stood before an answer to: “{due.format(' and the reading room')}”" in saved[0][1]
     del museum.rules["T1002"][7]
     disk.door.before = lost_at(2)
@@ -214,10 +214,10 @@ def test_files_ticked_by_their_shown_names_are_taken_down_and_what_stands_after_
     assert "Save the report" not in str(disk.go("disk/1003")["result"]) and disk.go("keys") and disk.go("disk/1002")
     due = [["1002", slot, name, rank, f"the file at slot {slot} {ALWAYS}", "done"] for name, rank, slot in rules]
     heads, *rows = saved_table(disk, "disk-1002-report-of", "Save the report")
-    assert [row[2:8] for row in rows] == due and "of each. It does not say what stands since. Begun, or" in rows[0][1]
+    assert [row[2:8] for row in rows] == due and "stands since. This work was begun" in rows[0][1]
     assert "desk-visits.log on the museum's machine says for 14" in rows[0][1], "who fetched them before is not said"
     clock = f"by the desk's clock, whose zone it does not tell: on {TODAY} at 12:"
-    assert f"asking: {clock}" in heads[1] and heads[1].endswith(f" UTC it was {TODAY} there)"), "in nobody's zone"
+    assert f"asking: {clock}" in heads[1] and f" UTC it was {TODAY} there). " in heads[1], "in nobody's zone"
     words = "slot (the file's place on its disk, counted from 0)", "rank (a place in the order of rules, lowest first)"
     assert (heads[3], heads[5]) == words and f"if you need it. {asked}" in rows[0][1]
     assert "(an apostrophe at the beginning of a cell, before =, +, - or @, is not part of its text; mom" in heads[1]
@@ -231,16 +231,18 @@ def test_other_disks_with_the_same_bytes_are_named_and_who_may_read_how_much_of_
         journal_lines(at, START + at, status, "PUT", f"/accessions/{number}/d64/7/{digest}")
         for at, (status, number, digest) in enumerate(cases))
     may = "of {} the public may read 0 (from 2030-01-01: 2), the reading room 0 (from 2030-01-01: 2) and the staff {}"
+    may += ", among them none that they may not read on disk 1002"
     due = ["disk 77: the desk has no file of it", f"disk 1004, nobody knows whether the desk did it: {may}",
            f"disk 1005: {may}".format("3 files", 2)]
     disk.go("disk/1002")
     items = [one for one in disk.texts("#disk li") if one.startswith("disk ")]
     assert [items[0], items[1].partition(": of ")[0], items[2]] == [due[0], due[1].partition(": of ")[0], due[2]]
-    assert disk.script(LINKS) == ["#/disk/77", "#/disk/1004", "#/disk/1005"], "no way to the other disks"
-    also = f"As the journal, back to {when(0)}, has it, the same bytes are also on 3 other disks. On {TODAY}:"
-    _, *rows = saved_table(disk, f"disk-1002-{TODAY}-asked", "Save who gets what as CSV")
-    assert f"{also} {'; '.join(items)}. The desk was asked on {TODAY} at 12:" in rows[0][-1]
-    assert f"stood when it was asked. A takedown of one disk closes nothing on another. {TABLE}" in rows[0][-1]
+    ways = [f"#/disk/{number}" for number in (77, 1004, 1002, 1005, 1002)]
+    assert disk.script(LINKS) == ways, "no way to the other disks"
+    also = f"As the journal, back to {when(0)}, has it, the bytes of disk 1002 are also on 3 other disks. On {TODAY}:"
+    [heads, *_] = saved_table(disk, f"disk-1002-{TODAY}-asked", "Save who gets what as CSV")
+    assert f"{also} {'; '.join(items)}. The desk was asked on {TODAY} at 12:" in heads[-1]
+    assert f"stood when it was asked. A takedown of one disk closes nothing on another. {TABLE}" in heads[-1]
     museum.rules["R7"].pop(10)
     disk.set("#disk [name=slots][value='0']", True)
     before = disk.push("Take down what is ticked")["sure"]
@@ -250,7 +252,10 @@ def test_other_disks_with_the_same_bytes_are_named_and_who_may_read_how_much_of_
     typed = disk.go("takedowns") and disk.take_down("1002", "", "2", "public") and disk.answer(True)["result"]
     many = disk.take_down("1002, 1003", "", "2", "public") and disk.answer(True)["result"]
     assert due[2] in before and "A takedown of one disk closes nothing on another." in str(before), "not asked with it"
-    for words in (ticked, typed, many):
+    one, two = "TOUR, which {} may not read on disk 1002".format, "TOUR and GUIDE, which the public may not read on"
+    both, room = one("the public and the reading room"), f"{two} disk 1002; {one('the reading room')}"
+    for words, only in ((ticked, both), (typed, room), (many, room)):
+        assert f"the staff 2, among them {only}" in str(words), "whether what was closed may be read there"
         assert "; disk 1005" in str(words) and "the public may read 2, the reading room 2 and" in str(words), words
     assert "Which other disks have the bytes of disk 1003 is not known: the journal" in str(many)
     assert "disk 1005, with the bytes of disk 1002: of 3 files" in str(many), "as which of them"

@@ -7,7 +7,7 @@ import time
 import pytest
 from staff_helpers import LEFT
 from support import museums
-from support.browser import wait_for
+from support.browser import LIMIT, wait_for
 from support.samples import NOBODY, PROGRAM_DISK, PUBLIC, ROOM, STAFF, digest
 from support.stand_in import refused_by_nginx
 
@@ -19,6 +19,8 @@ CLOSED = "This file is closed to %s. You may see %s."
 TAKEDOWN = "Closed by takedown 1 of disk %d (T%d.1). A takedown is how the staff closes files. Name it when you ask."
 WELCOME = ["WELCOME.TXT", "TXT text", "896"]
 UNREAD = "Damaged the drive could not read a block of it"
+# A script: what a print says of where it is from.
+FROM = "return document.getElementById('asked').dataset.from"
 DAMAGED = "read-error (the drive could not read a block of it)"
 
 @pytest.fixture
@@ -37,7 +39,9 @@ def test_caller_sees_the_disks_of_their_audience(reader, key, asks, disks):
     assert (shown["caller"], shown["disks"]) == (asks, disks)
     assert f"files: {'10 to read, 4' if is_staff else '4 to read, 2'} only listed." in shown["status"]
     assert reader.go("1004")["rows"][:1] == ([[*WELCOME, "Read it"]] if is_staff else [])
-    asked = f"The page asked the desk on 15 June 2026 at [0-9:]+ .*, with{'' if key else 'out'} a key[.]"
+    eyes = f"with{' a key, as the reading room or the staff' if key else 'out a key, as the public'} sees it[.]"
+    asked = f"The page asked the desk on 15 June 2026 at [0-9:]+ .*, {eyes}"
+    assert reader.cdp("Page.printToPDF") and reader.script(FROM) == f"The reading room, {reader.door.address}#/1004"
     assert re.fullmatch(asked, reader.text("#asked")), "what stands now has no hour"
     whom, ask = "you" if key else "the public", "rule 10 of deed 7 (R7.10). Turn to the museum's staff about this disk."
     closed = ["There is no file on it that you may see.", f"2 more files are closed to {whom}, name and all: {ask}"]
@@ -58,7 +62,7 @@ def test_each_file_leads_to_its_page_and_one_that_is_closed_says_why_there_and_i
     alone = [CLOSED % ("the public", "that it is there, not what is in it"), "text, 896 bytes", TAKEDOWN % (1001, 1001)]
     assert reader.go("1001/0")["refusal"] == alone and reader.go("1001")
     rules = "takedown 1 of disk 1001 (T1001.1) on 1 file, rule 20 of deed 9 (R9.20) on 1 file."
-    assert f"What decides here: {rules}" in reader.text("#view")
+    assert f"What decides about the files that you see: {rules}" in reader.text("#view")
     museum.rules["R9"][10] = museums.rule(10, "list", ["public"])
     assert reader.go("1002/0")["refusal"][3:] == [f"2 other files of this disk: {'-' * 16}, GUIDE"]
     why = "Listed only rule 10 of deed 9 lets you see no more"
@@ -72,7 +76,10 @@ def test_each_file_leads_to_its_page_and_one_that_is_closed_says_why_there_and_i
     closed = ["1 more file is closed to the public, name and all: takedown 1 of disk 1003 (T1003.1)."]
     reader.wait(lambda state: reader.texts(".closed > a[href='#/1003']") == closed, f"{closed} of what was found")
     museum.rules["T1003"] = {2: museums.rule(2, "deny", ["public"], {"slot": 1})}
-    assert reader.go("1003") and reader.wait(lambda state: "T1003.2" in str(reader.texts(".callout")), "a new rule")
+    is_due, looks = threading.Event(), ["Looking for closed files .."]
+    reader.door.before = lambda _, path: is_due.wait(LIMIT) and None if "/files/" in path else None
+    assert reader.go("1003") and reader.texts(".callout") == looks, "a print of now has all, as if nothing were closed"
+    assert is_due.set() or reader.wait(lambda state: "T1003.2" in str(reader.texts(".callout")), "a new rule")
 
 def test_list_says_when_it_was_asked_and_is_asked_anew_when_it_is_old_or_shows_what_is_closed(museum, reader):
     at, found = lambda: reader.text("#asked"), lambda name: reader.find(name)["matches"]
@@ -115,7 +122,9 @@ def test_desk_that_has_nothing_or_does_not_answer_is_said(museum, reader):
         shown = reader.load()
         assert (shown["refusal"], shown["heading"]) == ([words], "The list of disks did not come"), status
     reader.door.before = lambda method, path: refused_by_nginx(429, "No") if path.endswith("1004/files/1") else None
-    assert reader.push("Try again")["disks"] == OPEN and reader.go("1004/0")
+    assert reader.push("Try again")["disks"] == OPEN and reader.go("1004")
+    untold = "Whether other files are closed the desk did not tell. Turn to the museum's staff about this disk."
+    assert reader.wait(lambda state: reader.texts(".callout")[1:] == [untold], untold) and reader.go("1004/0")
     wait_for("the refusal", lambda: [path for _, path, _ in reader.door.visits if path.endswith("1004/files/1")])
     reader.door.before = lambda method, path: None
     assert reader.read()["refusal"][2:] == [] and reader.go("1004") and reader.go("1004/0")

@@ -99,7 +99,7 @@ def test_drop_is_rehearsed_and_done(takedowns):
 def test_days_to_come_of_an_embargo(staff):
     turn = "On that day, without this change, they may read them; with it they may see their names, not read them."
     names = "WELCOME.TXT (disk 1001, slot 0)", "SKEW.TXT (disk 1001, slot 1)"
-    closes = [f"Closes for the public: 2 files. {turn}", *names]
+    closes = [f"Only in the list for the public: 2 files. {turn}", *names]
     staff.go("rules/9")
     days = {"effect": "list", "start": "2090-03-01", "until": "2100-03-01"}
     shown = staff.put_rule("rules", "9", "10", "type", "TXT", "public", **days)

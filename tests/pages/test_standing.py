@@ -22,6 +22,7 @@ SAYS = """addEventListener("beforeprint", () => {
 });"""
 SOUND = """“Sound” says: the bytes that the desk had that day have the SHA-256 with which the disk was taken in. It \
 says nothing of damaged files: a sound disk may have some."""
+GUESSED = "A short or common one can be guessed from its SHA-256."
 NOT = f"not in the journal, back to {in_utc(START)}, where it begins"
 
 def test_deed_is_put_with_name_and_reason(staff):
@@ -152,9 +153,9 @@ def test_press_and_focus_are_not_lost_while_older_months_or_a_change_come(staff)
 def test_each_list_is_saved_and_printed_with_its_moment_and_who_does_it(museum, staff):
     museum.rules |= {"T1002": takedown(1000, 2), "R8": {}}
     shut, ever = "see only that closed files are there, not their names", "until further notice"
-    deny = ["1002", "1000", "the public and the reading room", "the file at slot 2", shut, ever]
+    deny = ["1002", "1000", "the public and the reading room", "the file at slot 2 (GUIDE)", shut, ever]
     wanted = {"deeds": (3, ["9", DONOR_OF_9, "0001-01-01", "3", f"20: all files readable for {EVERYBODY}, {ever}"]),
-              "rules": (3, ["9", *RULE_20[:-1]]), "takedowns": (1, deny),
+              "rules": (3, ["9", *RULE_20[:-1], f"“{DONOR_OF_9}”, signed on 0001-01-01"]), "takedowns": (1, deny),
               "keys": (2, [STAFF, "the staff", "there is no journal"]), "checks": (6, ["1006", "never", ""])}
     staff.script(SAYS)
     for view, (count, cells) in wanted.items():
@@ -162,17 +163,23 @@ def test_each_list_is_saved_and_printed_with_its_moment_and_who_does_it(museum, 
         words = staff.go(view)["stands"][0]
         heads, *rows = saved_table(staff, f"{view}-{count}-asked", "Save this list as CSV")
         assert [row[2:] for row in rows if row[2] == cells[0]] == [cells] and len(rows) == count
-        assert len(heads) == len(cells) + 2, "a column without a head"
+        assert len(heads) == len(cells) + 2 and "; slots count from 0" in heads[1], "a column without a head"
         assert f"when t{asked}" in rows[0][1] and f" UTC: {words} It does not say what stood before" in rows[0][1]
         assert (SOUND in rows[0][1]) == (view == "checks"), "a word that nobody explains"
+        assert ("Takedowns of a disk come before" in rows[0][1]) == (view in ("rules", "takedowns")), "what decides"
         assert asked in staff.text(f"#{view} .stands .choices"), "a print without a moment"
         said = staff.cdp("Page.printToPDF") and staff.script("return window.said")
         assert said.startswith(f"Printed from the staff's page on {TODAY} at 12:"), "a print that nobody can date"
         assert " UTC by “Ada Archivist”, as they typed their name. Moments: in UTC; days of rules, of" in said
         assert "by the desk's clock, whose zone it does not tell: on " in said, "days in nobody's zone"
+        any_name = "Whoever has a key of the staff can write any name."
+        assert said.endswith(any_name) and heads[1].endswith(any_name), "as if the name of who put it were sure"
         title, at = staff.driver.title, said.partition(" page ")[2].partition(" by ")[0]
         assert staff.script("return window.heads") == f"{title}, {at}", "two prints of a day have one name"
         assert title.endswith(" – the staff's page"), "a title of an earlier print"
+    staff.door.before = lambda _, path: b"" if "/verdicts/" in path else None
+    _, row = [staff.go("takedowns"), saved_table(staff, "takedowns-1-asked", "Save this list as CSV")][1]
+    assert row[5] == "the file at slot 2 (counted from 0; its name is on the page of disk 1002)", "counted from 1"
     assert staff.fill("who", name=" ").cdp("Page.printToPDF")
     assert " UTC by somebody who typed no name. Moments" in staff.script("return window.said")
 
@@ -180,7 +187,8 @@ def test_key_is_put_given_away_and_dropped(museum, staff):
     rows = staff.go("keys")["rows"]
     assert [row[3] for row in rows] == ["Give it to the staffDrop", "Give it to the reading roomDrop"]
     shown = staff.fill("keys", key="another", audience="room").submit("keys")
-    assert (shown["result"], shown["stands"]) == ([f"Done: key of the reading room, SHA-256 {OTHER}."], ["3 keys."])
+    done = f"Done: key of the reading room, SHA-256 {OTHER}."
+    assert (shown["result"], shown["stands"]) == ([done], [f"3 keys. {GUESSED}"])
     assert staff.of_row(f"key {OTHER}", "Drop")["sure"] == [f"Drop key with SHA-256 {OTHER}?", NOBODY]
     assert staff.answer(True)["rows"] == rows
     museum.badges[OTHER] = "staff"
@@ -216,7 +224,7 @@ def test_check_says_which_disk_has_changed_in_a_warning_that_stays(museum, staff
     assert [row[1:] for row in one["rows"][:2]] == [["never", "", "Check"], [TODAY, "sound", "Check"]]
     assert shown["result"][0] == f"{words} 0 failed, 1 in doubt, 1 not sent yet.{RESTORE}"
     _, *rows = saved_table(staff, "checks-report-of", "Save the report")
-    assert f"Begun, or gone on with, on {TODAY} at 12:" in shown["result"][-1], "a report that nobody can date"
+    assert f"This work was begun, or gone on with, on {TODAY} at" in shown["result"][-1], "a report without a day"
     assert rows[0][1].startswith("Checks of disks that were to be made, and what became of each. It does not")
     assert SOUND in rows[0][1] and [row[3] for row in rows].count("sound") == 3, "a word that nobody explains"
     assert staff.push("Go on with the rest")["result"][0] == f"6 disks checked: 5 sound, 1 CHANGED: 1003.{RESTORE}"

@@ -11,6 +11,7 @@ from support.browser import TODAY
 from support.samples import DONOR_OF_9, refused, told
 
 DAYS = ["2026-06-25", "2026-07-05", "2027-06-15", "2027-06-16"]
+OF_ALL = "Of all 14 files of the museum's disks, the public: {} to read, {} only in the list, {} closed."
 EPOCH = datetime.date(1970, 1, 1)
 AUDIENCES = {"public": "the public", "room": "the reading room", "staff": "the staff"}
 EFFECTS = {"read": "read it", "list": "see its name, not read it",
@@ -53,6 +54,7 @@ def test_each_audience_sees_and_counts_what_the_desk_gives_out(museum, staff, da
             rows.append([line["accession"], line["slot"], may, line[f"{audience}_rule"]])
         shown = look(staff, day, audience, closed=True)
         said, summary = shown["stands"][0], "{read} to read, {list} only in the list, {deny} closed.".format_map(counts)
+        assert said.startswith(f"Of all 14 files of the museum's disks, {AUDIENCES[audience]}: "), "of which files"
         assert f" {counts['read']} " in said, "files that the desk gives out to nobody count as readable"
         assert said.endswith(summary)
         assert [[*(row[at] for at in (0, 2, 5)), row[6].split()[0]] for row in shown["rows"]] == rows
@@ -124,7 +126,7 @@ def test_today_is_the_day_of_the_desk_in_whatever_zone_the_browser_is(museum, st
         heads, *rows = saved_table([staff, staff.go("disk/1004")][0], f"disk-1004-{day}-asked", "Save who gets what as")
         assert staff.texts("#disk h2")[0] == f"Who gets what on {day}", "the day of the computer"
         assert {row[2] for row in rows} == {day} and (rows[0][6] == "read it") == is_open, "another day in the file"
-        assert heads[1].endswith(f" UTC it was {day} there)") and f"it was {day} there. A r" in staff.text("#disk")
+        assert f" UTC it was {day} there). " in heads[1] and f"it was {day} there. A r" in staff.text("#disk")
         assert f"whose zone it does not tell: on {TODAY} at 12:" in heads[1], "a day that nobody can resolve"
         assert staff.go("eyes") and f"gets on {day}." in staff.push("Look")["result"][0]
         assert staff.go("timeline") and staff.push("Look at")["result"] == [f"Read: {day}."]
@@ -232,16 +234,17 @@ def test_timeline_has_the_next_change_first_and_says_what_is_other_on_each_day(m
     two, one = "WELCOME.TXT (disk 1001, slot 0)TOUR (disk 1002, slot 0)", "LOGBOOK (disk 1003, slot 0)"
     closes = [f"Closes for the public: 2 files. {may}{nothing}", two,
               f"Closes for the public: 1 file. The day before they may {see}; then they may {nothing}", one]
-    opens = [f"Opens for the public: 2 files. The day before they may {nothing[:-1]}; then they may read them.", two,
-             f"Opens for the public: 1 file. The day before they may {nothing[:-1]}; then they may {see}.", one]
-    lists = [f"Closes for the public and the reading room: 2 files. {may}{see}.",
+    before = f"The day before they may {nothing[:-1]}; then they may "
+    opens = [f"Opens for the public: 2 files. {before}read them.", two,
+             f"Only in the list for the public: 1 file. {before}{see}.", one]
+    lists = [f"Only in the list for the public and the reading room: 2 files. {may}{see}.",
              "TOUR (disk 1002, slot 0)GUIDE (disk 1002, slot 2)"]
     back = f"The day before they may {see}; then they may read them."
     reads = [f"Opens for the public and the reading room: 2 files. {back}", lists[1]]
     for day, counts, turns in zip(DAYS, [(3, 1, 10), (5, 2, 7), (3, 4, 7), (5, 2, 7)], [closes, opens, lists, reads]):
         staff.push("Change after")
         heading, public, _, _, asked, *more = staff.texts("#timeline .day > :not(div)")
-        words = "The public: {} to read, {} only in the list, {} closed.".format(*counts)
+        words = OF_ALL.format(*counts)
         due = f"Who gets what on {day}, {STOOD}, which may change until then"
         assert (heading, public, asked[:-10]) == (due, words, f"The desk was asked on {TODAY} at 12:")
         before = datetime.date.fromisoformat(day) - datetime.timedelta(1)
