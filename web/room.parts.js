@@ -18,7 +18,7 @@ const UNSERVED = {
 // How many files of some a reader may read, where this is known and not all.
 export function inSight(count, read) {
   const [open, listed] = [read, count - read].map((one) => one?.toLocaleString("en"));
-  return `${counted(count, "file")}${(read ?? count) === count ? "" : `: ${open} to read, ${listed} only listed`}`;
+  return `${counted(count, "file")} that you see${read < count ? `: ${open} to read, ${listed} only listed` : ""}`;
 }
 
 // What a reader may do with a file: a word, its colour, and why it is no more than that.
@@ -54,9 +54,8 @@ export const numberOf = (accession) => (titleOf(accession) ? `, disk ${accession
 // A moment by the clock of this computer, with its zone; and, as evidence, when the page asked the desk, and as whom.
 export const momentWords = (at = Date.now()) =>
   new Date(at).toLocaleString("en-GB", { dateStyle: "long", timeStyle: "long" });
-const eyes = () => (keyInUse() ? "with a key, as the reading room or the staff" : "without a key, as the public");
-export const askedWords = (at) =>
-  `The page asked the desk on ${momentWords(at)} by the reader's clock, ${eyes()} sees it.`;
+const eyes = () => (keyInUse() ? "with a key, the reading room's or the staff's, it cannot tell" : "as the public");
+export const askedWords = (at) => `The page asked the desk on ${momentWords(at)} by the reader's clock, ${eyes()}.`;
 
 // What is to be said of an address at which only this computer finds the page: the staff's own way, or a trial.
 const IS_OWN = ["127.0.0.1", "localhost", "[::1]"].includes(location.hostname);

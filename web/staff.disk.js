@@ -199,7 +199,7 @@ async function takeDown(records, tools) {
   const saysOf = ({ rank, rule }) => placeOf("takedowns", accession, rank, rule, beside(rank)).says;
   const notes = (names) => commands.map((one) => `Takedown ${one.rank}: ${ruleWords(one.rule, names)}. ${saysOf(one)}`);
   const asked = { words, notes, commands, days: rehearsalDays(commands[0].rule), isTakedown: true, go: "Take down" };
-  asked.first = [...saveFirst(accession, words), sameBox(shown.same)];
+  asked.first = [...saveFirst(accession, words), sameBox(shown.same, commands)];
   if ((await rehearsed(asked, tools)).length === 0) return "Nothing is taken down.";
   const stands = ({ rank, slot }) =>
     rulesOf("takedowns", accession).some((one) => one.rank === rank && one.select.slot === slot);

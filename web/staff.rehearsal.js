@@ -132,15 +132,15 @@ export function dayParts({ words, groups, past, none, first, other }, before) {
 
 // What the desk's verdicts of a day say of the files of takedowns of a disk that were put, and which others decide.
 export function decidedWords(files, commands, asked, { day } = asked) {
-  const found = commands.flatMap(({ scope, rank, rule }) => rule.audiences.flatMap((audience) => {
-    const wordsOf = (record, label = record[EFFECT_AT[audience] + 1]) => {
+  const found = commands.flatMap(({ scope, rank, rule }) => files.map((record) => {
+    const wordsOf = (audience, label = record[EFFECT_AT[audience] + 1]) => {
       const before = label.startsWith("T") && Number(label.split(".")[1]) < rank ? ", which comes before it" : "";
       const by = label === `T${scope}.${rank}` ? "" : ` (${ruleMeaning(label)}${before})`;
       return `${SHORT[effectOf(record, audience)]} ${AUDIENCES[audience]}${by}`;
     };
-    const isOf = (record) => isFor({ ...rule, from: null, until: null }, fileOf(record), audience, day);
-    return files.filter(isOf).map((record) => wordsOf(record));
-  }));
+    const isOf = (audience) => isFor({ ...rule, from: null, until: null }, fileOf(record), audience, day);
+    return listed(rule.audiences.filter(isOf).map((audience) => wordsOf(audience)));
+  })).filter(Boolean);
   const counts = [...Map.groupBy(found, (words) => words)];
   const words = listed(counts.map(([text, { length }]) => `${counted(length, "file")} ${text}`)) || "there is none";
   return `What the desk's verdicts on ${day} say of the files that are meant: ${words}. ${askedWords(asked)}`;
@@ -172,9 +172,9 @@ export function saveFirst(accession, question) {
 
 // Saves what a rehearsal shows: once its question is answered nobody can have it.
 function saveRehearsal(question, moment) {
-  const about = `What the page said before an answer to: \u201c${question}\u201d ${askedWords({ moment })} \
-${part("sure-who").textContent}. It does not say what was answered, nor what was done; of other disks with the same \
-bytes it has no more than these lines.`;
+  const about = `What the page said before an answer to: \u201c${question}\u201d ${askedWords({ moment })} Of other \
+disks with the same bytes it has no more than these lines, which say when the desk was asked of those. \
+${part("sure-who").textContent}. It does not say what was answered, nor what was done.`;
   return saveSaid("rehearsal-asked", moment, about, part("sure-more"));
 }
 

@@ -44,35 +44,39 @@ function readsWords(files, later, audience) {
   return `${of(files).length}${turn ? ` (from ${turn.day}: ${of(turn.files).length})` : ""}`;
 }
 
-// Which files of a disk may be read there and not on one with the same bytes, as far as these are named, and by whom.
-function onlyThere(files, its, accession) {
+// Who may read which files of a disk there, and not on one with the same bytes, or not once commands close them there.
+function onlyThere(files, its, accession, closing) {
   const keyOf = (record) => record.slice(COLUMNS.slot, COLUMNS.faults).join();
+  const isMeant = (one, audience) =>
+    closing.some(({ slot, rule }) => String(slot) === one[COLUMNS.slot] && rule.audiences.includes(audience));
   const namesFor = (audience) => {
-    const shut = new Set(its.filter((one) => effectOf(one, audience) !== "read").map(keyOf));
+    const isShut = (one) => effectOf(one, audience) !== "read" || isMeant(one, audience);
+    const shut = new Set(its.filter(isShut).map(keyOf));
     const names = files.filter((one) => effectOf(one, audience) === "read" && shut.has(keyOf(one))).map(nameOf);
     const rest = names.splice(MOST).length;
     return listed([...names, rest && counted(rest, "more file")].filter(Boolean));
   };
   const groups = [...Map.groupBy(Object.keys(AUDIENCES), namesFor)].filter(([names]) => names);
-  const texts = groups.map(([names, all]) => `${names}, which ${audienceWords(all)} may not read on disk ${accession}`);
-  return `, among them ${texts.join("; ") || `none that they may not read on disk ${accession}`}`;
+  const not = `${closing.length ? "then not" : "not"} on disk ${accession}`;
+  const texts = groups.map(([names, all]) => `${audienceWords(all)} may read ${names} there, and ${not}`);
+  return texts.join("; ") || `nobody may read a file there that they may not read on disk ${accession}`;
 }
 
-function diskWords([accession, { of, isSure, later }], { files: all, accessions }) {
+function diskWords([accession, { of, isSure, later }], { files: all, accessions }, closing) {
   const [files, isOfMany] = [all.get(accession), accessions.length > 1];
   const title = titleOf(Number(accession));
   const more = [title && quoted(title), isOfMany && `with the bytes of disk ${listed(of)}`, !isSure && UNKNOWN];
   const reads = Object.entries(AUDIENCES).map(([audience, words], at) =>
     `${words}${at ? "" : " may read"} ${readsWords(files, later, audience)}`);
   const far = later?.isAll ? "" : " (on other days it may be otherwise: see the timeline)";
-  const only = of.map((one) => onlyThere(files, all.get(String(one)), one)).join("");
-  const has = `of ${counted(files.length, "file")} ${listed(reads)}${only}`;
+  const only = of.map((one) => onlyThere(files, all.get(String(one)), one, closing)).join("; ");
+  const has = `${only}; of ${counted(files.length, "file")} in all ${listed(reads)}`;
   const what = files.length ? has : "the desk has no file of it";
   return `${[`disk ${accession}`, ...more].filter(Boolean).join(", ")}: ${what}${far}`;
 }
 
 // What is to be said: first, then of each disk, and of what is not known.
-function partsOf(same) {
+function partsOf(same, closing) {
   if (!same) return [`Other disks with the same bytes: ${UNREAD}.`, [], ""];
   const { others, unnamed, accessions, asked, none, reach } = same;
   const whose = `the bytes of ${accessions.length > 1 ? "these disks" : `disk ${accessions[0]}`}`;
@@ -84,17 +88,17 @@ function partsOf(same) {
   const unknown = unnamed.length && `Which other disks have the bytes of ${of} is not known: ${why}.`;
   const [first, ...more] = [unnamed.length < accessions.length && (others.length ? also : no), unknown].filter(Boolean);
   const rest = [others.length && `${askedWords(asked)} ${LATER}`, ...more, LIMIT].filter(Boolean).join(" ");
-  return [first, others.map((one) => diskWords(one, same)), rest];
+  return [first, others.map((one) => diskWords(one, same, closing)), rest];
 }
 
-export function sameBox(same) {
-  const [first, items, rest] = partsOf(same);
+export function sameBox(same, closing = []) {
+  const [first, items, rest] = partsOf(same, closing);
   const list = items.length ? box("ul", "", ...items.map((text) => dated("li", text))) : null;
   return box("div", "", dated("p", first), list, dated("p", rest));
 }
 
 export function sameWords(same) {
-  const [first, items, rest] = partsOf(same);
+  const [first, items, rest] = partsOf(same, []);
   return [first, items.length && `${items.join("; ")}.`, rest].filter(Boolean).join(" ");
 }
 

@@ -56,8 +56,8 @@ export function showList(name, words, [caption, columns, items, rowOf], { of = "
   bar.firstChild.textContent = `T${when.slice(1)}.`;
   list.replaceWith(items.length ? listTable(caption, columns, items, rowOf) : element("div", ""));
   forgetSaved(name);
-  const about = `As things stood when ${when}: ${words.textContent} It does not say what stood before or stands since, \
-nor who gets what. ${more}`.trim();
+  const about = `As things stood when ${when}: ${words.textContent} It does not say what else stood before, what \
+stands since, nor who gets what. ${more}`.trim();
   bar.save = async () => {
     const saved = Object.entries((await savedOf?.()) ?? columns).filter(([, textOf]) => textOf);
     const heads = saved.map(([head]) => head.toLowerCase());

@@ -174,7 +174,7 @@ def test_time_goes_back_past_what_was_replaced_where_the_journal_says_that_it_wa
     came = [line(-11, "/deeds/9"), line(-10, of_deed, READ), line(-9, TAKEN_IN), songs]
     for these, since in ((came, taken), (came[1:], f"{when(0.5)} by {nobody}: Put rule 15 of deed 9")):
         disk.door.journals = {"/journal": b"".join(these)}
-        assert since in disk.go("disk/1002")["rows"][0][5], "of a deed known from its beginning a new rule replaces none"
+        assert since in disk.go("disk/1002")["rows"][0][5], "a new rule of a new deed replaces none"
 
 def test_files_ticked_by_their_shown_names_are_taken_down_and_what_stands_after_a_failure_is_said(museum, disk):
     museums.put_files(museum, 1002, "d64", 9, [("%CCETTER", "SEQ", b"A"), ("-", "DEL", None), ("GUIDE", "SEQ", b"A")])
@@ -209,7 +209,7 @@ def test_files_ticked_by_their_shown_names_are_taken_down_and_what_stands_after_
         assert (shown["result"][0], *disk.script(SEEN)) == ("2 takedowns put, 0 failed.", True, "status")
     assert [row[5] for row in shown["rows"][:3]] == [CLOSED.format(10), LISTS, CLOSED.format(20)]
     says = f"What the desk's verdicts on {TODAY} say of the files that are meant: 2 files closed to the public"
-    asked = f"{says} and 2 files closed to the reading room. The desk was asked on {TODAY} at 12:"
+    asked = f"{says} and closed to the reading room. The desk was asked on {TODAY} at 12:"
     assert [one for one in shown["result"] if one.startswith(asked) and " UTC. " in one], "nobody knows when"
     assert "Save the report" not in str(disk.go("disk/1003")["result"]) and disk.go("keys") and disk.go("disk/1002")
     due = [["1002", slot, name, rank, f"the file at slot {slot} {ALWAYS}", "done"] for name, rank, slot in rules]
@@ -230,13 +230,13 @@ def test_other_disks_with_the_same_bytes_are_named_and_who_may_read_how_much_of_
     disk.door.journals["/journal"] = b"".join(
         journal_lines(at, START + at, status, "PUT", f"/accessions/{number}/d64/7/{digest}")
         for at, (status, number, digest) in enumerate(cases))
-    may = "of {} the public may read 0 (from 2030-01-01: 2), the reading room 0 (from 2030-01-01: 2) and the staff {}"
-    may += ", among them none that they may not read on disk 1002"
+    may = "nobody may read a file there that they may not read on disk 1002; of {} in all the public may read 0 (from "
+    may += "2030-01-01: 2), the reading room 0 (from 2030-01-01: 2) and the staff {}"
     due = ["disk 77: the desk has no file of it", f"disk 1004, nobody knows whether the desk did it: {may}",
            f"disk 1005: {may}".format("3 files", 2)]
     disk.go("disk/1002")
     items = [one for one in disk.texts("#disk li") if one.startswith("disk ")]
-    assert [items[0], items[1].partition(": of ")[0], items[2]] == [due[0], due[1].partition(": of ")[0], due[2]]
+    assert [items[0], items[1].partition(" of ")[0], items[2]] == [due[0], due[1].partition(" of ")[0], due[2]]
     ways = [f"#/disk/{number}" for number in (77, 1004, 1002, 1005, 1002)]
     assert disk.script(LINKS) == ways, "no way to the other disks"
     also = f"As the journal, back to {when(0)}, has it, the bytes of disk 1002 are also on 3 other disks. On {TODAY}:"
@@ -252,13 +252,14 @@ def test_other_disks_with_the_same_bytes_are_named_and_who_may_read_how_much_of_
     typed = disk.go("takedowns") and disk.take_down("1002", "", "2", "public") and disk.answer(True)["result"]
     many = disk.take_down("1002, 1003", "", "2", "public") and disk.answer(True)["result"]
     assert due[2] in before and "A takedown of one disk closes nothing on another." in str(before), "not asked with it"
-    one, two = "TOUR, which {} may not read on disk 1002".format, "TOUR and GUIDE, which the public may not read on"
-    both, room = one("the public and the reading room"), f"{two} disk 1002; {one('the reading room')}"
+    one = "{} may read {} there, and not on disk 1002; ".format
+    both = one("the public and the reading room", "TOUR")
+    room = one("the public", "TOUR and GUIDE") + one("the reading room", "TOUR")
     for words, only in ((ticked, both), (typed, room), (many, room)):
-        assert f"the staff 2, among them {only}" in str(words), "whether what was closed may be read there"
-        assert "; disk 1005" in str(words) and "the public may read 2, the reading room 2 and" in str(words), words
+        reads = f": {only}of 3 files in all the public may read 2, the reading room 2 and"
+        assert "; disk 1005" in str(words) and reads in str(words), "whether what was closed may be read there"
     assert "Which other disks have the bytes of disk 1003 is not known: the journal" in str(many)
-    assert "disk 1005, with the bytes of disk 1002: of 3 files" in str(many), "as which of them"
+    assert "disk 1005, with the bytes of disk 1002: the public may read" in str(many), "as which of them"
 
 def test_coming_back_shows_the_disk_that_was_looked_at_asked_anew(museum, disk):
     museum.rules["T1002"] = takedown(1000, 2)

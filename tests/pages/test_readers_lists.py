@@ -51,7 +51,7 @@ def said(disks, files):
 
 def test_home_counts_disks_and_files_and_shows_them_in_pages(reader, lines):
     disks = list(dict.fromkeys(f"Disk {line['accession']}" for line in lines))
-    words = f"{len(disks)} disks with {len(lines):,} files."
+    words = f"{len(disks)} disks with {len(lines):,} files that you see."
     assert reader.wait(lambda state: state["status"] == words)["disks"] == disks[:48]
     assert reader.script(LEAN) == [True, ["accession", "kind", "files"]]
     day = reader.script("return Math.floor(Date.now() / 86400000)")

@@ -37,9 +37,9 @@ def museum(museum):
 def test_caller_sees_the_disks_of_their_audience(reader, key, asks, disks):
     is_staff, shown = key == STAFF, reader.give(key)
     assert (shown["caller"], shown["disks"]) == (asks, disks)
-    assert f"files: {'10 to read, 4' if is_staff else '4 to read, 2'} only listed." in shown["status"]
+    assert f"files that you see: {'10 to read, 4' if is_staff else '4 to read, 2'} only listed." in shown["status"]
     assert reader.go("1004")["rows"][:1] == ([[*WELCOME, "Read it"]] if is_staff else [])
-    eyes = f"with{' a key, as the reading room or the staff' if key else 'out a key, as the public'} sees it[.]"
+    eyes = "with a key, the reading room's or the staff's, it cannot tell[.]" if key else "as the public[.]"
     asked = f"The page asked the desk on 15 June 2026 at [0-9:]+ .*, {eyes}"
     assert reader.cdp("Page.printToPDF") and reader.script(FROM) == f"The reading room, {reader.door.address}#/1004"
     assert re.fullmatch(asked, reader.text("#asked")), "what stands now has no hour"

@@ -264,7 +264,7 @@ def test_zip_has_all_files_that_may_be_read_by_harmless_names_and_says_what_it_i
     assert all(row[8] and row[8] in about.replace("\n", " ") for row in rows[-2:]), "what it lacks is not in the table"
     zip_says(reader, "Saved: 8 files.")
     for words in (f"number 2001. {reader.door.address}#/2001, an ",
-                  "desk on 15 June 2026 at [0-9:]+ .* without a key, as the public sees it[.] This zip is made "
+                  "desk on 15 June 2026 at [0-9:]+ .* by the reader's clock, as the public[.] This zip is made "
                   "with the eyes of the public[.]",
                   "had come by 15 June .*[.]\n", "zip: 8 files, .*\nfiles/HELLO.prg: HELLO, slot 0, rule 20 of deed 9 ",
                   "zip: 0 files[.]\n\n1 more file is closed to the public, .*: takedown 1 of disk 2001 .T2001.1.[.]"):
@@ -298,7 +298,7 @@ def test_zip_says_with_whose_eyes_it_was_made(driver, museum, tmp_path, is_outsi
     with stand_in.Door(museum, outside=is_outside, folder=tmp_path) as door:
         door.address += "index.html"
         page = ReadersPage(driver, door)
-        assert page.give(key) and f"sees it. This zip is made with the eyes of {eyes}. " in zipped(page)[2]
+        assert page.give(key) and f"cannot tell. This zip is made with the eyes of {eyes}. " in zipped(page)[2]
 
 @pytest.mark.parametrize("at, then, words", ids=["lost", "stopped", "another key", "late"], argvalues=[
     (1, 3, CANNOT_REACH), (1, 3, "Stopped."), (1, 3, ""), (2, 9, "Stopped.")])

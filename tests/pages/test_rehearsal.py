@@ -68,7 +68,7 @@ def test_what_is_said_after_a_takedown_is_what_the_desk_says_and_names_what_stil
     mind = "readers, takedown 5 (the file at slot 2 only listed for the reading room, until further notice)."
     assert shown["hint"].endswith(mind), "it does not say which, or names one that is over"
     says = f"What the desk's verdicts on {TODAY} say of the files that are meant: "
-    by = "1 file only listed for the reading room (takedown 5 of disk 1005, which comes before it)"
+    by = "only listed for the reading room (takedown 5 of disk 1005, which comes before it)"
     assert takedowns.answer(True)["result"][1].startswith(f"{says}1 file closed to the public and {by}. {ASKED}")
     assert takedowns.take_down("1005", "21", "2", "room", start="2026-06-16") and takedowns.answer(True)
     assert takedowns.take_down("1005", "30", "1", "public", start="2026-06-16")

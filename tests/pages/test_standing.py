@@ -164,7 +164,7 @@ def test_each_list_is_saved_and_printed_with_its_moment_and_who_does_it(museum, 
         heads, *rows = saved_table(staff, f"{view}-{count}-asked", "Save this list as CSV")
         assert [row[2:] for row in rows if row[2] == cells[0]] == [cells] and len(rows) == count
         assert len(heads) == len(cells) + 2 and "; slots count from 0" in heads[1], "a column without a head"
-        assert f"when t{asked}" in rows[0][1] and f" UTC: {words} It does not say what stood before" in rows[0][1]
+        assert f"when t{asked}" in rows[0][1] and f" UTC: {words} It does not say what else stood before" in rows[0][1]
         assert (SOUND in rows[0][1]) == (view == "checks"), "a word that nobody explains"
         assert ("Takedowns of a disk come before" in rows[0][1]) == (view in ("rules", "takedowns")), "what decides"
         assert asked in staff.text(f"#{view} .stands .choices"), "a print without a moment"

@@ -23,7 +23,8 @@ def test_titles_and_notes_for_readers_are_shown_and_found(reader):
     assert reader.harmed() == [None, 0]
     shown, ferry = reader.go("1001"), ["Letters of a Férryman"]
     assert (shown["heading"], shown["title"]) == (*ferry, f"{ferry[0]}, disk 1001 – The reading room")
-    assert reader.texts("#view > p") == ["Disk 1001 · CP/M, 8 inches · 2 files", "Written on the river, 1983 to 1986"]
+    about = ["Disk 1001 · CP/M, 8 inches · 2 files that you see", "Written on the river, 1983 to 1986"]
+    assert reader.texts("#view > p") == about
     wanted = {"FERRY": ferry, "letters river 1984": [], "1986 letters river": ferry, "hush": [], "welcome": ferry,
               "Accession number 1001": ferry, "1001": ferry, "ferryman welcomes": ferry, "damaged": [],
               **dict.fromkeys(UMLAUTS, [HARMFUL[2]])}
