@@ -13,3 +13,4 @@ pub mod PageLemmas
 pub mod BaseLines
 pub mod Carried
 pub mod Composed
+pub mod Replays

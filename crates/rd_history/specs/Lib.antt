@@ -9,7 +9,9 @@ pub mod Histories
 pub mod Settled
 pub mod Remembered
 pub mod Pages
+pub mod Replayed
 pub mod Laws
 -- ---- inside: what only private functions and proofs cite
 pub mod Stages
 pub mod Bases
+pub mod Replaying

@@ -10,6 +10,7 @@ mod laws;
 mod page;
 mod reading;
 mod remembering;
+mod replaying;
 mod settling;
 mod stage;
 #[cfg(test)]
@@ -23,5 +24,6 @@ pub use history::History;
 pub use laws::{bases_tell, changes_may_come, lines_are_entries, voids_take_back};
 pub use reading::read_line;
 pub use remembering::{Recorder, Signature, answer_on};
+pub use replaying::Cut;
 pub use settling::{Unsettled, settle};
 pub use writing::line;
