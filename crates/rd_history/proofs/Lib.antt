@@ -14,3 +14,4 @@ pub mod BaseLines
 pub mod Carried
 pub mod Composed
 pub mod Replays
+pub mod Rebuilds

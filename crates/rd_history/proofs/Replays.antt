@@ -17,7 +17,7 @@ use Rattle.rd_history.specs.Histories.{AreLinesOf, AreNumbered, AreParts, IsAske
 use Rattle.rd_history.specs.Lines.{line_of}
 use Rattle.rd_history.specs.Reading.{IsLineOf}
 use Rattle.rd_history.specs.Replayed.{BeginWithVoid, IsCutOf, IsVoid, MayEnd, ask, asked, asked_after, effective, standing_of, standing_with}
-use Rattle.rd_history.specs.Replaying.{AreNext, EndInOne, IsAt, Makes, MayEndBefore, Reads, Takes}
+use Rattle.rd_history.specs.Replaying.{AreNext, IsAt, Makes, MayEndBefore, Reads, Takes}
 use Rattle.rd_history.specs.Stages.{Leads, Path, START, Steps, text_of}
 use Rattle.rd_history.specs.Standings.{NOTHING, Standing, changed, standing_after, step, told_after}
 use Rattle.rd_history.specs.declared.entry.Change.{Change}

@@ -10,6 +10,7 @@ pub mod Settled
 pub mod Remembered
 pub mod Pages
 pub mod Replayed
+pub mod Rebuilt
 pub mod Laws
 -- ---- inside: what only private functions and proofs cite
 pub mod Stages

@@ -1,5 +1,5 @@
 -- How far a history was read in search of a cut, and what its entries ask so far.
-use Rattle.std.specs.Prelude.{◌≡◌, ◌≤◌, ◌+◌, ℕ, List, [], ◌∷◌, ◌++◌, Bool, false, true, drop, length, map, take}
+use Rattle.std.specs.Prelude.{◌≡◌, ◌≤◌, ◌+◌, ℕ, List, [], ◌∷◌, ◌++◌, false, true, drop, length, map, take}
 use Rattle.rd_chain.specs.declared.read.SummedLine.{SummedLine}
 use Rattle.rd_history.specs.Histories.{AreNumbered, changes_of}
 use Rattle.rd_history.specs.Lines.{line_of}
