@@ -47,7 +47,7 @@ use Rattle.rd_history.proofs.ToldLemmas.{voids_take_back}
 
 -- ---- what stands
 
-image_carried : (desk : Desk) (now : Standing) (acc : ℕ) (image : ImageRow) (here : Option ImageRow) (there : Option Deposit) → get desk.images acc ≡ here → get now.images acc ≡ there → StandsAs desk now
+pub image_carried : (desk : Desk) (now : Standing) (acc : ℕ) (image : ImageRow) (here : Option ImageRow) (there : Option Deposit) → get desk.images acc ≡ here → get now.images acc ≡ there → StandsAs desk now
     → StandsAs (desk_with here acc image desk) (put_or_kept there acc (deposit_of image) now)
 image_carried desk now acc image None None here there stands = record { deeds = stands.deeds; images = images; rules = stands.rules; keys = stands.keys }
   where

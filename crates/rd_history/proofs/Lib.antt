@@ -13,3 +13,5 @@ pub mod PageLemmas
 pub mod BaseLines
 pub mod Carried
 pub mod Composed
+pub mod Replays
+pub mod Rebuilds

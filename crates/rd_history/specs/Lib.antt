@@ -9,7 +9,10 @@ pub mod Histories
 pub mod Settled
 pub mod Remembered
 pub mod Pages
+pub mod Replayed
+pub mod Rebuilt
 pub mod Laws
 -- ---- inside: what only private functions and proofs cite
 pub mod Stages
 pub mod Bases
+pub mod Replaying

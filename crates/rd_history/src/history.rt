@@ -74,7 +74,7 @@ fn judge<S: Alter>(alloc: Global, chain: &mut Chain<S>) -> Result<bool, OpenFaul
 }
 
 /// The entry of a line that was read; `Sql` where it is the line of none, or memory runs out.
-fn entry_in(alloc: Global, line: &SummedLine) -> Result<Entry, ChainFault>
+pub(crate) fn entry_in(alloc: Global, line: &SummedLine) -> Result<Entry, ChainFault>
     ensures { IfOk result (IsLineOf line.now.line.items) }
 {
     let Ok(text) = str::from_utf8(&line.line) else {

@@ -1,6 +1,6 @@
 //! Laws of lines, of entries and of histories. No code calls them, but whoever puts an entry calls `changes_may_come`.
 
-ghost use Rattle.rd_history.specs.Laws.{BasesForget, BasesTell, ChangesMayCome, LinesAreEntries, VoidsTakeBack};
+ghost use Rattle.rd_history.specs.Laws.{BasesForget, BasesTell, ChangesMayCome, LinesAreEntries, RestoresLoseNothing, VoidsTakeBack};
 
 /// Law: a line is its entry. Two entries within their limits, with digests of 32 bytes, have the same line
 /// only if they are the same.
@@ -23,4 +23,10 @@ pub fn bases_tell()
 /// Law: a change that may be taken back may come behind each history.
 pub fn changes_may_come()
     ensures { ChangesMayCome }
+{}
+
+/// Law: a restore loses nothing. Two desks that stand as the same have the same deeds, rules and keys, and at each accession
+/// an image of the same kind, deed and digest, or none.
+pub fn restores_lose_nothing()
+    ensures { RestoresLoseNothing }
 {}
