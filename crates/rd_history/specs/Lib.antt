@@ -7,6 +7,7 @@ pub mod Reading
 pub mod Standings
 pub mod Histories
 pub mod Settled
+pub mod Left
 pub mod Remembered
 pub mod Pages
 pub mod Replayed

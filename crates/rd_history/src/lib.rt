@@ -23,7 +23,8 @@ pub use change::change_of;
 pub use entry::{Cause, Change, Entry, LAST_NUMBER};
 pub use history::History;
 pub use laws::{
-    bases_tell, changes_may_come, lines_are_entries, restores_lose_nothing, voids_take_back,
+    bases_tell, changes_may_come, done_changes_stay, left_files_are_near, lines_are_entries,
+    restores_lose_nothing, voids_take_back,
 };
 pub use reading::read_line;
 pub use rebuilding::{RebuildFault, missing, rebuild};
