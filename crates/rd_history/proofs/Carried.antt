@@ -6,7 +6,7 @@ use Rattle.sqlite.specs.Held.{Held}
 use Rattle.sqlite.specs.Store.{Ghosts}
 use Rattle.rd_tables.specs.Connections.{IsOpen}
 use Rattle.rd_chain.proofs.Laws.{lines_kept}
-use Rattle.rd_chain.specs.Held.{lines as lines_of_held}
+use Rattle.rd_chain.specs.Held.{IsAtRest, lines as lines_of_held}
 use Rattle.rd_desk.specs.Calls.{IsResponse, IsWritten}
 use Rattle.rd_store.specs.Held.{Keeps, desk as desk_of}
 use Rattle.rd_holdings.proofs.KeyOrders.{number_order}
@@ -17,7 +17,7 @@ use Rattle.rd_protocol.specs.Judged.{Holds, IsAsked, IsRefusedOn, JudgedFile, au
 use Rattle.rd_protocol.specs.Replies.{Answers, IsAnswered, carried_out, with_checked}
 use Rattle.rd_protocol.specs.Requests.{IsForStaff, IsPutOrDrop}
 use Rattle.rd_protocol.specs.Refusals.{name_of, status_of}
-use Rattle.rd_protocol.specs.Texts.{UNAVAILABLE}
+use Rattle.rd_protocol.specs.Texts.{UNAVAILABLE, reply_of}
 use Rattle.rd_protocol.specs.declared.refusal.Refusal.{Refusal}
 use Rattle.rd_protocol.specs.declared.refusal.Refusal.TheVariants.{BadBody, Denied, Faulty, ListedOnly, NoFile, StaffOnly, UnknownKey}
 use Rattle.rd_protocol.specs.declared.request.Request.{Request}
@@ -31,6 +31,8 @@ use Rattle.rd_policy.specs.declared.audience.Audience.TheVariants.{Public, Room,
 use Rattle.rd_history.specs.Changes.{change_of}
 use Rattle.rd_history.specs.Entries.{IsEntry, cause_word}
 use Rattle.rd_history.specs.Histories.{AreLinesOf, IsHistory, line_at, void_of, with_entry}
+use Rattle.rd_history.specs.Laws.{DoneChangesStay}
+use Rattle.rd_history.specs.Left.{StayNear}
 use Rattle.rd_history.specs.Remembered.{Adds, Agrees, AreSettled, EndsAs, Grows, IsAhead, IsPending, PutsAhead, Remembers, cause_by, entry_of}
 use Rattle.rd_history.specs.declared.remembering.Signature.{Signature}
 use Rattle.rd_history.specs.Settled.{Settles, StandsAs, StandsNear, TakesBack, deposit_of}
@@ -41,13 +43,14 @@ use Rattle.rd_history.specs.declared.settling.Unsettled.{Unsettled}
 use Rattle.rd_history.specs.declared.entry.Change.{Change}
 use Rattle.rd_history.specs.declared.entry.Change.TheVariants.{Deed, Image, Rule, DropRule, Key, DropKey}
 use Rattle.rd_history.specs.declared.entry.Entry.{Entry}
+use Rattle.rd_history.proofs.LeftLemmas.{keeps_near}
 use Rattle.rd_history.proofs.NearLemmas.{entry_more}
 use Rattle.rd_history.proofs.SoLemmas.{same_in, stands_after}
 use Rattle.rd_history.proofs.ToldLemmas.{voids_take_back}
 
 -- ---- what stands
 
-image_carried : (desk : Desk) (now : Standing) (acc : ℕ) (image : ImageRow) (here : Option ImageRow) (there : Option Deposit) → get desk.images acc ≡ here → get now.images acc ≡ there → StandsAs desk now
+pub image_carried : (desk : Desk) (now : Standing) (acc : ℕ) (image : ImageRow) (here : Option ImageRow) (there : Option Deposit) → get desk.images acc ≡ here → get now.images acc ≡ there → StandsAs desk now
     → StandsAs (desk_with here acc image desk) (put_or_kept there acc (deposit_of image) now)
 image_carried desk now acc image None None here there stands = record { deeds = stands.deeds; images = images; rules = stands.rules; keys = stands.keys }
   where
@@ -154,20 +157,25 @@ others_agree : (is : Bool) (day : ℤ) (asked : What) (desk : Desk) (lines : Lis
 others_agree false day asked desk lines none told = (told.0, told.1, others_stand day asked desk (standing_after told.0) none told.2)
 others_agree true day asked desk lines none near = (near.0, near.1, near_others day asked desk near.0 none near.2)
 
--- a reply to what asks no change, or to a caller who is not of the staff, leaves what the history tells
-pub agrees_after : (is : Bool) (old : Desk) (day : ℤ) (request : Request) (reply : Reply) (new : Desk) (lines : List (List ℕ)) → Answers old day request reply new
-    → (change_of request.what ≡ None) ⊎ (audience_of old request.badge ≢ Some Staff) → Agrees is old lines → Agrees is new lines
-agrees_after is old day request reply new lines answers why agrees = elim (replied_desk old day request reply new answers) [
-  | inl same ↦ told_same old new lines is same agrees
-  | inr done ↦ subst (λ d. Agrees is d lines) (sym done.1) (elim why [
-    | inl none ↦ others_agree is day request.what old lines none agrees
-    | inr stranger ↦ others_agree is day request.what old lines (unasked request.what (change_of request.what) refl (λ command. stranger (done.0 command))) agrees
-  ])
+-- so is it where a request is accepted that asks no change, or whose caller is not of the staff
+pub accepted_agree : (is : Bool) (old : Desk) (day : ℤ) (request : Request) (lines : List (List ℕ)) → (IsForStaff request.what → audience_of old request.badge ≢ Some Staff → ⊥)
+    → (change_of request.what ≡ None) ⊎ (audience_of old request.badge ≢ Some Staff) → Agrees is old lines → Agrees is (carried_out day request.what old) lines
+accepted_agree is old day request lines may why agrees = elim why [
+  | inl none ↦ others_agree is day request.what old lines none agrees
+  | inr stranger ↦ others_agree is day request.what old lines (unasked request.what (change_of request.what) refl (λ command. may command stranger)) agrees
 ]
   where
     unasked : (asked : What) (found : Option Change) → change_of asked ≡ found → ¬ IsForStaff asked → change_of asked ≡ None
     unasked asked None is never = is
     unasked asked (Some change) is never = absurd (never (asks_staff asked change is))
+
+-- a reply to what asks no change, or to a caller who is not of the staff, leaves what the history tells
+pub agrees_after : (is : Bool) (old : Desk) (day : ℤ) (request : Request) (reply : Reply) (new : Desk) (lines : List (List ℕ)) → Answers old day request reply new
+    → (change_of request.what ≡ None) ⊎ (audience_of old request.badge ≢ Some Staff) → Agrees is old lines → Agrees is new lines
+agrees_after is old day request reply new lines answers why agrees = elim (replied_desk old day request reply new answers) [
+  | inl same ↦ told_same old new lines is same agrees
+  | inr done ↦ subst (λ d. Agrees is d lines) (sym done.1) (accepted_agree is old day request lines (λ command stranger. stranger (done.0 command)) why agrees)
+]
 
 -- ---- an entry that was put ahead
 
@@ -408,17 +416,62 @@ pub said_of : (found : Option Change) (badge : Option (List ℕ)) (P : Change �
 said_of found badge P change digest asks named is =
     subst (λ (f : Option Change). IfSome f (λ change. IfSome badge (λ badge. P change badge))) (sym asks) (subst (λ (b : Option (List ℕ)). IfSome b (λ badge. P change badge)) (sym named) is)
 
+-- and the other way
+said_there : (found : Option Change) (badge : Option (List ℕ)) (P : Change → List ℕ → Type 0) (change : Change) (digest : List ℕ) → found ≡ Some change → badge ≡ Some digest
+    → IfSome found (λ change. IfSome badge (λ badge. P change badge)) → P change digest
+said_there found badge P change digest asks named is =
+    subst (λ (b : Option (List ℕ)). IfSome b (λ badge. P change badge)) named (subst (λ (f : Option Change). IfSome f (λ change. IfSome badge (λ badge. P change badge))) asks is)
+
+-- a change with status 200 is done for good
+pub done_changes_stay : {S H : Type 0} (g : Ghosts S) (h : Ghosts H) → DoneChangesStay g h
+done_changes_stay g h old new before after was is day signature request reply change badge serves remembers rests so ho asks named staff status =
+    let these = lines_of_held h after in
+    let entry = entry_of signature badge change in
+    let adds : Adds (desk_of g old) day request reply entry was is (lines_of_held h before) these =
+    said_there (change_of request.what) request.badge (λ change badge. Adds (desk_of g old) day request reply (entry_of signature badge change) was is (lines_of_held h before) these) change badge asks named (remembers.adds so ho staff) in
+    let put : (these ≡ with_entry adds.settled entry) × (is ≡ true ↔ (reply.status ≢ 200)) = elim adds.after [
+      | inl none ↦ absurd (away_status reply none.1 status)
+      | inr more ↦ elim more [
+        | inl put ↦ put
+        | inr back ↦ elim back.0.written [
+          | inl says ↦ absurd (refused_status back.0.refusal (sym (ap (λ (r : Reply). r.status) says) ∙ status))
+          | inr away ↦ absurd (away_status reply away status)
+        ]
+      ]
+    ] in
+    record {
+      after = elim (serves.answers so) [
+        | inl is ↦ done_after (desk_of g old) day request (is.answer) reply (desk_of g new) is.answered is.written status
+        | inr none ↦ absurd (away_status reply none.written status)
+      ];
+      front = adds.settled;
+      last = put.0;
+      settled = settled_is is (λ on. put.1.0 on status);
+      leaves_desk = serves.durable so;
+      leaves_lines = rests.leaves ho;
+    }
+  where
+    settled_is : (is : Bool) → ¬ (is ≡ true) → is ≡ false
+    settled_is true never = absurd (never refl)
+    settled_is false never = refl
+
+    done_after : (old : Desk) (day : ℤ) (request : Request) (answer : Response) (reply : Reply) (new : Desk) → IsAnswered old day request answer new → reply ≡ reply_of answer → reply.status ≡ 200 → new ≡ carried_out day request.what old
+    done_after old day request (Refused refusal) reply new is says status = absurd (refused_status refusal (sym (ap (λ (r : Reply). r.status) says) ∙ status))
+    done_after old day request answer reply new is says status = is.after
+
 -- nothing was put into the history
 pub unrecorded : {S H : Type 0} (g : Ghosts S) (h : Ghosts H) (old new : Held S) (history : Held H) (was : Bool) (day : ℤ) (signature : Signature) (request : Request) (reply : Reply)
     → (IsOpen g new → Agrees was (desk_of g old) (lines_of_held h history) → Agrees was (desk_of g new) (lines_of_held h history))
     → (IsOpen g new → audience_of (desk_of g old) request.badge ≡ Some Staff → (change_of request.what ≡ None) ⊎ (reply ≡ UNAVAILABLE))
+    → StayNear g h old new history history (Agrees was (desk_of g old) (lines_of_held h history))
     → Remembers g h old new history history was was day signature request reply
-unrecorded g h old new history was day signature request reply agrees why = record {
+unrecorded g h old new history was day signature request reply agrees why near = record {
   told = λ so ho. agrees so;
   adds = λ so ho staff. each (change_of request.what) request.badge (why so staff);
   grows = λ ho. grows_still (lines_of_held h history);
   others = λ none. (refl, refl);
   strangers = λ so stranger. (refl, refl);
+  crash = near;
 }
   where
     these : List (List ℕ)
@@ -433,6 +486,7 @@ unrecorded g h old new history was day signature request reply agrees why = reco
 
 -- the desk is unavailable, and nothing was put into the history
 pub unavailable : {S H : Type 0} (g : Ghosts S) (h : Ghosts H) (old new : Held S) (history : Held H) (was : Bool) (day : ℤ) (signature : Signature) (request : Request) (reply : Reply)
-    → Keeps g old new → reply ≡ UNAVAILABLE → Remembers g h old new history history was was day signature request reply
-unavailable g h old new history was day signature request reply keeps away =
+    → Keeps g old new → IsAtRest h history → reply ≡ UNAVAILABLE → Remembers g h old new history history was was day signature request reply
+unavailable g h old new history was day signature request reply keeps rest away =
     unrecorded g h old new history was day signature request reply (λ so. told_same (desk_of g old) (desk_of g new) (lines_of_held h history) was (keeps.same so)) (λ so staff. inr away)
+    (keeps_near g h old new history was keeps rest)

@@ -9,7 +9,11 @@ pub mod Judging
 pub mod Appended
 pub mod SoLemmas
 pub mod NearLemmas
+pub mod LeftLemmas
 pub mod PageLemmas
 pub mod BaseLines
 pub mod Carried
 pub mod Composed
+pub mod Crashed
+pub mod Replays
+pub mod Rebuilds

@@ -82,7 +82,7 @@ ends_in number (one ∷ entries) (first ∷ before) line entry numbered of is =
 pub end_of : (entries : List Entry) (lines : List (List ℕ)) (entry : Entry) → AreLinesOf entries lines → EndIn lines entry → (front : List Entry) × (entries ≡ front ++ entry ∷ [])
 end_of entries lines entry of end = ends_in 1 entries end.before end.line entry of.numbered end.of (sym of.are ∙ end.are)
 
-changes_snoc : (front : List Entry) (last : Entry) → changes_of (front ++ last ∷ []) ≡ changes_of front ++ last.change ∷ []
+pub changes_snoc : (front : List Entry) (last : Entry) → changes_of (front ++ last ∷ []) ≡ changes_of front ++ last.change ∷ []
 changes_snoc [] last = refl
 changes_snoc (first ∷ front) last = ap (λ l. first.change ∷ l) (changes_snoc front last)
 
@@ -134,7 +134,7 @@ none_first (first ∷ page) is = absurd cc
 
 -- ---- what may be taken back was asked
 
-asked_if_ends : (change : Change) (at next : Stage) → Leads change at next → next.ends_in_change ≡ true → IsAsked change
+pub asked_if_ends : (change : Change) (at next : Stage) → Leads change at next → next.ends_in_change ≡ true → IsAsked change
 asked_if_ends (Begin count) at next leads ends = absurd (true≢false (sym ends ∙ leads.2))
 asked_if_ends (Void cause) at next leads ends = absurd (true≢false (sym ends ∙ leads.2))
 asked_if_ends change at next leads ends = tt

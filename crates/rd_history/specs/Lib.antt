@@ -7,9 +7,13 @@ pub mod Reading
 pub mod Standings
 pub mod Histories
 pub mod Settled
+pub mod Left
 pub mod Remembered
 pub mod Pages
+pub mod Replayed
+pub mod Rebuilt
 pub mod Laws
 -- ---- inside: what only private functions and proofs cite
 pub mod Stages
 pub mod Bases
+pub mod Replaying

@@ -18,8 +18,9 @@ use Rattle.rd_protocol.specs.declared.response.Response.{Response}
 use Rattle.rd_protocol.specs.declared.response.Response.TheVariants.{Done, Refused}
 use Rattle.rd_history.specs.Changes.{change_of}
 use Rattle.rd_history.specs.Entries.{HasDigests, IsEntry, cause_word}
-use Rattle.rd_history.specs.Histories.{AreLinesOf, IsAsked, IsHistory, void_of, with_entry}
-use Rattle.rd_history.specs.Settled.{IsTold, StandsNear}
+use Rattle.rd_history.specs.Histories.{IsAsked, IsHistory, void_of, with_entry}
+use Rattle.rd_history.specs.Left.{StayNear}
+use Rattle.rd_history.specs.Settled.{IsNear, IsTold}
 use Rattle.rd_history.specs.declared.entry.Cause.{Cause}
 use Rattle.rd_history.specs.declared.entry.Cause.TheVariants.{NoAccession, NoDeed, WrongSize, DigestDiffers, Conflict, Unavailable, Lost}
 use Rattle.rd_history.specs.declared.entry.Change.{Change}
@@ -30,7 +31,7 @@ use Rattle.rd_history.specs.declared.remembering.Signature.{Signature}
 -- those before it may tell
 abbrev pub Agrees : Bool → Desk → List (List ℕ) → Type 0
 Agrees false desk lines = IsTold desk lines
-Agrees true desk lines = (entries : List Entry) × AreLinesOf entries lines × StandsNear desk entries
+Agrees true desk lines = IsNear desk lines
 
 -- the entry of a change, with what was written beside the request, and the key by which it was asked
 abbrev pub entry_of : Signature → List ℕ → Change → Entry
@@ -70,7 +71,8 @@ pub record Adds (desk : Desk) (day : ℤ) (request : Request) (reply : Reply) (e
 
 -- One request to a desk that remembers. Where both connections are open at its end, and the desk stood as its history
 -- told, it still does; and where the staff asked a change, its history has what `Adds` says, and no more. What asks no
--- change adds nothing, and nobody adds anything but the staff. Lines come behind those that were there.
+-- change adds nothing, and nobody adds anything but the staff. Lines come behind those that were there. Whatever a crash
+-- leaves of the store and of the history, the two are near, if the desk stood as its history told.
 pub record Remembers {S H : Type 0} (g : Ghosts S) (h : Ghosts H) (old new : Held S) (before after : Held H) (was is : Bool)
     (day : ℤ) (signature : Signature) (request : Request) (reply : Reply) : Type 0 where
   pub told : IsOpen g new → IsOpen h after → Agrees was (desk_of g old) (lines h before) → Agrees is (desk_of g new) (lines h after)
@@ -80,6 +82,7 @@ pub record Remembers {S H : Type 0} (g : Ghosts S) (h : Ghosts H) (old new : Hel
   pub grows : IsOpen h after → Grows (lines h before) (lines h after)
   pub others : change_of request.what ≡ None → (after ≡ before) × (is ≡ was)
   pub strangers : IsOpen g new → audience_of (desk_of g old) request.badge ≢ Some Staff → (after ≡ before) × (is ≡ was)
+  pub crash : StayNear g h old new before after (Agrees was (desk_of g old) (lines h before))
 
 -- ---- inside
 

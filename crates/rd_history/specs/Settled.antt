@@ -42,6 +42,10 @@ pub record StandsBefore (desk : Desk) (entries : List Entry) : Type 0 where
 abbrev pub StandsNear : Desk → List Entry → Type 0
 StandsNear desk entries = StandsAs desk (standing_after entries) ⊎ StandsBefore desk entries
 
+-- the lines are those of a history, and the desk stands as its entries tell, or as those before the last one do
+abbrev pub IsNear : Desk → List (List ℕ) → Type 0
+IsNear desk lines = (entries : List Entry) × AreLinesOf entries lines × StandsNear desk entries
+
 -- the desk stands as these lines of a history tell
 abbrev pub IsTold : Desk → List (List ℕ) → Type 0
 IsTold desk lines = (entries : List Entry) × AreLinesOf entries lines × StandsAs desk (standing_after entries)

@@ -6,6 +6,7 @@ ghost use Rattle.rd_tables.specs.Connections.{IsClean, IsOpen, LeavesOpen};
 ghost use Rattle.rd_chain.specs.Held.{Appends, HoldsChain, IsAtRest, IsCreated, IsFullFor, IsNotCreated, IsNotOpened, IsOpened, Keeps, ReadsAfter, lines};
 ghost use Rattle.rd_history.specs.Entries.{HasDigests, IsEntry};
 ghost use Rattle.rd_history.specs.Histories.{AreNumbered, HoldsHistory, IsHistory, MayBeTakenBack, IsAsked, MayCome, base_entries, base_lines, line_at};
+ghost use Rattle.rd_history.specs.Left.{LeavesHistory};
 ghost use Rattle.rd_history.specs.Reading.{IsLineOf};
 ghost use Rattle.rd_history.specs.Settled.{EndIn};
 ghost use Rattle.rd_history.specs.Stages.{EndsSo};
@@ -74,7 +75,7 @@ fn judge<S: Alter>(alloc: Global, chain: &mut Chain<S>) -> Result<bool, OpenFaul
 }
 
 /// The entry of a line that was read; `Sql` where it is the line of none, or memory runs out.
-fn entry_in(alloc: Global, line: &SummedLine) -> Result<Entry, ChainFault>
+pub(crate) fn entry_in(alloc: Global, line: &SummedLine) -> Result<Entry, ChainFault>
     ensures { IfOk result (IsLineOf line.now.line.items) }
 {
     let Ok(text) = str::from_utf8(&line.line) else {
@@ -193,6 +194,7 @@ impl<S: Alter> History<S> {
         ensures appends { Appends S.Store self.old self.new (line_at (length (lines S.Store self.old) + 1) entry ∷ []) result }
         ensures full { IsFullFor S.Store self.old self.new 1 result }
         ensures back { IsOpen S.Store self.new → OnOk result (IsAsked entry.change → MayBeTakenBack (lines S.Store self.new)) }
+        ensures crash { IsOpen S.Store self.old → IsClean S.Store self.new → LeavesHistory S.Store self.new }
     {
         // If it fails below, a crash leaves the lines as they are here.
         self.chain.between_calls();

@@ -1,9 +1,9 @@
 //! A desk that remembers: a change that the staff asks is put into a history before the desk carries it out.
 
-ghost use Rattle.std.specs.Prelude.{◌≡◌, ◌↔◌, IfOk, IsTrue, Ok, OnOk, Some};
+ghost use Rattle.std.specs.Prelude.{◌≡◌, ◌≢◌, ◌↔◌, IfOk, IsErr, IsTrue, None, Ok, OnOk, Some};
 ghost use Rattle.rd_policy.specs.Days.{HasDay, IsDay};
 ghost use Rattle.rd_policy.specs.Rules.{IsPlainText};
-ghost use Rattle.rd_tables.specs.Connections.{IsClean, IsOpen};
+ghost use Rattle.rd_tables.specs.Connections.{IsClean, IsOpen, Lasts, LeavesOpen};
 ghost use Rattle.rd_store.specs.Held.{Keeps, desk as desk_of};
 ghost use Rattle.rd_chain.specs.Held.{lines};
 ghost use Rattle.rd_protocol.specs.Requests.{IsRequest};
@@ -11,6 +11,7 @@ ghost use Rattle.rd_desk.specs.Served.{Responds, Serves};
 ghost use Rattle.rd_history.specs.Changes as spec;
 ghost use Rattle.rd_history.specs.Entries.{HasDigests, IsEntry};
 ghost use Rattle.rd_history.specs.Histories.{IsAsked, MayBeTakenBack};
+ghost use Rattle.rd_history.specs.Left.{StayNear};
 ghost use Rattle.rd_history.specs.Remembered.{Agrees, EndsAs, IsAhead, IsPending, PutsAhead, Remembers, cause_by, entry_of};
 
 use crate::change::change_of;
@@ -91,6 +92,9 @@ fn put_ahead<S: Alter, H: Alter>(
     ensures ahead { IsOpen S.Store store.new → IsOpen H.Store recorder.new.history
         → Agrees recorder.old.is_unsettled (desk_of S.Store store.old) (lines H.Store recorder.old.history)
         → IsAhead (desk_of S.Store store.old) (lines H.Store recorder.new.history) entry recorder.new.is_unsettled result }
+    ensures ends_open { LeavesOpen H.Store recorder.new.history result }
+    ensures crash { IsErr result → StayNear S.Store H.Store store.old store.new recorder.old.history recorder.new.history
+        (Agrees recorder.old.is_unsettled (desk_of S.Store store.old) (lines H.Store recorder.old.history)) }
 {
     // Where nothing is to be settled there is no call. Then a crash leaves the desk as it is.
     store.between_calls();
@@ -143,9 +147,14 @@ fn carry_out<S: Alter, H: Alter>(
     ensures told { IsOpen S.Store desk.new.store → IsOpen H.Store recorder.new.history
         → (entry : _) → spec.change_of request.now.what ≡ Some entry.change → IsPending (desk_of S.Store desk.old.store) (lines H.Store recorder.old.history) entry
         → Agrees recorder.new.is_unsettled (desk_of S.Store desk.new.store) (lines H.Store recorder.new.history) }
-    ensures was_open { IsOpen H.Store recorder.new.history → IsOpen H.Store recorder.old.history }
+    ensures lasts { Lasts H.Store recorder.old.history recorder.new.history }
     ensures ends { IsOpen H.Store recorder.new.history → EndsAs recorder.new.is_unsettled moment (lines H.Store recorder.old.history) (lines H.Store recorder.new.history) result }
+    ensures crash { (entry : _) → spec.change_of request.now.what ≡ Some entry.change → request.now.badge ≢ None
+        → StayNear S.Store H.Store desk.old.store desk.new.store recorder.old.history recorder.new.history
+        (IsPending (desk_of S.Store desk.old.store) (lines H.Store recorder.old.history) entry) }
 {
+    // Unless the entry is taken back a crash leaves the history as it is here.
+    recorder.history.between_calls();
     let answer = desk.respond(alloc, day, request);
     recorder.is_unsettled = match &answer {
         Ok(Response::Refused(refusal)) => {
@@ -161,7 +170,8 @@ fn carry_out<S: Alter, H: Alter>(
 /// unavailable. Where the staff asks a change, an entry of it is put into the history before, with the words that came
 /// beside the request; if the desk refuses, an entry behind it says so. Nobody else adds an entry, and nothing else does.
 ///
-/// It is unavailable also where the history fails or is full. Nothing has changed then.
+/// It is unavailable also where the history fails or is full. Nothing has changed then. Whatever a crash leaves of the
+/// store and of the history, each by itself, the desk stands near the lines, if it stood as the history told.
 pub fn answer_on<S: Alter, H: Alter>(
     alloc: Global,
     day: i32,
@@ -180,8 +190,9 @@ pub fn answer_on<S: Alter, H: Alter>(
     ensures remembers { Remembers S.Store H.Store desk.old.store desk.new.store recorder.old.history recorder.new.history
         recorder.old.is_unsettled recorder.new.is_unsettled day signature.entry request.now result }
 {
-    // Where no call is made a crash leaves the desk as it is here.
+    // Where no call is made a crash leaves the desk and the history as they are here.
     desk.store.between_calls();
+    recorder.history.between_calls();
     let Some(badge) = request.badge else {
         return desk.answer_on(alloc, day, request);
     };

@@ -2,13 +2,14 @@
 
 ghost use Rattle.std.specs.Prelude.{◌≡◌, ◌≢◌, ◌↔◌, All, Contains, IsTrue, IfOk, MatchBool, MatchOption, OnOk};
 ghost use Rattle.rd_policy.specs.Days.{HasDay};
-ghost use Rattle.rd_tables.specs.Connections.{IsClean, IsOpen};
+ghost use Rattle.rd_tables.specs.Connections.{IsClean, IsOpen, LeavesOpen};
 ghost use Rattle.rd_store.specs.Held.{Keeps, Reads, desk};
 ghost use Rattle.rd_holdings.specs.State.{terms_of};
 ghost use Rattle.rd_chain.specs.Held.{lines};
 ghost use Rattle.rd_history.specs.Entries.{HasDigests, IsEntry};
 ghost use Rattle.rd_history.specs.Histories.{AreLinesOf, IsHistory, MayBeTakenBack, void_of};
-ghost use Rattle.rd_history.specs.Settled.{IsSo, IsTold, Settles, StandsNear, TakesBack};
+ghost use Rattle.rd_history.specs.Left.{LeavesHistory, StayNear};
+ghost use Rattle.rd_history.specs.Settled.{IsNear, IsSo, IsTold, Settles, StandsNear, TakesBack};
 
 use crate::entry::{Cause, Change, Entry};
 use crate::history::History;
@@ -161,6 +162,7 @@ pub(crate) fn take_back<H: Alter>(
     requires comes { IsOpen H.Store history.old → MayBeTakenBack (lines H.Store history.old) }
     ensures takes { TakesBack H.Store moment cause history.old history.new result }
     ensures history { IsOpen H.Store history.new → IsHistory (lines H.Store history.new) }
+    ensures crash { IsOpen H.Store history.old → IsClean H.Store history.new → LeavesHistory H.Store history.new }
 {
     let put = history.append(alloc, void(alloc, moment, cause));
     history.between_calls();
@@ -172,7 +174,8 @@ pub(crate) fn take_back<H: Alter>(
 
 /// Takes the last entry of a history back, as found undone, if it is a change alone that does not stand in the store. A
 /// change that was asked is never carried out here. The history must be that of the store: of another store nothing is
-/// promised, and the last entry may be taken back.
+/// promised, and the last entry may be taken back. If the store stands near the lines of the history, a crash leaves the
+/// two near.
 ///
 /// It fails with `Unsettled` if the store or the history fails, or if memory runs out. Nothing has changed then, unless a
 /// fault has shut the connection of the history.
@@ -188,6 +191,8 @@ pub fn settle<S: Alter, H: Alter>(
     ensures told { IsOpen S.Store store.new → IsOpen H.Store history.new → (entries : _) → AreLinesOf entries (lines H.Store history.old)
         → StandsNear (desk S.Store store.old) entries → OnOk result (IsTold (desk S.Store store.old) (lines H.Store history.new)) }
     ensures history { Settles H.Store moment history.old history.new result }
+    ensures opens_history { (IsClean H.Store history.old → IsOpen H.Store history.old) → LeavesOpen H.Store history.new result }
+    ensures crash { StayNear S.Store H.Store store.old store.new history.old history.new (IsNear (desk S.Store store.old) (lines H.Store history.old)) }
 {
     // Until a call is made a crash leaves both as they are here.
     store.between_calls();

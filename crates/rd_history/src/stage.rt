@@ -30,7 +30,7 @@ impl Stage {
     };
 
     /// The stage with an entry more that changes this; `None` where it cannot come next.
-    fn with(self, change: &Change) -> Option<Stage>
+    pub fn with(self, change: &Change) -> Option<Stage>
         requires { self.number < LAST_NUMBER }
         ensures { MatchOption result ((next : _) → ¬ Leads change.now self next) (Steps change.now self) }
     {

@@ -1,4 +1,4 @@
-use Rattle.std.proofs.Common.{◌≡◌, ◌≢◌, ◌∙◌, FitsSigned, None, Option, Some, List, ℕ, ap, inl, inr, rules, subst, sym, w32, w64}
+use Rattle.std.proofs.Common.{◌≡◌, ◌≢◌, ◌∙◌, FitsSigned, None, Option, Some, List, ℕ, ap, inl, inr, refl, rules, subst, sym, w32, w64}
 use Rattle.std.proofs.lemmas.Int.{to_z-of_z}
 use Rattle.rd_chain.specs.Held.{lines}
 use Rattle.rd_policy.specs.declared.audience.Audience.{Audience}
@@ -15,6 +15,7 @@ use Rattle.rd_history.specs.Remembered.{Adds, Agrees, EndsAs, IsPending, entry_o
 use Rattle.rd_history.specs.declared.entry.Change.{Change}
 use Rattle.rd_history.specs.declared.entry.Entry.{Entry}
 use Rattle.rd_history.proofs.Carried.{adds_none, adds_then, agrees_after, ends_grow, grows_then, puts_grow, said_of, unavailable, unrecorded}
+use Rattle.rd_history.proofs.Crashed.{others_near}
 use Rattle.rd_history.proofs.Composed.{responds_after, serves_after, serves_none}
 use Rattle.rd_history.proofs.remembering.answer_on.Goals as goal
 
@@ -30,6 +31,7 @@ returns-in_default-clause-remembers g c =
     unrecorded g.S.Store g.H.Store store new history c.args.recorder.now.is_unsettled c.args.day c.args.signature request c.answer_on.result
     (λ so. agrees_after c.args.recorder.now.is_unsettled (desk g.S.Store store) _ request c.answer_on.result (desk g.S.Store new) (lines g.H.Store history) (served.answers so) (inr stranger))
     (λ so staff. absurd (stranger staff))
+    (others_near g.S.Store g.H.Store store new _ request history c.args.recorder.now.is_unsettled served.crash c.between_calls-2.ensures.rest (λ was clean. inr stranger))
 
 pub returns-in_default-change_of-clause-serves : goal.returns-in_default-change_of-clause-serves
 returns-in_default-change_of-clause-serves g c =
@@ -39,7 +41,7 @@ returns-in_default-change_of-clause-serves g c =
 pub returns-in_default-change_of-clause-remembers : goal.returns-in_default-change_of-clause-remembers
 returns-in_default-change_of-clause-remembers g c =
     let store = c.args.desk.now.store in
-    unavailable g.S.Store g.H.Store store store c.args.recorder.now.history c.args.recorder.now.is_unsettled c.args.day c.args.signature c.args.request.now c.unavailable.result (keeps_here g.S.Store store c.between_calls.ensures) c.unavailable.ensures
+    unavailable g.S.Store g.H.Store store store c.args.recorder.now.history c.args.recorder.now.is_unsettled c.args.day c.args.signature c.args.request.now c.unavailable.result (keeps_here g.S.Store store c.between_calls.ensures) c.between_calls-2.ensures.rest c.unavailable.ensures
 
 pub returns-in_default-asked-clause-remembers : goal.returns-in_default-asked-clause-remembers
 returns-in_default-asked-clause-remembers g c =
@@ -52,6 +54,7 @@ returns-in_default-asked-clause-remembers g c =
     unrecorded g.S.Store g.H.Store store new history c.args.recorder.now.is_unsettled c.args.day c.args.signature request c.answer_on-in_default-asked.result
     (λ so. agrees_after c.args.recorder.now.is_unsettled (desk g.S.Store store) _ request c.answer_on-in_default-asked.result (desk g.S.Store new) (lines g.H.Store history) (served.answers so) (inl none))
     (λ so staff. inl none)
+    (others_near g.S.Store g.H.Store store new _ request history c.args.recorder.now.is_unsettled served.crash c.between_calls-2.ensures.rest (λ was clean. inl none))
 
 pub returns-in_default-audience_of-clause-serves : goal.returns-in_default-audience_of-clause-serves
 returns-in_default-audience_of-clause-serves g c =
@@ -60,7 +63,7 @@ returns-in_default-audience_of-clause-serves g c =
 pub returns-in_default-audience_of-clause-remembers : goal.returns-in_default-audience_of-clause-remembers
 returns-in_default-audience_of-clause-remembers g c =
     let store = c.args.desk.now.store in
-    unavailable g.S.Store g.H.Store store c.audience_of.new.self c.args.recorder.now.history c.args.recorder.now.is_unsettled c.args.day c.args.signature c.args.request.now c.unavailable-in_default-audience_of.result c.audience_of.ensures.reads.keeps c.unavailable-in_default-audience_of.ensures
+    unavailable g.S.Store g.H.Store store c.audience_of.new.self c.args.recorder.now.history c.args.recorder.now.is_unsettled c.args.day c.args.signature c.args.request.now c.unavailable-in_default-audience_of.result c.audience_of.ensures.reads.keeps c.between_calls-2.ensures.rest c.unavailable-in_default-audience_of.ensures
 
 pub returns-then-ne-clause-serves : goal.returns-then-ne-clause-serves
 returns-then-ne-clause-serves g c =
@@ -83,13 +86,15 @@ returns-then-ne-clause-remembers g c =
     let request = c.args.request.now in
     let served = returns-then-ne-clause-serves g c in
     let other : c.in-Ok-audience_of.audience ≢ Some Staff = search rules in
-    let stranger : IsOpen g.S.Store new → audience_of d request.badge ≢ Some Staff = λ so staff.
-    let mid_open = c.answer_on-then-ne.ensures.serves.lasts.was_open so in
+    let lasts = c.answer_on-then-ne.ensures.serves.lasts in
+    let stranger : IsOpen g.S.Store c.audience_of.new.self → audience_of d request.badge ≢ Some Staff = λ mid_open staff.
     let read : c.in-Ok-audience_of.audience ≡ audience_of d request.badge = subst (λ b. c.in-Ok-audience_of.audience ≡ audience_of d b) (sym c.in-Some.is) (c.in-Ok-audience_of.ensures.reads.answer mid_open) in
     other (read ∙ staff) in
     unrecorded g.S.Store g.H.Store store new history c.args.recorder.now.is_unsettled c.args.day c.args.signature request c.answer_on-then-ne.result
-    (λ so. agrees_after c.args.recorder.now.is_unsettled d _ request c.answer_on-then-ne.result (desk g.S.Store new) (lines g.H.Store history) (served.answers so) (inr (stranger so)))
-    (λ so staff. absurd (stranger so staff))
+    (λ so. agrees_after c.args.recorder.now.is_unsettled d _ request c.answer_on-then-ne.result (desk g.S.Store new) (lines g.H.Store history) (served.answers so) (inr (stranger (lasts.was_open so))))
+    (λ so staff. absurd (stranger (lasts.was_open so) staff))
+    (others_near g.S.Store g.H.Store store new c.args.day request history c.args.recorder.now.is_unsettled served.crash c.between_calls-2.ensures.rest
+    (λ was clean. inr (stranger (c.in-Ok-audience_of.ensures.reads.ends_open (lasts.clean clean)))))
 
 pub returns-in_default-entry-clause-serves : goal.returns-in_default-entry-clause-serves
 returns-in_default-entry-clause-serves g c =
@@ -98,7 +103,7 @@ returns-in_default-entry-clause-serves g c =
 pub returns-in_default-entry-clause-remembers : goal.returns-in_default-entry-clause-remembers
 returns-in_default-entry-clause-remembers g c =
     let store = c.args.desk.now.store in
-    unavailable g.S.Store g.H.Store store c.audience_of.new.self c.args.recorder.now.history c.args.recorder.now.is_unsettled c.args.day c.args.signature c.args.request.now c.unavailable-in_default-entry.result c.audience_of.ensures.reads.keeps c.unavailable-in_default-entry.ensures
+    unavailable g.S.Store g.H.Store store c.audience_of.new.self c.args.recorder.now.history c.args.recorder.now.is_unsettled c.args.day c.args.signature c.args.request.now c.unavailable-in_default-entry.result c.audience_of.ensures.reads.keeps c.between_calls-2.ensures.rest c.unavailable-in_default-entry.ensures
 
 pub returns-in-Ok-put_ahead-clause-serves : goal.returns-in-Ok-put_ahead-clause-serves
 returns-in-Ok-put_ahead-clause-serves g c =
@@ -139,7 +144,7 @@ returns-in-Ok-put_ahead-clause-remembers g c =
     record {
       told = λ so ho agrees.
           let ahead : IsPending (desk g.S.Store c.audience_of.new.self) (lines g.H.Store mid) entry =
-          c.in-Ok-put_ahead.ensures.ahead (mid_open so) (c.carry_out-answer.ensures.was_open ho) (subst (λ e. Agrees was e these) (sym (found_same (mid_open so))) agrees) in
+          c.in-Ok-put_ahead.ensures.ahead (mid_open so) (c.carry_out-answer.ensures.lasts.was_open ho) (subst (λ e. Agrees was e these) (sym (found_same (mid_open so))) agrees) in
           c.carry_out-answer.ensures.told so ho entry asks (subst (λ e. IsPending e (lines g.H.Store mid) entry) (sym (mid_same (mid_open so))) ahead);
       adds = λ so ho staff.
           let answered : IsResponse {X = Unavailable} d c.args.day request c.carry_out-answer.result after =
@@ -149,17 +154,24 @@ returns-in-Ok-put_ahead-clause-remembers g c =
           subst (λ m. EndsAs is m (lines g.H.Store mid) (lines g.H.Store new) c.carry_out-answer.result)
           (to_z-of_z w64 signature.moment moments ∙ sym (ap (λ (e : Entry). e.moment) c.in-Ok-entry.ensures.entry)) (c.carry_out-answer.ensures.ends ho) in
           let added = adds_then d c.args.day request reply entry was c.put_ahead.new.recorder.is_unsettled is these (lines g.H.Store mid) (lines g.H.Store new) _ c.carry_out-answer.result after
-          asks staff answered c.reply_with.ensures (c.in-Ok-put_ahead.ensures.puts (c.carry_out-answer.ensures.was_open ho)) ends in
+          asks staff answered c.reply_with.ensures (c.in-Ok-put_ahead.ensures.puts (c.carry_out-answer.ensures.lasts.was_open ho)) ends in
           said_of (change_of request.what) request.badge (λ change badge. Adds d c.args.day request reply (entry_of signature badge change) was is these (lines g.H.Store new)) change c.in-Some.badge asked c.in-Some.is
           (subst (λ e. Adds d c.args.day request reply e was is these (lines g.H.Store new)) c.in-Ok-entry.ensures.entry added);
       grows = λ ho. grows_then these (lines g.H.Store mid) (lines g.H.Store new)
-          (puts_grow was c.put_ahead.new.recorder.is_unsettled these (lines g.H.Store mid) entry c.put_ahead.result (c.put_ahead.ensures.puts (c.carry_out-answer.ensures.was_open ho)))
+          (puts_grow was c.put_ahead.new.recorder.is_unsettled these (lines g.H.Store mid) entry c.put_ahead.result (c.put_ahead.ensures.puts (c.carry_out-answer.ensures.lasts.was_open ho)))
           (ends_grow is _ (lines g.H.Store mid) (lines g.H.Store new) c.carry_out-answer.result (c.carry_out-answer.ensures.ends ho));
       others = λ none. let e : ◌≡◌ {A = Option Change} (Some change) None = sym asked ∙ none in absurd cc;
       strangers = λ so stranger.
           let found_open = c.put_ahead.ensures.store.lasts.was_open (mid_open so) in
           let read : c.in-Ok-audience_of.audience ≡ audience_of d request.badge = subst (λ b. c.in-Ok-audience_of.audience ≡ audience_of d b) (sym c.in-Some.is) (c.in-Ok-audience_of.ensures.reads.answer found_open) in
           absurd (stranger (sym read ∙ is_staff));
+      crash = λ store_was history_was store_clean history_clean agrees.
+          let named : request.badge ≢ None = λ none. let e : ◌≡◌ {A = Option (List ℕ)} (Some c.in-Some.badge) None = sym c.in-Some.is ∙ none in cc in
+          let store_open = c.in-Ok-put_ahead.ensures.opens (λ clean. c.in-Ok-audience_of.ensures.reads.ends_open clean) (c.carry_out-answer.ensures.responds.lasts.clean store_clean) in
+          let history_open = c.in-Ok-put_ahead.ensures.ends_open (c.carry_out-answer.ensures.lasts.clean history_clean) in
+          let ahead : IsPending (desk g.S.Store c.audience_of.new.self) (lines g.H.Store mid) entry =
+          c.in-Ok-put_ahead.ensures.ahead store_open history_open (subst (λ e. Agrees was e these) (sym (found_same store_open)) agrees) in
+          c.carry_out-answer.ensures.crash entry asks named store_open history_open store_clean history_clean (subst (λ e. IsPending e (lines g.H.Store mid) entry) (sym (mid_same store_open)) ahead);
     }
 
 pub returns-in-Err-clause-serves : goal.returns-in-Err-clause-serves
@@ -194,4 +206,7 @@ returns-in-Err-clause-remembers g c =
       strangers = λ so stranger.
           let read : c.in-Ok-audience_of.audience ≡ audience_of d request.badge = subst (λ b. c.in-Ok-audience_of.audience ≡ audience_of d b) (sym c.in-Some.is) (c.in-Ok-audience_of.ensures.reads.answer (found_open so)) in
           absurd (stranger (sym read ∙ is_staff));
+      crash = λ store_was history_was store_clean history_clean agrees.
+          let found = c.in-Ok-audience_of.ensures.reads.ends_open (c.put_ahead.ensures.store.lasts.clean store_clean) in
+          c.in-Err.ensures.crash refl found history_was store_clean history_clean (subst (λ e. Agrees was e these) (sym (c.audience_of.ensures.reads.keeps.same found)) agrees);
     }
