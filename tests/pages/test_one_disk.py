@@ -264,8 +264,8 @@ def test_other_disks_with_the_same_bytes_are_named_and_who_may_read_how_much_of_
 def test_coming_back_shows_the_disk_that_was_looked_at_asked_anew(museum, disk):
     museum.rules["T1002"] = takedown(1000, 2)
     assert disk.go("keys") and disk.named("link", "One disk").click() is None
-    back = disk.read(lambda state: state["here"] == "#/disk/1002" and len(state["rows"]) > 3)
-    assert (back["heading"], back["rows"][0][2], back["result"]) == ("Disk 1002", "TOUR", [])
+    back = disk.read(lambda state: state["heading"] == "Disk 1002" and len(state["rows"]) > 3)
+    assert (back["here"], back["rows"][0][2], back["result"]) == ("#/disk/1002", "TOUR", [])
     assert back["rows"][3][0] == "takedown 1000 of disk 1002 (T1002.1000)", "what stood when somebody left"
     assert disk.one("#disk [name=accession]").get_property("value") == "1002"
     assert disk.go("disk/99")["refusal"] and disk.go("disk/1003")["heading"] == "Disk 1003", "no other disk is shown"
